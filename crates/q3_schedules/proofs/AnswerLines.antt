@@ -25,7 +25,7 @@ use Rattle.q3_report.specs.declared.answer.Front.TheVariants as fronts
 use Rattle.q3_report.specs.declared.answer.TakeRefused.{TakeRefused}
 use Rattle.q3_report.specs.declared.answer.TakeRefused.TheVariants as refused
 use Rattle.q3_report.specs.Answers.{Taking, Showing, ShowsNobody, ShowsNothing, ShowsNewest, Answered, Given, Served, SentOut, Took, Untaken, Shown, Bytes}
-use Rattle.q3_report.specs.AnswerLines.{handed_in_text, issued_text, type_refused_text, move_refused_text, handed_lines, front_text, untaken_text, taking_text, showing_text, bytes_text, lines_of}
+use Rattle.q3_report.specs.AnswerLines.{handed_in_text, issued_text, type_refused_text, move_refused_text, record_refused_text, stop_refused_text, handed_lines, front_text, untaken_text, taking_text, showing_text, bytes_text, lines_of}
 use Rattle.q3_script.specs.Words.{words_of}
 use Rattle.q3_world.specs.declared.counts.Counts.{Counts}
 use Rattle.q3_world.specs.Counts.{no_counts, one_event, made_served, made_sent, lines_in}
@@ -33,7 +33,7 @@ use Rattle.q3_schedules.specs.ReportLines.{is_under, has_datagram, taken_by, nam
 use Rattle.q3_schedules.proofs.PlainTexts.{lacks, lacks_both, lacks-decimal, number, hexed, indexed}
 use Rattle.q3_schedules.proofs.SpelledLines.{Spelled, in_front, newline, last}
 use Rattle.q3_schedules.proofs.PlacedLines.{Kind, count_of, tally, tally-append, tally_first, plus, plus_is, next_word, number_word, other_number, last_word}
-use Rattle.q3_schedules.proofs.LineEnds.{OneLine, behind, whole, closed, slot_error, no_client, not_later, late, config_refused, say_error, type_refused, move_refused, handed_in, issued}
+use Rattle.q3_schedules.proofs.LineEnds.{OneLine, behind, whole, closed, slot_error, no_client, not_later, late, config_refused, say_error, type_refused, move_refused, record_refused, stop_refused, handed_in, issued}
 use Rattle.q3_schedules.proofs.LinesUnder.{counts_each, Beneath, none_beneath, both_beneath, each_beneath, other_beneath}
 use Rattle.q3_schedules.proofs.TakenLines.{next_is, slot_number, taking_lines}
 
@@ -109,6 +109,12 @@ given_is (handed.TypeText c outcome) =
 given_is (handed.Move c outcome) =
     given_line (handed.Move c outcome) (codes "move ") (decimal c ++ (handed_in_text move_refused_text outcome ++ [])) refl refl
     (counted c (handed_in_text move_refused_text outcome) (handed_in move_refused_text move_refused outcome)) (λ line. refl) (λ line. refl)
+given_is (handed.Record c outcome) =
+    given_line (handed.Record c outcome) (codes "record ") (decimal c ++ (handed_in_text record_refused_text outcome ++ [])) refl refl
+    (counted c (handed_in_text record_refused_text outcome) (handed_in record_refused_text record_refused outcome)) (λ line. refl) (λ line. refl)
+given_is (handed.Stop c outcome) =
+    given_line (handed.Stop c outcome) (codes "stop ") (decimal c ++ (handed_in_text stop_refused_text outcome ++ [])) refl refl
+    (counted c (handed_in_text stop_refused_text outcome) (handed_in stop_refused_text stop_refused outcome)) (λ line. refl) (λ line. refl)
 
 -- ---- what was asked for a datagram
 

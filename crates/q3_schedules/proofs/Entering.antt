@@ -69,7 +69,8 @@ use Rattle.q3_report.specs.Answers.{ByClient, ByServer, Given, Took, Untaken}
 use Rattle.q3_ends.specs.AtServer.{ran_of, server_line}
 use Rattle.q3_ends.specs.AtClient.{add_move, moved, type_text, typed}
 use Rattle.q3_world.specs.declared.places.Place.{Place}
-use Rattle.q3_world.specs.Ends.{line_of, place_at, set_port_of, to_client as line_to_client}
+use Rattle.q3_ends.specs.Recording.{asking}
+use Rattle.q3_world.specs.Ends.{line_of, place_at, record_of, set_port_of, stop_of, to_client as line_to_client}
 use Rattle.q3_world.specs.Kept.{KeptStep}
 use Rattle.q3_world.specs.Layers.{Layers}
 use Rattle.q3_world.specs.ByTags.{BytesFollowTags, kept_then, whole_then}
@@ -406,6 +407,16 @@ module _ (profile : Profile) (whole : Whole) (old : List Move) (time c : ℕ) (l
   ports k port None = is
   ports k port (Some place) = is
 
+  -- a client begins a recording
+  records : (k : ℕ) (name : List ℕ) (found : Option Place) → Past old time (slot_at (record_of whole.ends k name found).ends.server c) (history_at whole.histories c).run
+  records k name None = is
+  records k name (Some place) = is
+
+  -- or its recording has its end
+  stops : (k : ℕ) (found : Option Place) → Past old time (slot_at (stop_of whole.ends k found).ends.server c) (history_at whole.histories c).run
+  stops k None = is
+  stops k (Some place) = is
+
   -- a new map
   maps : (id feed : ℕ) → Past old time (slot_at (new_map_at whole.ends.server id feed).server c) (history_at whole.histories c).run
   maps id feed =
@@ -477,7 +488,7 @@ module _ (profile : Profile) (whole : Whole) (old : List Move) (time c : ℕ) (l
   sends : (k : ℕ) (found : Option Place) → At old time c (send whole k found).whole
   sends k None = is
   sends k (Some place) =
-      let began = (speaks.emit_at place.client).began in
+      let began = (speaks.emit_at (asking place.client place.recording)).began in
       noted k (with_said (history_at whole.histories k) began) (said_run (history_at whole.histories k) began)
 
   -- or the server's
@@ -540,6 +551,8 @@ module _ (profile : Profile) (whole : Whole) (old : List Move) (time c : ℕ) (l
   past_on (events.Send k) own = sends k (place_at whole.ends k)
   past_on (events.Deliver number) own =
       subst (λ (b : Bool). At old time c (deliver_as b profile whole number (slice_get whole.sent (number - 1))).whole) (sym holds.own) (delivers number (slice_get whole.sent (number - 1)) refl)
+  past_on (events.RecordTo k name) own = records k name (place_at whole.ends k)
+  past_on (events.Stop k) own = stops k (place_at whole.ends k)
   past_on (events.Toclient k bytes) own = absurd own
   past_on (events.Toserver k bytes) own = absurd own
   past_on event own = is

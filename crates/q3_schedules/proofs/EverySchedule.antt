@@ -34,7 +34,7 @@ use Rattle.q3_report.specs.declared.answer.Front.TheVariants as fronts
 use Rattle.q3_report.specs.declared.answer.TakeRefused.{TakeRefused}
 use Rattle.q3_report.specs.Answers.{Answered, ByClient, ByServer, Shown, Took, Untaken, snapshot_in}
 use Rattle.q3_ends.specs.AtClient.{newest_of, showing_newest, taken_by_client}
-use Rattle.q3_ends.specs.Recording.{RecordingState, asking, note_taken, waits_in}
+use Rattle.q3_ends.specs.Recording.{RecordingState, note_taken, waits_in}
 use Rattle.q3_world.specs.declared.made.Direction.{Direction}
 use Rattle.q3_world.specs.declared.made.Direction.TheVariants.{ToClient, ToServer}
 use Rattle.q3_world.specs.Layers.{Layers}
@@ -498,7 +498,7 @@ applied_was_built law below profile all number c applied commands is are so =
     let same = delivers_same profile kept whole number cited stands in
     subst (λ (before : Ends). Applies profile whole.sent number before (kept_step kept (events.Deliver number)).kept.ends c applied history) (sym stands.ends)
     (subst (λ (s : KeptStep). Applies profile whole.sent number whole.ends s.kept.ends c applied history) (sym same)
-    (applied_step profile whole number c applied cited (holds_of profile kept whole stands) commands (so.0, sym (ap (λ (s : KeptStep). s.answer) same) ∙ so.1)))
+    (applied_step profile whole number c applied cited (holds_of profile kept whole stands) commands (so.0, so.1, sym (ap (λ (s : KeptStep). s.answer) same) ∙ so.2)))
 
 -- ---- a client's state
 

@@ -40,6 +40,7 @@ use Rattle.q3_report.specs.declared.answer.TypeRefused.TheVariants as untyped
 use Rattle.q3_report.specs.Answers.{Given}
 use Rattle.q3_ends.specs.AtServer.{ran_of, server_line}
 use Rattle.q3_ends.specs.AtClient.{add_move, moved, type_text, typed}
+use Rattle.q3_ends.specs.Recording.{asking, note_taken}
 use Rattle.q3_world.specs.declared.places.Place.{Place}
 use Rattle.q3_world.specs.Ends.{line_of, place_at, to_client as line_to_client}
 use Rattle.q3_schedules.specs.Schedules.{SaysNoChange}
@@ -49,7 +50,7 @@ use Rattle.q3_world.specs.declared.made.Direction.{Direction}
 use Rattle.q3_world.specs.declared.made.Direction.TheVariants.{ToClient, ToServer}
 use Rattle.q3_world.proofs.Holding.{Holds, has_client, has_slot}
 use Rattle.q3_schedules.proofs.Follows.{follows_built}
-use Rattle.q3_schedules.proofs.FollowsGiven.{At, Of, both_changed, configs, gives, history_changed, joins, lines, maps, noting, ports, same_map, same_state, says, state_in, unnoted}
+use Rattle.q3_schedules.proofs.FollowsGiven.{At, Of, both_changed, configs, gives, history_changed, joins, lines, maps, noting, ports, records, same_map, same_state, says, state_in, stops, unnoted}
 use Rattle.q3_schedules.proofs.FollowsHeard.{BeginsSo, TellsOf, emits_so, hears_it, take_follows}
 
 -- ---- where a state stays
@@ -156,10 +157,11 @@ module _ (profile : Profile) (whole : Whole) (old : History) (c : ℕ) (lt : c <
   sends : (k : ℕ) (found : Option Place) → place_at whole.ends k ≡ found → At old c (send whole k found).whole
   sends k None at = is
   sends k (Some place) at =
-      let emission = speaks.emit_at place.client in
+      let client = asking place.client place.recording in
+      let emission = speaks.emit_at client in
       let after : Place = record place { client = emission.client } in
       ends_changed k place after (with_said (history_at whole.histories k) emission.began) at
-      (said_stays place after (history_at whole.histories k) emission.began (send_stays place.client))
+      (said_stays place after (history_at whole.histories k) emission.began (send_stays client))
 
   -- ---- the server makes a datagram
 
@@ -207,7 +209,8 @@ module _ (profile : Profile) (whole : Whole) (old : History) (c : ℕ) (lt : c <
       let there : tag.number - 1 + 1 ≡ tag.number = omega (arith, some) in
       let is_built : IsBuilt profile slot.challenge tag.number built =
       subst (λ (n : ℕ). IsBuilt profile slot.challenge n built) there (had.1.keeps.of_slot.built (tag.number - 1) no_message (omega (arith, some, begun))) in
-      ends_changed k place (record place { client = taken.client }) (with_taken history tag.number built.message.section taken) at
+      let after : Place = record place { client = taken.client; recording = (note_taken place.recording client taken).recording } in
+      ends_changed k place after (with_taken history tag.number built.message.section taken) at
       (λ was. take_follows map.id map.strings old.built old.server_commands history client took tag.number bytes built (plain_bytes profile built) (does_so client.gathering tag.number bytes tag.index)
       (λ newer. hears_it flow profile slot client history tag.number newer begun is_built of.commanded of.mapped.has was.heard) was)
 
@@ -250,6 +253,8 @@ module _ (profile : Profile) (whole : Whole) (old : History) (c : ℕ) (lt : c <
   follows_on flow does_so make (events.Send k) replay none = sends k (place_at whole.ends k) refl
   follows_on flow does_so make (events.Deliver number) replay none =
       subst (λ (b : Bool). At old c (deliver_as b profile whole number (slice_get whole.sent (number - 1))).whole) (sym holds.own) (delivers flow does_so number (slice_get whole.sent (number - 1)) refl)
+  follows_on flow does_so make (events.RecordTo k name) replay none = records profile whole old c lt holds is k name (place_at whole.ends k) refl
+  follows_on flow does_so make (events.Stop k) replay none = stops profile whole old c lt holds is k (place_at whole.ends k) refl
   follows_on flow does_so make (events.Toclient k bytes) replay none = absurd replay.1
   follows_on flow does_so make (events.Toserver k bytes) replay none = absurd replay.1
   follows_on flow does_so make event replay none = is

@@ -34,7 +34,8 @@ use Rattle.q3_slot.specs.declared.stage.ClientStage.{ClientStage}
 use Rattle.q3_slot.specs.declared.stage.ClientStage.TheVariants.{Active, Connected, Primed}
 use Rattle.q3_report.specs.Answers.{Answered, Given}
 use Rattle.q3_world.specs.declared.places.Place.{Place}
-use Rattle.q3_world.specs.Ends.{EndsStep, joined, place_at, set_port_of}
+use Rattle.q3_ends.specs.Recording.{begin_at, new_recording, stop_at}
+use Rattle.q3_world.specs.Ends.{EndsStep, joined, place_at, record_of, set_port_of, stop_of}
 use Rattle.q3_world.specs.Games.{Carries, HasLast, Tells}
 use Rattle.q3_world.specs.StandsFor.{IsClient}
 use Rattle.q3_world.specs.World.{History, Whole, history_at, no_history, texts_told, with_history, with_joined, with_noted, with_spoken, with_texts_told, with_told}
@@ -161,7 +162,7 @@ noting whole k step note = (with_noted whole (with_history whole.histories k (no
 -- a client that asks to join
 abbrev pub joining : Profile → Whole → ℕ → ℕ → ℕ → ℕ → Address → Handed SlotError → Whole
 joining profile whole k challenge qport dup address added =
-    noting whole k (joined (record whole.ends { server = added.server }) k (record { client = new_client profile challenge qport dup; address = address }) added.answer)
+    noting whole k (joined (record whole.ends { server = added.server }) k (record { client = new_client profile challenge qport dup; address = address; recording = None }) added.answer)
     (with_joined (history_at whole.histories k) qport address)
 
 abbrev JoinsSo : Profile → History → ℕ → Whole → ℕ → ℕ → ℕ → ℕ → Address → Handed SlotError → Type 0
@@ -193,7 +194,7 @@ module _ (profile : Profile) (whole : Whole) (old : History) (c : ℕ) (lt : c <
   joins_apart k challenge qport dup address within none None =
       let map = whole.ends.server.map in
       let history = history_at whole.histories k in
-      let place : Place = record { client = new_client profile challenge qport dup; address = address } in
+      let place : Place = record { client = new_client profile challenge qport dup; address = address; recording = None } in
       both_changed (λ (e : Option Place) (h : History). Of old map e h) whole.ends.clients whole.histories c k (Some place) (record history { qport = qport; host = address.host })
       holds.facts.clients holds.facts.histories lt
       (λ was. follows_joined map.id map.strings old.built old.server_commands (state_in (place_at whole.ends k)) history.built history.games history.server_commands profile
@@ -220,6 +221,26 @@ module _ (profile : Profile) (whole : Whole) (old : History) (c : ℕ) (lt : c <
       let map = whole.ends.server.map in
       let history = history_at whole.histories c in
       let after : Place = record place { address = record place.address { port = port } } in
+      one_changed (λ (e : Option Place). Of old map e history) whole.ends.clients c k (Some after) holds.facts.clients lt
+      (λ was. same_state old map place after history refl (subst (λ (e : Option Place). Of old map e history) at was)) is
+
+  -- a client begins a recording
+  pub records : (k : ℕ) (name : List ℕ) (found : Option Place) → place_at whole.ends k ≡ found → At old c (record whole { ends = (record_of whole.ends k name found).ends })
+  records k name None at = is
+  records k name (Some place) at =
+      let map = whole.ends.server.map in
+      let history = history_at whole.histories c in
+      let after : Place = record place { recording = (begin_at place.client place.recording (new_recording name)).recording } in
+      one_changed (λ (e : Option Place). Of old map e history) whole.ends.clients c k (Some after) holds.facts.clients lt
+      (λ was. same_state old map place after history refl (subst (λ (e : Option Place). Of old map e history) at was)) is
+
+  -- or its recording has its end
+  pub stops : (k : ℕ) (found : Option Place) → place_at whole.ends k ≡ found → At old c (record whole { ends = (stop_of whole.ends k found).ends })
+  stops k None at = is
+  stops k (Some place) at =
+      let map = whole.ends.server.map in
+      let history = history_at whole.histories c in
+      let after : Place = record place { recording = (stop_at place.recording).recording } in
       one_changed (λ (e : Option Place). Of old map e history) whole.ends.clients c k (Some after) holds.facts.clients lt
       (λ was. same_state old map place after history refl (subst (λ (e : Option Place). Of old map e history) at was)) is
 

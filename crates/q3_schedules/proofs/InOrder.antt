@@ -8,6 +8,7 @@ use Rattle.q3_script.specs.declared.event.Event.{Event}
 use Rattle.q3_script.specs.declared.event.Event.TheVariants as events
 use Rattle.q3_report.specs.declared.answer.Front.TheVariants as fronts
 use Rattle.q3_report.specs.Answers.{ByClient, Took}
+use Rattle.q3_ends.specs.Recording.{note_taken}
 use Rattle.q3_schedules.specs.Schedules.{IsScheduled}
 use Rattle.q3_ring.specs.Snapshot.{Snapshot}
 use Rattle.q3_text.specs.declared.text.Command.{Command}
@@ -132,7 +133,7 @@ reached_more does_so profile start now c n count number g tag lt is_c is_n is_in
     ∙ (ap (λ (b : List Built). built_at b tag.number) reached.built ∙ ap (λ (k : ℕ). built_at (history_at start.histories c).built k) is_n) in
     let took = tagged client.gathering tag.number (built_bytes profile built) tag.index in
     let taken = arrived profile now number tag client in
-    let next : Place = record place { client = taken.client } in
+    let next : Place = record place { client = taken.client; recording = (note_taken place.recording client taken).recording } in
     let next_is : took ≡ tagged (tagged_all g n message count) n message count =
     ap (λ (x : Gathering). tagged x tag.number (built_bytes profile built) tag.index) reached.gathers
     ∙ (ap (λ (k : ℕ). tagged (tagged_all g n message count) k (built_bytes profile built) tag.index) is_n
@@ -303,7 +304,7 @@ in_order_is_accepted law below pieces profile all c n last numbers client is are
     let by_bytes = ap (λ (s : KeptStep). s.answer) (delivers_same profile (kept_then profile all') now last cited stands) in
     let by_tag = last_answer profile now c n last tag reached.place (applied_now profile (history_at start.histories c) n (built_at built n)) (heard_of (history_at start.histories c) n) holds.own at tail.2 tail.3
     tag_found answer (out.answer ∙ applied_is) heard_is in
-    (by_tag.0, by_bytes ∙ by_tag.1)
+    (by_tag.0, by_tag.1, by_bytes ∙ by_tag.2)
   where
     ap_lt : {x y z : ℕ} → x ≡ y → x < z → y < z
     ap_lt {x = x} {y = y} {z = z} same lt = omega (arith, same, lt)

@@ -40,7 +40,8 @@ use Rattle.q3_report.specs.declared.answer.HandedIn.{HandedIn}
 use Rattle.q3_report.specs.Answers.{Answered, SentOut}
 use Rattle.q3_ends.specs.AtClient.{ClientStep}
 use Rattle.q3_world.specs.declared.places.Place.{Place}
-use Rattle.q3_world.specs.Ends.{Ends, joined, line_of, place_at, set_port_of, to_client as line_to_client}
+use Rattle.q3_ends.specs.Recording.{asking}
+use Rattle.q3_world.specs.Ends.{Ends, joined, line_of, place_at, record_of, set_port_of, stop_of, to_client as line_to_client}
 use Rattle.q3_world.specs.Kept.{Kept, opening_kept, kept_step, kept_answers}
 use Rattle.q3_world.specs.World.{Tag, Whole, history_at, opening, step, send, named, to_client, said_under, to_server, arrive, deliver, deliver_as}
 use Rattle.q3_world.specs.StandsFor.{IsSent, StandsFor}
@@ -73,6 +74,14 @@ legible_line : (ends : Ends) (c : ℕ) (nobody : HandedIn) (line : ClientState �
 legible_line ends c nobody line None = tt
 legible_line ends c nobody line (Some place) = tt
 
+legible_record : (ends : Ends) (c : ℕ) (name : List ℕ) (found : Option Place) → IsLegible (record_of ends c name found).answer
+legible_record ends c name None = tt
+legible_record ends c name (Some place) = tt
+
+legible_stop : (ends : Ends) (c : ℕ) (found : Option Place) → IsLegible (stop_of ends c found).answer
+legible_stop ends c None = tt
+legible_stop ends c (Some place) = tt
+
 -- ---- what a client sends
 
 legible_left : (c n : ℕ) (client : ClientState) (left : Option UnderWay) → IsLegible (SentOut c (Ok (speaks.emit_left client left).answer) n)
@@ -95,8 +104,9 @@ legible_send : (whole : Whole) (c : ℕ) (found : Option Place) → ((place : Pl
 unfolding speaks.emit_at
 legible_send whole c None legible = tt
 legible_send whole c (Some place) legible =
-    subst (λ (dropped : Option Illegible). IsLegible (SentOut c (Ok (speaks.emit_unless place.client dropped).answer) (length whole.sent + 1))) (sym (legible place refl))
-    (legible_left c (length whole.sent + 1) place.client place.client.sending.under_way)
+    let client = asking place.client place.recording in
+    subst (λ (dropped : Option Illegible). IsLegible (SentOut c (Ok (speaks.emit_unless client dropped).answer) (length whole.sent + 1))) (sym (legible place refl))
+    (legible_left c (length whole.sent + 1) client client.sending.under_way)
 
 -- ---- what a client takes
 
@@ -214,7 +224,7 @@ legible_step : (profile : Profile) (whole : Whole) (event : Event) → Cited pro
 unfolding step line_of server_line
 legible_step profile whole (events.Client c challenge qport dup address) cited is holds =
     let added = add_client_at whole.ends.server c challenge qport address in
-    legible_joined (record whole.ends { server = added.server }) c (record { client = new_client profile challenge qport dup; address = address }) added.answer
+    legible_joined (record whole.ends { server = added.server }) c (record { client = new_client profile challenge qport dup; address = address; recording = None }) added.answer
 legible_step profile whole (events.Port c port) cited is holds = legible_port whole.ends c port (place_at whole.ends c)
 legible_step profile whole (events.TypeText c text) cited is holds = legible_line whole.ends c _ _ (place_at whole.ends c)
 legible_step profile whole (events.Move c one) cited is holds = legible_line whole.ends c _ _ (place_at whole.ends c)
@@ -222,6 +232,8 @@ legible_step profile whole (events.Send c) cited is holds =
     legible_send whole c (place_at whole.ends c) (λ place found. (has_client profile whole c place (omega (arith, is.0)) found holds).1.joined.of_client.legible)
 legible_step profile whole (events.Deliver number) cited is holds =
     subst (λ (b : Bool). IsLegible (deliver_as b profile whole number (slice_get whole.sent (number - 1))).answer) (sym holds.own) (legible_deliver profile whole number (slice_get whole.sent (number - 1)) cited refl holds)
+legible_step profile whole (events.RecordTo c name) cited is holds = legible_record whole.ends c name (place_at whole.ends c)
+legible_step profile whole (events.Stop c) cited is holds = legible_stop whole.ends c (place_at whole.ends c)
 legible_step profile whole (events.Toclient c bytes) cited is holds = absurd is.1
 legible_step profile whole (events.Toserver c bytes) cited is holds = absurd is.1
 legible_step profile whole event cited is holds = tt

@@ -35,7 +35,11 @@ use Rattle.q3_report.specs.declared.answer.MoveRefused.{MoveRefused}
 use Rattle.q3_report.specs.declared.answer.MoveRefused.TheVariants as refused
 use Rattle.q3_report.specs.declared.answer.TypeRefused.{TypeRefused}
 use Rattle.q3_report.specs.declared.answer.TypeRefused.TheVariants as untyped
-use Rattle.q3_report.specs.AnswerLines.{handed_in_text, issued_text, type_refused_text, move_refused_text}
+use Rattle.q3_report.specs.declared.answer.RecordRefused.{RecordRefused}
+use Rattle.q3_report.specs.declared.answer.RecordRefused.TheVariants as unrecorded
+use Rattle.q3_report.specs.declared.answer.StopRefused.{StopRefused}
+use Rattle.q3_report.specs.declared.answer.StopRefused.TheVariants as unstopped
+use Rattle.q3_report.specs.AnswerLines.{handed_in_text, issued_text, type_refused_text, move_refused_text, record_refused_text, stop_refused_text}
 use Rattle.q3_schedules.proofs.PlainTexts.{lacks, lacks_both, number}
 use Rattle.q3_schedules.proofs.SpelledLines.{Spelled, nothing, in_front, newline, last}
 
@@ -104,6 +108,15 @@ move_error unmoved.Range = refl
 pub move_refused : (e : MoveRefused) → lacks 10 (move_refused_text e) ≡ true
 move_refused refused.NoClient = refl
 move_refused (refused.Error e) = move_error e
+
+pub record_refused : (e : RecordRefused) → lacks 10 (record_refused_text e) ≡ true
+record_refused unrecorded.NoClient = refl
+record_refused unrecorded.NoGame = refl
+record_refused unrecorded.Already = refl
+
+pub stop_refused : (e : StopRefused) → lacks 10 (stop_refused_text e) ≡ true
+stop_refused unstopped.NoClient = refl
+stop_refused unstopped.NotRecording = refl
 
 refusal : (text : List ℕ) → lacks 10 text ≡ true → OneLine (concat (codes " refused " ∷ text ∷ codes "\n" ∷ []))
 refusal text plain = behind (codes " refused ") (text ++ codes "\n") refl (whole text plain)

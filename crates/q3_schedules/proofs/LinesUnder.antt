@@ -14,6 +14,7 @@ use Rattle.q3_clstate.specs.declared.applied.SnapOutcome.{SnapOutcome}
 use Rattle.q3_clstate.specs.declared.applied.SnapOutcome.TheVariants.{NoSnap, Accepted, Skipped, Stale}
 use Rattle.q3_clstate.specs.Report.{cause_text, outcome_text, game_text}
 use Rattle.q3_lines.specs.ServerLines.{entered_text, owed_text}
+use Rattle.q3_report.specs.AnswerLines.{ended_text}
 use Rattle.q3_world.specs.declared.counts.Counts.{Counts}
 use Rattle.q3_world.specs.Counts.{no_counts, accepted_in, skipped_in}
 use Rattle.q3_schedules.specs.ReportLines.{begins, is_under, has_datagram, taken_by}
@@ -196,6 +197,14 @@ owed_beneath client server false = none_beneath client server
 owed_beneath client server true =
     let is = whole (codes "+ owed") refl in
     other_beneath client server (owed_text true) is.line is.spelled
+    (record { under = refl; no_datagram = refl; as_accepted = refl; as_skipped = refl; as_command = refl; as_move = refl })
+
+-- the recording of a client that ended by itself
+pub ended_beneath : (client server ended : Bool) → Beneath client server (ended_text ended) no_counts
+ended_beneath client server false = none_beneath client server
+ended_beneath client server true =
+    let is = whole (codes "+ recording ended") refl in
+    other_beneath client server (ended_text true) is.line is.spelled
     (record { under = refl; no_datagram = refl; as_accepted = refl; as_skipped = refl; as_command = refl; as_move = refl })
 
 pub game_beneath : (client server : Bool) (state : AppliedState) (game : Bool) → Beneath client server (game_text state game) no_counts

@@ -93,6 +93,19 @@ plus_is a b ServerCommand = refl
 plus_is a b ClientCommand = refl
 plus_is a b MoveLine = refl
 
+none_more : (a : Counts) (kind : Kind) → count_of kind (plus a no_counts) ≡ count_of kind a
+none_more a Event = omega arith
+none_more a Datagram = omega arith
+none_more a AcceptedSnapshot = omega arith
+none_more a SkippedSnapshot = omega arith
+none_more a ServerCommand = omega arith
+none_more a ClientCommand = omega arith
+none_more a MoveLine = omega arith
+
+-- and nothing more
+pub plus_none : (a : Counts) → plus a no_counts ≡ a
+plus_none a = same_counts (plus a no_counts) a (none_more a)
+
 -- what stands under a client's line, with that line
 abbrev applied_plus : ℕ → ℕ → ℕ → Counts
 applied_plus accepted skipped n =

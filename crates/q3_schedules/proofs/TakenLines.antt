@@ -19,16 +19,16 @@ use Rattle.q3_lines.specs.ServerLines as server_lines
 use Rattle.q3_lines.specs.ClientLines as client_lines
 use Rattle.q3_lines.specs.ClientLines.{took_text, client_text, window_full_text, move_error_text, sent_text, send_text}
 use Rattle.q3_report.specs.Answers.{Taking, ByClient, ByServer}
-use Rattle.q3_report.specs.AnswerLines.{taking_text}
+use Rattle.q3_report.specs.AnswerLines.{ended_text, taking_text}
 use Rattle.q3_script.specs.Words.{words_of}
 use Rattle.q3_world.specs.declared.counts.Counts.{Counts}
 use Rattle.q3_world.specs.Counts.{no_counts, one_event, accepted_in, skipped_in, lines_of_client, lines_of_server, lines_of_taking}
 use Rattle.q3_schedules.specs.ReportLines.{is_under, taken_by}
 use Rattle.q3_schedules.proofs.PlainTexts.{lacks, number}
 use Rattle.q3_schedules.proofs.SpelledLines.{Spelled, in_front, newline, join, last}
-use Rattle.q3_schedules.proofs.PlacedLines.{Kind, count_of, tally, plus, plus_is, applied_counts, ran_counts}
+use Rattle.q3_schedules.proofs.PlacedLines.{Kind, count_of, tally, plus, plus_is, plus_none, applied_counts, ran_counts}
 use Rattle.q3_schedules.proofs.LineEnds.{OneLine, behind, whole, closed, client_cause, server_cause}
-use Rattle.q3_schedules.proofs.LinesUnder.{counts_each, Beneath, none_beneath, both_beneath, commands_beneath, moves_beneath, entered_beneath, owed_beneath, game_beneath, outcome_beneath}
+use Rattle.q3_schedules.proofs.LinesUnder.{counts_each, Beneath, none_beneath, both_beneath, commands_beneath, moves_beneath, entered_beneath, owed_beneath, ended_beneath, game_beneath, outcome_beneath}
 
 -- the third word of a line whose first two are behind it
 abbrev pub next_is : List ℕ → List ℕ → Bool
@@ -62,12 +62,18 @@ taking_alone taking rest spelled same =
     taking_beneath taking rest (next_is (codes "client") rest) (next_is (codes "server") rest) [] no_counts refl refl
     (none_beneath (next_is (codes "client") rest) (next_is (codes "server") rest)) spelled (sym same)
 
-client_alone : (c : ℕ) (took : ClientTook) (state : AppliedState) (commands : List Command) → OneLine (took_text state took commands)
-    → lines_of_client took commands ≡ one_event → TakingLines (ByClient c took state commands false)
-client_alone c took state commands one same =
+-- a client's line, and one under it where its recording ended
+client_alone : (c : ℕ) (took : ClientTook) (state : AppliedState) (commands : List Command) (ended : Bool) → OneLine (took_text state took commands)
+    → lines_of_client took commands ≡ one_event → TakingLines (ByClient c took state commands ended)
+client_alone c took state commands ended one same =
     let is = behind (codes " client ") (decimal c ++ (took_text state took commands ++ [])) refl
     (behind (decimal c) (took_text state took commands ++ []) (number c) (closed (took_text state took commands) one)) in
-    taking_alone (ByClient c took state commands) (codes "client " ++ (decimal c ++ one.line)) is.spelled same
+    let rest : List ℕ = codes "client " ++ (decimal c ++ one.line) in
+    let by_client = next_is (codes "client") rest in
+    let by_server = next_is (codes "server") rest in
+    let ended_is = ended_beneath by_client by_server ended in
+    taking_beneath (ByClient c took state commands ended) rest by_client by_server (ended_text ended) no_counts refl refl ended_is
+    (join (client_text state c took commands) (ended_text ended) (is.line ∷ []) ended_is.lines is.spelled ended_is.spelled) (sym same)
 
 client_illegible : (word : List ℕ) → lacks 10 word ≡ true → (n : Option ℕ) → OneLine (client_lines.illegible_text word n)
 client_illegible word plain None = behind (codes " illegible ") (word ++ codes "\n") refl (whole word plain)
@@ -75,8 +81,8 @@ client_illegible word plain (Some n) =
     behind (codes " illegible ") (word ++ (codes " " ++ (decimal n ++ codes "\n"))) refl
     (behind word (codes " " ++ (decimal n ++ codes "\n")) plain (behind (codes " ") (decimal n ++ codes "\n") refl (whole (decimal n) (number n))))
 
-client_applied : (c : ℕ) (applied : Applied) (state : AppliedState) (commands : List Command) → TakingLines (ByClient c (ClientApplied applied) state commands)
-client_applied c applied state commands =
+client_applied : (c : ℕ) (applied : Applied) (state : AppliedState) (commands : List Command) (ended : Bool) → TakingLines (ByClient c (ClientApplied applied) state commands ended)
+client_applied c applied state commands ended =
     let commands_are = commands_beneath true false commands in
     let game_is = game_beneath true false state applied.game in
     let outcome_is = outcome_beneath true false applied.number applied.snap in
@@ -87,31 +93,36 @@ client_applied c applied state commands =
     (plus no_counts (plus outcome_counts no_counts)) commands_are
     (both_beneath true false (game_text state applied.game) (outcome_text applied.number applied.snap ++ []) no_counts (plus outcome_counts no_counts) game_is
     (both_beneath true false (outcome_text applied.number applied.snap) [] outcome_counts no_counts outcome_is none_is)) in
+    let counts = plus command_counts (plus no_counts (plus outcome_counts no_counts)) in
     let below : List ℕ = applied_text state applied commands in
+    let ended_is = ended_beneath true false ended in
     let tail : List ℕ = codes " applied " ++ (decimal applied.number ++ (10 ∷ (below ++ []))) in
     let rest : List ℕ = codes "applied " ++ (decimal applied.number ++ []) in
     let tail_is : Spelled tail ((32 ∷ rest) ∷ is.lines) =
     in_front (codes " applied ") (decimal applied.number ++ (10 ∷ (below ++ []))) (decimal applied.number ++ []) is.lines refl
     (in_front (decimal applied.number) (10 ∷ (below ++ [])) [] is.lines (number applied.number)
     (newline (below ++ []) is.lines (last below is.lines is.spelled))) in
-    taking_beneath (ByClient c (ClientApplied applied) state commands) (codes "client " ++ (decimal c ++ (32 ∷ rest))) true false below
-    (plus command_counts (plus no_counts (plus outcome_counts no_counts)))
-    refl refl is
-    (in_front (codes " client ") (decimal c ++ (tail ++ [])) (decimal c ++ (32 ∷ rest)) is.lines refl
-    (in_front (decimal c) (tail ++ []) (32 ∷ rest) is.lines (number c) (last tail ((32 ∷ rest) ∷ is.lines) tail_is)))
-    (applied_counts (accepted_in applied.snap) (skipped_in applied.snap) (length commands))
+    let line : List ℕ = codes "client " ++ (decimal c ++ (32 ∷ rest)) in
+    let spelled : Spelled (client_text state c (ClientApplied applied) commands) ((32 ∷ line) ∷ is.lines) =
+    in_front (codes " client ") (decimal c ++ (tail ++ [])) (decimal c ++ (32 ∷ rest)) is.lines refl
+    (in_front (decimal c) (tail ++ []) (32 ∷ rest) is.lines (number c) (last tail ((32 ∷ rest) ∷ is.lines) tail_is)) in
+    taking_beneath (ByClient c (ClientApplied applied) state commands ended) line true false (below ++ ended_text ended)
+    (plus counts no_counts) refl refl
+    (both_beneath true false below (ended_text ended) counts no_counts is ended_is)
+    (join (client_text state c (ClientApplied applied) commands) (ended_text ended) ((32 ∷ line) ∷ is.lines) ended_is.lines spelled ended_is.spelled)
+    (ap (λ (k : Counts). plus one_event k) (plus_none counts) ∙ applied_counts (accepted_in applied.snap) (skipped_in applied.snap) (length commands))
 
-client_lines_are : (c : ℕ) (took : ClientTook) (state : AppliedState) (commands : List Command) → TakingLines (ByClient c took state commands)
-client_lines_are c (Dropped cause) state commands = client_alone c (Dropped cause) state commands (whole (codes " dropped") refl) refl
-client_lines_are c Runt state commands = client_alone c Runt state commands (whole (codes " runt") refl) refl
-client_lines_are c Connectionless state commands = client_alone c Connectionless state commands (whole (codes " connectionless") refl) refl
-client_lines_are c Old state commands = client_alone c Old state commands (whole (codes " old") refl) refl
-client_lines_are c OutOfOrder state commands = client_alone c OutOfOrder state commands (whole (codes " outoforder") refl) refl
-client_lines_are c BadFragment state commands = client_alone c BadFragment state commands (whole (codes " badfragment") refl) refl
-client_lines_are c Partial state commands = client_alone c Partial state commands (whole (codes " partial") refl) refl
-client_lines_are c (Illegible cause) state commands =
-    client_alone c (Illegible cause) state commands (client_illegible (server_words.cause_word cause) (server_cause cause) (server_words.cause_number cause)) refl
-client_lines_are c (ClientApplied applied) state commands = client_applied c applied state commands
+client_lines_are : (c : ℕ) (took : ClientTook) (state : AppliedState) (commands : List Command) (ended : Bool) → TakingLines (ByClient c took state commands ended)
+client_lines_are c (Dropped cause) state commands ended = client_alone c (Dropped cause) state commands ended (whole (codes " dropped") refl) refl
+client_lines_are c Runt state commands ended = client_alone c Runt state commands ended (whole (codes " runt") refl) refl
+client_lines_are c Connectionless state commands ended = client_alone c Connectionless state commands ended (whole (codes " connectionless") refl) refl
+client_lines_are c Old state commands ended = client_alone c Old state commands ended (whole (codes " old") refl) refl
+client_lines_are c OutOfOrder state commands ended = client_alone c OutOfOrder state commands ended (whole (codes " outoforder") refl) refl
+client_lines_are c BadFragment state commands ended = client_alone c BadFragment state commands ended (whole (codes " badfragment") refl) refl
+client_lines_are c Partial state commands ended = client_alone c Partial state commands ended (whole (codes " partial") refl) refl
+client_lines_are c (Illegible cause) state commands ended =
+    client_alone c (Illegible cause) state commands ended (client_illegible (server_words.cause_word cause) (server_cause cause) (server_words.cause_number cause)) refl
+client_lines_are c (ClientApplied applied) state commands ended = client_applied c applied state commands ended
 
 server_alone : (server : ServerTook) (run : Run) (rest : List ℕ) → Spelled (server_text server run) ((32 ∷ rest) ∷ []) → lines_of_server server run ≡ one_event
     → TakingLines (ByServer server run)
@@ -179,5 +190,5 @@ server_lines_are (took.Ran slot n) run =
     (ran_counts (length run.commands) (length run.moves))
 
 pub taking_lines : (taking : Taking) → TakingLines taking
-taking_lines (ByClient c took state commands) = client_lines_are c took state commands
+taking_lines (ByClient c took state commands ended) = client_lines_are c took state commands ended
 taking_lines (ByServer server run) = server_lines_are server run

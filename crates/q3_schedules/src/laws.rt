@@ -5,7 +5,6 @@ ghost use Rattle.q3_schedules.specs.Schedules.{AlwaysLegible, UnknownWasNotMade,
 
 use q3_bits::laws as bits;
 use q3_chan::laws as chan;
-use q3_client::laws as client;
 use q3_world::laws as world;
 
 /// In a replay no end ever gets what it can't read, no acknowledgement is refused, no command leaves a gap, the server finds each
