@@ -79,7 +79,7 @@ impl Recording {
     fn stop<F: Files>(mut self, number: usize, files: &mut F) -> Result<(), Failed>
         requires file { HasFile (F.told files.old) (F.given files.old) number (Some self) }
         ensures files { WritesFiles (F.told files.old) (F.told files.new) (F.given files.old) (F.given files.new) (F.faults files.old) (F.faults files.new)
-            (F.write_faults files.old) (F.write_faults files.new) (extends self.name (closing self.stage)) (done result) }
+            (F.write_faults files.old) (F.write_faults files.new) (extends self.name (closing self.stage)) result }
     {
         self.recorder.stop(number, files)
     }

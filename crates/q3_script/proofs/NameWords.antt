@@ -1,9 +1,13 @@
 -- Names of files against the test of a word.
-use Rattle.std.proofs.Common.{◌≡◌, ℕ, ◌≤◌, true, leb, List, [], ◌∷◌, length, Some, None, inl, inr, refl, subst}
+use Rattle.std.proofs.Common.{◌≡◌, ℕ, ◌<◌, ◌≤◌, Result, Ok, Err, arith, true, leb, List, [], ◌∷◌, length, Some, None, inl, inr, refl, subst}
 use Rattle.std.specs.Prelude.{All, ◌&&◌}
 use Rattle.std.specs.List.{list_all}
 use Rattle.std.proofs.lemmas.Bool.{cases_Bool, and_parts, leb-true, le-leb}
-use Rattle.std.proofs.lemmas.List.Elements.{All-nil, All-cons, All-head, All-tail}
+use Rattle.std.proofs.lemmas.List.Elements.{All-nil, All-cons, All-head, All-tail, All-weaker}
+use Rattle.std.specs.Str.{IsUtf8}
+use Rattle.std.specs.Result.{IsOk, MatchResult}
+use Rattle.std.proofs.lemmas.Str.{IsUtf8-from_ascii}
+use Rattle.std.proofs.lemmas.Str.Ascii.{IsAscii-from_all}
 use Rattle.q3_script.specs.Names.{longest_name, IsName, is_name_byte, is_name, name_at}
 
 abbrev IsByte : ℕ → Type 0
@@ -56,3 +60,14 @@ name_at-is word name e =
 pub name_at-again : (name : List ℕ) → IsName name → name_at name ≡ Some name
 unfolding name_at
 name_at-again name is = rw (passes name is) refl
+
+-- a name is text
+pub name_utf8 : (name : List ℕ) → IsName name → IsUtf8 name
+name_utf8 name is =
+    IsUtf8-from_ascii name (IsAscii-from_all name (All-weaker (λ (byte : ℕ). (33 ≤ byte) × (byte ≤ 126)) (λ (byte : ℕ). byte < 128)
+    (λ byte within. let most = within.1 in omega (arith, most)) name is.2))
+
+pub reads_text : {T E : Type 0} (Reads : T → Type 0) (Stops : E → Type 0) (bytes : List ℕ) (result : Result T E) → MatchResult result Reads (λ e. (IsUtf8 bytes → ⊥) × Stops e) → IsUtf8 bytes
+    → IsOk result
+reads_text Reads Stops bytes (Ok text) cases is = refl
+reads_text Reads Stops bytes (Err e) cases is = absurd (cases.0 is)

@@ -1,10 +1,11 @@
-use Rattle.std.proofs.Common.{◌≡◌, List, None, Some, true, false, ap, sym, subst, ◌∙◌, Ok}
+use Rattle.std.proofs.Common.{◌≡◌, List, None, Some, true, false, ap, sym, subst, ◌∙◌, Ok, Err}
 use Rattle.std.proofs.lemmas.Result.{err_from_is_err_and}
 use Rattle.q3_io.specs.Acts.{FileAct}
+use Rattle.q3_io.specs.Told.{Creates}
 use Rattle.q3_clstate.specs.State.{AppliedState}
 use Rattle.q3_demo.specs.Recorder.{done}
 use Rattle.q3_ends.specs.Recording.{RecordingState, WritesFiles, begin_at}
-use Rattle.q3_ends.proofs.Files.{begins_new, goes_some, makes_file, no_game, none_goes, stands_for_made, writes_nothing}
+use Rattle.q3_ends.proofs.Files.{begins_new, done_cause, goes_some, makes_file, no_game, none_goes, made_stands, writes_nothing}
 use Rattle.q3_ends.proofs.recording.begin.Goals as goal
 
 pub returns-then-not-has_game-clause-files : goal.returns-then-not-has_game-clause-files
@@ -23,16 +24,18 @@ returns-in_err-number-clause-files g c =
     let p = err_from_is_err_and c.from_residual.result c.from_residual.ensures.1 in
     let has = ap (λ (s : AppliedState). s.has_game) (sym c.state.ensures) ∙ (sym c.has_game.ensures ∙ c.if-not-has_game.false) in
     let acts = begins_new c.args.client.now c.args.recording.now c.args.fresh has (none_goes c.args.recording.now (sym c.is_some.ensures ∙ c.if-is_some.false)) in
-    rw (p.1, acts)
-    (makes_file _ _ _ _ _ _ _ _ c.args.fresh.name c.create.result (g.met.F.Files.numbered c.args.files.now) c.create.ensures.given (rw c.as_str.ensures at c.create.ensures.told) c.create.ensures.cause c.create.ensures.others)
+    rw (p.1, p.2, acts)
+    (makes_file _ _ _ _ _ _ _ _ c.args.fresh.name (Err c.in_err-number.field-0.0) (g.met.F.Files.numbered c.args.files.now) c.in_err-number.ensures.given (subst (λ (r : RecordingState). Creates (g.F.Files.told c.args.files.now) (g.F.Files.told c.create.new.self) r.name (Err c.in_err-number.field-0.0)) c.fresh.view_is (rw c.as_str.ensures at c.in_err-number.ensures.told))
+    (done_cause _ _ (Err c.in_err-number.field-0.0) c.in_err-number.ensures.cause) c.in_err-number.ensures.others)
 
 pub returns-clause-files : goal.returns-clause-files
 returns-clause-files g c =
     let has = ap (λ (s : AppliedState). s.has_game) (sym c.state.ensures) ∙ (sym c.has_game.ensures ∙ c.if-not-has_game.false) in
     let acts = begins_new c.args.client.now c.args.recording.now c.args.fresh has (none_goes c.args.recording.now (sym c.is_some.ensures ∙ c.if-is_some.false)) in
     rw acts
-    (makes_file _ _ _ _ _ _ _ _ c.args.fresh.name c.create.result (g.met.F.Files.numbered c.args.files.now) c.create.ensures.given (rw c.as_str.ensures at c.create.ensures.told) c.create.ensures.cause c.create.ensures.others)
+    (makes_file _ _ _ _ _ _ _ _ c.args.fresh.name (Ok c.in_ok-number.field-0) (g.met.F.Files.numbered c.args.files.now) c.in_ok-number.ensures.given (subst (λ (r : RecordingState). Creates (g.F.Files.told c.args.files.now) (g.F.Files.told c.create.new.self) r.name (Ok c.in_ok-number.field-0)) c.fresh.view_is (rw c.as_str.ensures at c.in_ok-number.ensures.told))
+    (done_cause _ _ (Ok c.in_ok-number.field-0) c.in_ok-number.ensures.cause) c.in_ok-number.ensures.others)
 
 pub returns-clause-file : goal.returns-clause-file
 returns-clause-file g c =
-    (c.in_ok-number.ensures.given.1, made_stands _ _ c.in_ok-number.field-0 c.args.fresh.name (rw c.as_str.ensures at c.in_ok-number.ensures.told))
+    (c.in_ok-number.ensures.given.1, made_stands _ _ c.in_ok-number.field-0 c.args.fresh.name (subst (λ (r : RecordingState). Creates (g.F.Files.told c.args.files.now) (g.F.Files.told c.create.new.self) r.name (Ok c.in_ok-number.field-0)) c.fresh.view_is (rw c.as_str.ensures at c.in_ok-number.ensures.told)))
