@@ -65,8 +65,10 @@ impl Recording {
         ensures log { log.new.commands ≡ (take_at client.old bytes.now).heard }
         ensures name { self.new.name ≡ self.old.name }
         ensures stage { OnOk result (self.new.stage ≡ (recorder_took self.old.stage client.old (take_at client.old bytes.now) (take_at client.old bytes.now).answer).stage) }
-        ensures answer { IfOk result (λ took. took ≡ ((take_at client.old bytes.now).answer,
-            (recorder_took self.old.stage client.old (take_at client.old bytes.now) (take_at client.old bytes.now).answer).ended)) }
+        ensures answer { IfOk result (λ took. took ≡ (
+          (take_at client.old bytes.now).answer,
+          (recorder_took self.old.stage client.old (take_at client.old bytes.now) (take_at client.old bytes.now).answer).ended,
+        )) }
         ensures files { WritesFiles (F.told files.old) (F.told files.new) (F.given files.old) (F.given files.new) (F.faults files.old) (F.faults files.new)
             (F.write_faults files.old) (F.write_faults files.new)
             (extends self.old.name (recorder_took self.old.stage client.old (take_at client.old bytes.now) (take_at client.old bytes.now).answer).bytes) (done result) }
@@ -110,8 +112,10 @@ fn record_taken<F: Files>(
     ensures client { client.new ≡ (take_at client.old bytes.now).client }
     ensures log { log.new.commands ≡ (take_at client.old bytes.now).heard }
     ensures stage { OnOk result (recorder.new.stage ≡ (recorder_took recorder.old.stage client.old (take_at client.old bytes.now) (take_at client.old bytes.now).answer).stage) }
-    ensures answer { IfOk result (λ took. took ≡ ((take_at client.old bytes.now).answer,
-        (recorder_took recorder.old.stage client.old (take_at client.old bytes.now) (take_at client.old bytes.now).answer).ended)) }
+    ensures answer { IfOk result (λ took. took ≡ (
+      (take_at client.old bytes.now).answer,
+      (recorder_took recorder.old.stage client.old (take_at client.old bytes.now) (take_at client.old bytes.now).answer).ended,
+    )) }
     ensures adds { AppendsBytes (F.told files.old) (F.told files.new) number
         (recorder_took recorder.old.stage client.old (take_at client.old bytes.now) (take_at client.old bytes.now).answer).bytes (done result) }
     ensures given { F.given files.new ≡ F.given files.old }
