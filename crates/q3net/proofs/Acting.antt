@@ -1,11 +1,10 @@
 -- Acts on files, one after the other, and what they leave.
 use Rattle.std.proofs.Common.{◌≡◌, ℕ, ◌+◌, ◌<◌, ◌≤◌, List, [], ◌∷◌, ◌++◌, length, get_or, drop, Option, Some, None, Result, Ok, Err, refl, sym, ap, subst, ◌∙◌, append_assoc, inl, inr}
-use Rattle.std.specs.Prelude.{◌⊎◌}
 use Rattle.std.proofs.lemmas.List.{append-nil, drop_more, drop_all}
 use Rattle.q3_script.specs.declared.event.Event.{Event}
 use Rattle.q3_io.specs.declared.sink.Failed.{Failed}
 use Rattle.q3_io.specs.Acts.{FileAct, Makes, Extends, held_by, after_act, after_acts, BreaksOff, ActsOn}
-use Rattle.q3_io.specs.Told.{Told, File, Named, Create, with_contents, after_named}
+use Rattle.q3_io.specs.Told.{Told, File, Named, Create, with_contents}
 use Rattle.q3_world.specs.declared.told.StepError.{StepError}
 use Rattle.q3_world.specs.declared.told.StepError.TheVariants as errors
 use Rattle.q3_world.specs.Kept.{Kept, kept_step}

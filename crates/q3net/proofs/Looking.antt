@@ -5,24 +5,23 @@ use Rattle.std.proofs.lemmas.List.{append-nil}
 use Rattle.q3_profile.specs.declared.profile.Profile.{Profile}
 use Rattle.q3_io.specs.declared.address.Address.{Address}
 use Rattle.q3_io.specs.Acts.{FileAct, Extends, after_acts}
-use Rattle.q3_io.specs.Told.{Told, File, Named}
+use Rattle.q3_io.specs.Told.{Told, Named}
 use Rattle.q3_node.specs.Node.{Turn}
 use Rattle.q3net.specs.declared.fault.Fault.{Fault}
 use Rattle.q3net.specs.declared.fault.Fault.TheVariants as faults
 use Rattle.q3net.specs.declared.command.Draws.{Draws}
 use Rattle.q3net.specs.Command.{Command, Help, Version, Replay, Make, Trial, Serve, Join, Play, files_of}
 use Rattle.q3net.specs.Faults.{Gets, IsOutside, IsEarly}
-use Rattle.q3net.specs.Input.{IsFront, Holds, looked_up, created, Leaves, LeavesTold, AreBegun, LeavesFirst, Touches, LooksUpTold, LooksUpFirst, Gives}
+use Rattle.q3net.specs.Input.{IsFront, looked_up, created, Leaves, LeavesTold, AreBegun, LeavesFirst, Touches, LooksUpTold, LooksUpFirst, Gives}
 use Rattle.q3_demo.specs.Playing as demos
 use Rattle.q3_make.specs.Printed.{script_text}
 use Rattle.q3_make.specs.Generated.{generated}
 use Rattle.q3net.specs.Lines.{help_text, version_text, fault_status, ending_status}
-use Rattle.q3net.specs.Verdict.{Stops, Verdict, Outside, of_files, IsVerdict, stops_nowhere, takes_memory, reads_first, Schedule, settled, replayed, recorded, replay_done, names_by, tried, noded, served, joined, played, demo_played, profile_in, GetsFrom}
+use Rattle.q3net.specs.Verdict.{Stops, Verdict, Outside, of_files, IsVerdict, stops_nowhere, takes_memory, reads_first, Schedule, settled, replay_done, names_by, tried, noded, served, joined, played, demo_played, profile_in, events_in}
 use Rattle.q3net.specs.Run.{LeavesFiles, HasLeft, Touched}
 use Rattle.q3_bits.specs.ResultBind.{◌>>=◌}
 use Rattle.q3_script.specs.declared.event.Event.{Event}
 use Rattle.q3_script.specs.declared.cause.ScriptKind.TheVariants as kinds
-use Rattle.q3net.specs.Verdict.{events_in}
 use Rattle.q3net.proofs.Acting.{first_more}
 use Rattle.q3net.proofs.Loading.{held}
 

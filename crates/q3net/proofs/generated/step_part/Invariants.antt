@@ -1,4 +1,4 @@
-use Rattle.std.proofs.Common.{◌≡◌, ◌+◌, ◌≤◌, List, ◌++◌, drop, length, None}
+use Rattle.std.proofs.Common.{◌+◌, ◌≤◌, List, ◌++◌, drop, length, None}
 use Rattle.q3_profile.specs.declared.profile.Profile.{Profile}
 use Rattle.q3_script.specs.declared.event.Event.{Event}
 use Rattle.q3_world.specs.declared.counts.Counts.{Counts}
