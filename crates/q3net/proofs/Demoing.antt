@@ -7,6 +7,7 @@ use Rattle.std.proofs.lemmas.List.{take-append-drop}
 use Rattle.std.proofs.lemmas.List.Folds.{concat-append}
 use Rattle.q3_bits.specs.ResultBind.{◌>>=◌}
 use Rattle.q3_io.specs.Laws.{TextsFollow}
+use Rattle.q3_io.specs.Acts.{after_acts}
 use Rattle.q3_io.specs.Told.{Told, contents_of, contents_at, LooksUp, Lookup, after_named, after_given}
 use Rattle.q3_io.specs.Written.{Written}
 use Rattle.q3_io.specs.declared.sink.Failed.{Failed}
@@ -137,7 +138,7 @@ play_ended follow told mid found profile demo by file old now ended passes gives
 -- ---- what it leaves of the files
 
 played_touches : {A : Type 0} (ended : Result A Fault) (names : List (List ℕ)) (answer : Result demos.Play Fault) (told now : Option Told) → Gives ended names told now
-    → Touches ended (demo_played names answer).named (demo_played names answer).made told now
+    → Touches ended (demo_played names answer).named (demo_played names answer).acts told now
 played_touches ended names (Ok play) told now gives = gives
 played_touches ended names (Err cause) told now gives = gives
 
@@ -165,8 +166,8 @@ pub play_gives_demo : (told mid now : Option Told) (profile demo : List ℕ) (by
     → Gives (Ok by) (profile ∷ []) told mid → Gives {A = Unit {0}} (Err e) (demo ∷ []) mid now → LeavesFiles (Some (Play profile demo)) (of_files told) now (Err e)
 play_gives_demo told mid now profile demo by e passes first second =
     passed_given told now profile demo by (Err e) passes (elim second [
-      | inl all ↦ inl (leaves_then told mid now (looked_up profile) (looked_up demo ∷ []) [] (gave by (profile ∷ []) told mid first) all)
-      | inr early ↦ inr (early.0, first_then told mid now (looked_up profile) (looked_up demo ∷ []) [] (gave by (profile ∷ []) told mid first) early.1)
+      | inl all ↦ inl (leaves_then told mid now (looked_up profile) (looked_up demo ∷ []) (gave by (profile ∷ []) told mid first) all)
+      | inr early ↦ inr (early.0, first_then told mid now (looked_up profile) (looked_up demo ∷ []) (gave by (profile ∷ []) told mid first) early.1)
     ])
 
 -- reading leaves all but what is asked for
@@ -180,7 +181,7 @@ pub play_gives_all : (told mid found now : Option Told) (profile demo : List ℕ
     → Gives (Ok by) (profile ∷ []) told mid → Gives (Ok file) (demo ∷ []) mid found → OnlyAsks found now → LeavesFiles (Some (Play profile demo)) (of_files told) now ended
 play_gives_all told mid found now profile demo by file ended passes first second asks =
     passed_given told now profile demo by ended passes
-    (inl (leaves_then told mid now (looked_up profile) (looked_up demo ∷ []) [] (gave by (profile ∷ []) told mid first) (leaves_asked mid found now demo (gave file (demo ∷ []) mid found second) asks)))
+    (inl (leaves_then told mid now (looked_up profile) (looked_up demo ∷ []) (gave by (profile ∷ []) told mid first) (leaves_asked mid found now demo (gave file (demo ∷ []) mid found second) asks)))
 
 -- ---- the file of a name
 
@@ -196,6 +197,7 @@ found_so name (Some told) now file looks = λ contents has.
     ∙ ap (λ (bytes : List ℕ). Some bytes) (sym (is ∙ (ap (λ (n : ℕ). contents_at (after_given (after_named told name Lookup) name) n) looks.1 ∙ given_name told name)))
 
 pub found_gives : (name : List ℕ) (told now : Option Told) (file : ℕ) → LooksUp told now name (Ok file) → LeavesTold told now (looked_up name ∷ []) []
+unfolding after_acts
 found_gives name None now file looks = looks
 found_gives name (Some told) now file looks = (after_given (after_named told name Lookup) name, looks.2, record { named = refl; files = refl })
 

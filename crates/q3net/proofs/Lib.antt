@@ -1,5 +1,6 @@
 pub mod Reading
 pub mod Loading
+pub mod Acting
 pub mod Looking
 pub mod Stepping
 pub mod Totals

@@ -4,61 +4,69 @@ use Rattle.std.specs.Prelude.{◌⊎◌}
 use Rattle.std.proofs.lemmas.List.{append-nil}
 use Rattle.q3_profile.specs.declared.profile.Profile.{Profile}
 use Rattle.q3_io.specs.declared.address.Address.{Address}
-use Rattle.q3_io.specs.Told.{Told, File, Named}
+use Rattle.q3_io.specs.Acts.{FileAct, Extends, after_acts}
+use Rattle.q3_io.specs.Told.{Told, Named}
 use Rattle.q3_node.specs.Node.{Turn}
 use Rattle.q3net.specs.declared.fault.Fault.{Fault}
 use Rattle.q3net.specs.declared.fault.Fault.TheVariants as faults
 use Rattle.q3net.specs.declared.command.Draws.{Draws}
 use Rattle.q3net.specs.Command.{Command, Help, Version, Replay, Make, Trial, Serve, Join, Play, files_of}
 use Rattle.q3net.specs.Faults.{Gets, IsOutside, IsEarly}
-use Rattle.q3net.specs.Input.{Holds, looked_up, created, with_files, Leaves, LeavesTold, AreBegun, LeavesFirst, Touches, LooksUpTold, LooksUpFirst, Gives}
+use Rattle.q3net.specs.Input.{IsFront, looked_up, created, Leaves, LeavesTold, AreBegun, LeavesFirst, Touches, LooksUpTold, LooksUpFirst, Gives}
 use Rattle.q3_demo.specs.Playing as demos
 use Rattle.q3_make.specs.Printed.{script_text}
 use Rattle.q3_make.specs.Generated.{generated}
 use Rattle.q3net.specs.Lines.{help_text, version_text, fault_status, ending_status}
-use Rattle.q3net.specs.Verdict.{Stops, Verdict, Outside, of_files, IsVerdict, stops_nowhere, takes_memory, reads_first, settled, names_by, replayed, tried, noded, served, joined, played, demo_played, profile_in, GetsFrom}
+use Rattle.q3net.specs.Verdict.{Stops, Verdict, Outside, of_files, IsVerdict, stops_nowhere, takes_memory, reads_first, Schedule, settled, replay_done, names_by, tried, noded, served, joined, played, demo_played, profile_in, events_in}
 use Rattle.q3net.specs.Run.{LeavesFiles, HasLeft, Touched}
+use Rattle.q3_bits.specs.ResultBind.{◌>>=◌}
+use Rattle.q3_script.specs.declared.event.Event.{Event}
+use Rattle.q3_script.specs.declared.cause.ScriptKind.TheVariants as kinds
+use Rattle.q3net.proofs.Acting.{first_more}
 use Rattle.q3net.proofs.Loading.{held}
 
 -- no name was given
 pub looks_none : (told : Option Told) → LooksUpTold told told []
+unfolding after_acts
 looks_none None = refl
 looks_none (Some told) = (told, refl, record { files = refl; named = sym (append-nil told.named) })
 
 -- one name, and then others
-leaves_two : (told mid now : Told) (one : Named) (others : List Named) (made : List File) → Leaves told mid (one ∷ []) [] → Leaves mid now others made → Leaves told now (one ∷ others) made
-leaves_two told mid now one others made first second =
+leaves_two : (told mid now : Told) (one : Named) (others : List Named) → Leaves told mid (one ∷ []) [] → Leaves mid now others [] → Leaves told now (one ∷ others) []
+unfolding after_acts
+leaves_two told mid now one others first second =
     record {
-      files = second.files ∙ ap (λ (files : List File). with_files files made) first.files;
+      files = second.files ∙ first.files;
       named = second.named ∙ (ap (λ (given : List Named). given ++ others) first.named ∙ append_assoc told.named (one ∷ []) others);
     }
 
-pub leaves_then : (told mid now : Option Told) (one : Named) (others : List Named) (made : List File) → LeavesTold told mid (one ∷ []) [] → LeavesTold mid now others made
-    → LeavesTold told now (one ∷ others) made
-leaves_then None mid now one others made first second = subst (λ (m : Option Told). LeavesTold m now others made) first second
-leaves_then (Some told) mid now one others made first second =
-    let then = subst (λ (m : Option Told). LeavesTold m now others made) first.1 second in
-    (then.0, then.1, leaves_two told first.0 then.0 one others made first.2 then.2)
+pub leaves_then : (told mid now : Option Told) (one : Named) (others : List Named) → LeavesTold told mid (one ∷ []) [] → LeavesTold mid now others [] → LeavesTold told now (one ∷ others) []
+leaves_then None mid now one others first second = subst (λ (m : Option Told). LeavesTold m now others []) first second
+leaves_then (Some told) mid now one others first second =
+    let then = subst (λ (m : Option Told). LeavesTold m now others []) first.1 second in
+    (then.0, then.1, leaves_two told first.0 then.0 one others first.2 then.2)
 
-pub first_then : (told mid now : Option Told) (one : Named) (others : List Named) (made : List File) → LeavesTold told mid (one ∷ []) [] → LeavesFirst mid now others made
-    → LeavesFirst told now (one ∷ others) made
-first_then told mid now one others made first second = (
-  one ∷ second.0,
-  second.1,
-  (second.2.0, ap (λ (names : List Named). one ∷ names) second.2.1),
-  second.3,
-  leaves_then told mid now one second.0 second.1 first second.4,
-)
+-- of no acts none are begun
+no_front : (act : FileAct) (begun : List FileAct) → IsFront (act ∷ begun) [] → ⊥
+no_front act begun front = let no : act ∷ (begun ++ front.0) ≡ [] = front.1 in absurd cc
 
--- the first of some names are the first of more
-first_more : (told now : Option Told) (named more : List Named) (made : List File) → LeavesFirst told now named made → LeavesFirst told now (named ++ more) made
-first_more told now named more made first = (
-  first.0,
-  first.1,
-  (first.2.0 ++ more, sym (append_assoc first.0 first.2.0 more) ∙ ap (λ (z : List Named). z ++ more) first.2.1),
-  first.3,
-  first.4,
-)
+no_act : (first : List FileAct) (name bytes : List ℕ) → IsFront (first ++ Extends name bytes ∷ []) [] → ⊥
+no_act [] name bytes front = no_front (Extends name bytes) [] front
+no_act (act ∷ first) name bytes front = no_front act (first ++ Extends name bytes ∷ []) front
+
+none_begun : (begun : List FileAct) → AreBegun begun [] → begun ≡ []
+none_begun [] is = refl
+none_begun (act ∷ begun) is = absurd (elim is [ inl front ↦ no_front act begun front | inr broken ↦ no_act broken.0 broken.1 broken.3 broken.6 ])
+
+pub first_then : (told mid now : Option Told) (one : Named) (others : List Named) → LeavesTold told mid (one ∷ []) [] → LeavesFirst mid now others [] → LeavesFirst told now (one ∷ others) []
+first_then told mid now one others first second =
+    let left = subst (λ (begun : List FileAct). LeavesTold mid now second.0 begun) (none_begun second.1 second.3) second.4 in (
+      one ∷ second.0,
+      [],
+      (second.2.0, ap (λ (names : List Named). one ∷ names) second.2.1),
+      inl ([], refl),
+      leaves_then told mid now one second.0 first left,
+    )
 
 -- ---- the parts of a replay
 
@@ -70,15 +78,10 @@ gave x names told now gives =
       | inr early ↦ absurd early.0
     ]
 
--- files as far as they are made, where they are whole
-are_whole : (made : List File) → AreBegun made made
-are_whole [] = tt
-are_whole (file ∷ made) = (refl, ([], append-nil file.contents), are_whole made)
-
 -- of a part that ended early, at most its first names
-left_first : {A : Type 0} (ended : Result A Fault) (named : List Named) (made : List File) (told now : Option Told) → Touches ended named made told now → LeavesFirst told now named made
-left_first ended named made told now touched =
-    elim touched [ inl all ↦ (named, made, ([], append-nil named), are_whole made, all) | inr early ↦ early.1 ]
+left_first : {A : Type 0} (ended : Result A Fault) (named : List Named) (acts : List FileAct) (told now : Option Told) → Touches ended named acts told now → LeavesFirst told now named acts
+left_first ended named acts told now touched =
+    elim touched [ inl all ↦ (named, acts, ([], append-nil named), inl ([], append-nil acts), all) | inr early ↦ early.1 ]
 
 pub gave_first : {A : Type 0} (ended : Result A Fault) (names : List (List ℕ)) (told now : Option Told) → Gives ended names told now → LooksUpFirst told now names
 gave_first ended names told now gives = left_first ended (map looked_up names) [] told now gives
@@ -89,45 +92,62 @@ got_ok said x gets = elim gets [ inl is ↦ sym is | inr outside ↦ absurd (eli
 
 -- ---- what a verdict says of files
 
--- one that is settled looks its names up, and makes nothing
+-- one that is settled looks its names up, and does nothing to files
 settled_touches : {A : Type 0} (ended : Result A Fault) (stops : Stops) (names : List (List ℕ)) (answer : Result (List ℕ) Fault) (told now : Option Told) → Gives ended names told now
-    → Touches ended (settled stops names answer).named (settled stops names answer).made told now
+    → Touches ended (settled stops names answer).named (settled stops names answer).acts told now
 settled_touches ended stops names (Ok text) told now gives = gives
 settled_touches ended stops names (Err cause) told now gives = gives
 
 names_more : (says : Result Profile Fault) (profile script : List ℕ) (told now : Option Told) → LooksUpFirst told now (names_by says profile script)
     → LooksUpFirst told now (profile ∷ script ∷ [])
 names_more (Ok by) profile script told now first = first
-names_more (Err cause) profile script told now first = first_more told now (looked_up profile ∷ []) (looked_up script ∷ []) [] first
+names_more (Err cause) profile script told now first = first_more told now (looked_up profile ∷ []) (looked_up script ∷ []) [] [] first
 
 -- of a verdict, the names that it gives are the first of those of its command, and of the files that it makes
 abbrev pub IsNamed : Option Told → Option Told → Option Command → Verdict → Type 0
 IsNamed told now command verdict =
-    LeavesFirst told now verdict.named verdict.made → LeavesFirst told now (map looked_up (files_of command) ++ map created verdict.made) verdict.made
+    LeavesFirst told now verdict.named verdict.acts → LeavesFirst told now (map looked_up (files_of command) ++ created verdict.acts) verdict.acts
 
 settled_named : (told now : Option Told) (command : Option Command) (stops : Stops) (names : List (List ℕ)) (answer : Result (List ℕ) Fault)
     → (LooksUpFirst told now names → LooksUpFirst told now (files_of command)) → IsNamed told now command (settled stops names answer)
+unfolding created
 settled_named told now command stops names (Ok text) so first = subst (λ (z : List Named). LeavesFirst told now z []) (sym (append-nil (map looked_up (files_of command)))) (so first)
 settled_named told now command stops names (Err cause) so first = subst (λ (z : List Named). LeavesFirst told now z []) (sym (append-nil (map looked_up (files_of command)))) (so first)
 
 noded_named : (told now : Option Told) (command : Option Command) (names : List (List ℕ)) (at : Address) (answer : Result (List Turn) Fault)
     → (LooksUpFirst told now names → LooksUpFirst told now (files_of command)) → IsNamed told now command (noded names at answer)
+unfolding created
 noded_named told now command names at (Ok turns) so first = subst (λ (z : List Named). LeavesFirst told now z []) (sym (append-nil (map looked_up (files_of command)))) (so first)
 noded_named told now command names at (Err cause) so first = subst (λ (z : List Named). LeavesFirst told now z []) (sym (append-nil (map looked_up (files_of command)))) (so first)
 
 demo_named : (told now : Option Told) (command : Option Command) (names : List (List ℕ)) (answer : Result demos.Play Fault)
     → (LooksUpFirst told now names → LooksUpFirst told now (files_of command)) → IsNamed told now command (demo_played names answer)
+unfolding created
 demo_named told now command names (Ok play) so first = subst (λ (z : List Named). LeavesFirst told now z []) (sym (append-nil (map looked_up (files_of command)))) (so first)
 demo_named told now command names (Err cause) so first = subst (λ (z : List Named). LeavesFirst told now z []) (sym (append-nil (map looked_up (files_of command)))) (so first)
+
+-- a replay of events
+abbrev pub schedules : Profile → List Event → Result Schedule Fault
+schedules by events = Ok (record { by = by; events = events })
+
+done_named : (told now : Option Told) (profile script : List ℕ) (answer : Result Schedule Fault) → IsNamed told now (Some (Replay profile script)) (replay_done (profile ∷ script ∷ []) answer)
+unfolding created
+done_named told now profile script (Ok replay) first = first
+done_named told now profile script (Err cause) first = first
+
+replay_named : (told now : Option Told) (profile script : List ℕ) (says : Result Profile Fault) (then : Profile → Result Schedule Fault)
+    → IsNamed told now (Some (Replay profile script)) (replay_done (names_by says profile script) (says >>= then))
+unfolding created
+replay_named told now profile script (Ok by) then first = done_named told now profile script (then by) first
+replay_named told now profile script (Err cause) then first = names_more (Err cause) profile script told now first
 
 verdict_named : (told : Outside) (now : Option Told) (command : Option Command) (verdict : Verdict) → IsVerdict told command verdict → IsNamed told.files now command verdict
 verdict_named told now None verdict is = subst (IsNamed told.files now None) (sym is) (settled_named told.files now None stops_nowhere [] (Err faults.Usage) (λ first. first))
 verdict_named told now (Some Help) verdict is = subst (IsNamed told.files now (Some Help)) (sym is) (settled_named told.files now (Some Help) stops_nowhere [] (Ok help_text) (λ first. first))
 verdict_named told now (Some Version) verdict is = subst (IsNamed told.files now (Some Version)) (sym is) (settled_named told.files now (Some Version) stops_nowhere [] (Ok version_text) (λ first. first))
 verdict_named told now (Some (Replay profile script)) verdict is =
-    let names = names_by (profile_in is.0) profile script in
     subst (IsNamed told.files now (Some (Replay profile script))) (sym is.4)
-    (settled_named told.files now (Some (Replay profile script)) reads_first names (replayed is.0 is.1) (names_more (profile_in is.0) profile script told.files now))
+    (replay_named told.files now profile script (profile_in is.0) (λ by. events_in kinds.Replay is.1 >>= schedules by))
 verdict_named told now (Some (Make draws)) verdict is =
     subst (IsNamed told.files now (Some (Make draws))) (sym is)
     (settled_named told.files now (Some (Make draws)) takes_memory [] (Ok (script_text (generated draws.number draws.seed))) (λ first. first))
@@ -150,7 +170,7 @@ verdict_named told now (Some (Play profile demo)) verdict is =
 -- the names that are given are the first of those that the command names, and of the files that its verdict makes
 pub touches : (command : Option Command) (told : Outside) (now : Option Told) (ended : Result (Unit {0}) Fault) → LeavesFiles command told now ended → Touched command told now
 touches command told now ended given =
-    (given.0, given.1, verdict_named told now command given.0 given.1 (left_first ended given.0.named given.0.made told.files now given.2))
+    (given.0, given.1, verdict_named told now command given.0 given.1 (left_first ended given.0.named given.0.acts told.files now given.2))
 
 -- the fault of an early end
 early_is : (ended : Result (Unit {0}) Fault) → IsEarly ended → (fault : Fault) × IsOutside fault × (ended ≡ Err fault)
@@ -206,16 +226,6 @@ pub trial_gave : {A : Type 0} (told now : Option Told) (profile : List ℕ) (dra
     → LeavesFiles (Some (Trial profile draws)) (of_files told) now ended
 trial_gave told now profile draws by ended gives = trial_given told now profile draws ended (Ok by) (λ all. inl (gave by (profile ∷ []) told now all)) gives
 
-replay_given : (told now : Option Told) (profile script : List ℕ) (file : Option (List ℕ)) (ended : Result (Unit {0}) Fault) → Holds told profile file
-    → Gives ended (names_by (profile_in file) profile script) told now → LeavesFiles (Some (Replay profile script)) (of_files told) now ended
-replay_given told now profile script file ended holds gives =
-    let other = held told script in
-    let names = names_by (profile_in file) profile script in (
-      settled reads_first names (replayed file other.0),
-      (file, other.0, holds, other.1, refl),
-      settled_touches ended reads_first names (replayed file other.0) told now gives,
-    )
-
 -- a part that its input didn't end
 pub came_outside : {A : Type 0} (e : Fault) (got : Result A Fault) → got ≡ Err e → (got ≡ Err faults.NoMemory) ⊎ (got ≡ Err faults.Read) → IsOutside e
 came_outside e got is outside =
@@ -226,7 +236,7 @@ came_outside e got is outside =
 
 -- no profile was read
 first_names : (says : Result Profile Fault) (profile script : List ℕ) (told now : Option Told) → LooksUpFirst told now (profile ∷ []) → LooksUpFirst told now (names_by says profile script)
-first_names (Ok by) profile script told now first = first_more told now (looked_up profile ∷ []) (looked_up script ∷ []) [] first
+first_names (Ok by) profile script told now first = first_more told now (looked_up profile ∷ []) (looked_up script ∷ []) [] [] first
 first_names (Err cause) profile script told now first = first
 
 pub profile_names : (file : Option (List ℕ)) (e : Fault) (profile script : List ℕ) (told now : Option Told) → Gets (profile_in file) (Err e)
@@ -239,32 +249,3 @@ profile_names file e profile script told now gets gives =
         first_names (profile_in file) profile script told now (gave_first {A = Profile} (Err e) (profile ∷ []) told now gives),
       )
     ]
-
-pub profile_gives : (told now : Option Told) (profile script : List ℕ) (e : Fault) → GetsFrom profile_in told profile (Err e)
-    → Gives {A = Profile} (Err e) (profile ∷ []) told now → LeavesFiles (Some (Replay profile script)) (of_files told) now (Err e)
-profile_gives told now profile script e gets gives =
-    replay_given told now profile script gets.0 (Err e) gets.1 (profile_names gets.0 e profile script told now gets.2 gives)
-
--- a profile was read
-passed_given : (told now : Option Told) (profile script : List ℕ) (by : Profile) (ended : Result (Unit {0}) Fault) → GetsFrom profile_in told profile (Ok by)
-    → Gives ended (profile ∷ script ∷ []) told now → LeavesFiles (Some (Replay profile script)) (of_files told) now ended
-passed_given told now profile script by ended passes gives =
-    replay_given told now profile script passes.0 ended passes.1
-    (subst (λ (says : Result Profile Fault). Gives ended (names_by says profile script) told now) (sym (got_ok (profile_in passes.0) by passes.2)) gives)
-
--- and no script
-pub script_gives : (told mid now : Option Told) (profile script : List ℕ) (by : Profile) (e : Fault) → GetsFrom profile_in told profile (Ok by)
-    → Gives (Ok by) (profile ∷ []) told mid → Gives {A = Unit {0}} (Err e) (script ∷ []) mid now → LeavesFiles (Some (Replay profile script)) (of_files told) now (Err e)
-script_gives told mid now profile script by e passes first second =
-    passed_given told now profile script by (Err e) passes (elim second [
-      | inl all ↦ inl (leaves_then told mid now (looked_up profile) (looked_up script ∷ []) [] (gave by (profile ∷ []) told mid first) all)
-      | inr early ↦ inr (early.0, first_then told mid now (looked_up profile) (looked_up script ∷ []) [] (gave by (profile ∷ []) told mid first) early.1)
-    ])
-
--- and a script
-pub both_given : {B : Type 0} (told mid now : Option Told) (profile script : List ℕ) (by : Profile) (events : B) (ended : Result (Unit {0}) Fault)
-    → GetsFrom profile_in told profile (Ok by) → Gives (Ok by) (profile ∷ []) told mid → Gives (Ok events) (script ∷ []) mid now
-    → LeavesFiles (Some (Replay profile script)) (of_files told) now ended
-both_given told mid now profile script by events ended passes first second =
-    passed_given told now profile script by ended passes
-    (inl (leaves_then told mid now (looked_up profile) (looked_up script ∷ []) [] (gave by (profile ∷ []) told mid first) (gave events (script ∷ []) mid now second)))

@@ -156,7 +156,7 @@ part_executes follow command told old names at answer said e is so gets =
     ]
 
 noded_touches : {A : Type 0} (ended : Result A Fault) (names : List (List ℕ)) (at : Address) (answer : Result (List Turn) Fault) (told now : Option Told) → Gives ended names told now
-    → Touches ended (noded names at answer).named (noded names at answer).made told now
+    → Touches ended (noded names at answer).named (noded names at answer).acts told now
 noded_touches ended names at (Ok turns) told now gives = gives
 noded_touches ended names at (Err cause) told now gives = gives
 
@@ -213,8 +213,8 @@ pub no_script_given : (told : Outside) (command : Option Command) (kind : Script
     → LeavesFiles command told now (Err e)
 no_script_given told command kind profile script at turns mid now by e nodes passes first second =
     passed_given told command kind profile script at turns now by (Err e) nodes passes (elim second [
-      | inl all ↦ inl (leaves_then told.files mid now (looked_up profile) (looked_up script ∷ []) [] (gave by (profile ∷ []) told.files mid first) all)
-      | inr early ↦ inr (early.0, first_then told.files mid now (looked_up profile) (looked_up script ∷ []) [] (gave by (profile ∷ []) told.files mid first) early.1)
+      | inl all ↦ inl (leaves_then told.files mid now (looked_up profile) (looked_up script ∷ []) (gave by (profile ∷ []) told.files mid first) all)
+      | inr early ↦ inr (early.0, first_then told.files mid now (looked_up profile) (looked_up script ∷ []) (gave by (profile ∷ []) told.files mid first) early.1)
     ])
 
 -- ---- with both
@@ -224,7 +224,7 @@ pub both_given : {B : Type 0} (told : Outside) (command : Option Command) (kind 
     → LeavesFiles command told now ended
 both_given told command kind profile script at turns mid now by events ended nodes passes first second =
     passed_given told command kind profile script at turns now by ended nodes passes
-    (inl (leaves_then told.files mid now (looked_up profile) (looked_up script ∷ []) [] (gave by (profile ∷ []) told.files mid first) (gave events (script ∷ []) mid now second)))
+    (inl (leaves_then told.files mid now (looked_up profile) (looked_up script ∷ []) (gave by (profile ∷ []) told.files mid first) (gave events (script ∷ []) mid now second)))
 
 -- both were read: by what is to come, the verdict is that of these turns
 pub record Passed (told : Outside) (command : Option Command) (profile script : List ℕ) (at : Address) (turns : List ℕ → List (Option Parcel) → List Turn) : Type 0 where

@@ -22,16 +22,16 @@ use Rattle.q3_script.specs.declared.event.Event.{Event}
 use Rattle.q3_script.specs.declared.cause.ScriptKind.{ScriptKind}
 use Rattle.q3_script.specs.declared.cause.ScriptKind.TheVariants as kinds
 use Rattle.q3_script.specs.Script.{BadLine, script_at}
-use Rattle.q3_world.specs.Report.{report}
 use Rattle.q3net.specs.declared.command.Draws.{Draws}
 use Rattle.q3net.specs.declared.fault.Fault.{Fault}
 use Rattle.q3net.specs.declared.fault.Fault.TheVariants as faults
 use Rattle.q3net.specs.Command.{Command, Help, Version, Replay, Make, Trial, Serve, Join, Play}
 use Rattle.q3net.specs.Faults.{demo_fault, ReadCause, WriteCause, FileCause, WireCause}
 use Rattle.q3net.specs.Lines.{help_text, version_text, fault_status, ending_status}
-use Rattle.q3net.specs.Verdict.{Stops, Verdict, Outside, IsVerdict, stops_nowhere, takes_memory, reads_first, settled, profile_in, events_in, replayed, names_by, summary, tried, ending_of, noded, served, client_turns, joined, played, demo_played}
+use Rattle.q3net.specs.Verdict.{Stops, Verdict, Outside, IsVerdict, stops_nowhere, takes_memory, reads_first, Schedule, settled, profile_in, events_in, replayed, replay_done, names_by, summary, tried, ending_of, noded, served, client_turns, joined, played, demo_played}
 use Rattle.q3net.specs.Run.{Comes, ComesBehind, place_of, Executes, FilesFail, IsEarlyStatus, IsDecided, IsComplete, WiredBy, HandedOn, FailsBy, ExecutesWired}
 use Rattle.q3net.proofs.Ending.{comes_behind, settled_writes, settled_wire}
+use Rattle.q3net.proofs.Looking.{schedules}
 use Rattle.q3net.proofs.Refusing.{OfFault, OfInput, play_refuses}
 
 -- ---- what an input decides
@@ -58,8 +58,12 @@ events_of_input kind (Some bytes) = script_of_input (script_at kind bytes)
 
 replayed_of_input : (profile script : Option (List ℕ)) → OfInput (replayed profile script)
 replayed_of_input profile script =
-    bind_of_input (profile_in profile) (λ by. events_in kinds.Replay script >>= (λ events. Ok (report by events))) (profile_of_input profile)
-    (λ by. bind_of_input (events_in kinds.Replay script) (λ events. Ok (report by events)) (events_of_input kinds.Replay script) (λ events. tt))
+    bind_of_input (profile_in profile) (λ by. events_in kinds.Replay script >>= schedules by) (profile_of_input profile)
+    (λ by. bind_of_input (events_in kinds.Replay script) (schedules by) (events_of_input kinds.Replay script) (λ events. tt))
+
+done_of_input : (names : List (List ℕ)) (answer : Result Schedule Fault) → OfInput answer → OfInput (replay_done names answer).ending
+done_of_input names (Ok replay) so = tt
+done_of_input names (Err e) so = so
 
 tried_of_input : (profile : Option (List ℕ)) (draws : Draws) → OfInput (tried profile draws)
 tried_of_input profile draws =
@@ -119,7 +123,7 @@ pub verdict_of_input : (told : Outside) (command : Command) (verdict : Verdict) 
 verdict_of_input told Help verdict is = ending_of_input verdict stops_nowhere [] (Ok help_text) is tt
 verdict_of_input told Version verdict is = ending_of_input verdict stops_nowhere [] (Ok version_text) is tt
 verdict_of_input told (Replay profile script) verdict is =
-    ending_of_input verdict reads_first (names_by (profile_in is.0) profile script) (replayed is.0 is.1) is.4 (replayed_of_input is.0 is.1)
+    subst (λ (v : Verdict). OfInput v.ending) (sym is.4) (done_of_input (names_by (profile_in is.0) profile script) (replayed is.0 is.1) (replayed_of_input is.0 is.1))
 verdict_of_input told (Make draws) verdict is = ending_of_input verdict takes_memory [] (Ok (script_text (generated draws.number draws.seed))) is tt
 verdict_of_input told (Trial profile draws) verdict is = ending_of_input verdict reads_first (profile ∷ []) (tried is.0 draws) is.2 (tried_of_input is.0 draws)
 verdict_of_input told (Serve profile script at) verdict is =
@@ -185,12 +189,6 @@ no_wire : (verdict : Verdict) (stops : Stops) (names : List (List ℕ)) (answer 
     → (Comes stops.wire → ⊥) → Comes verdict.stops.wire → ⊥
 no_wire verdict stops names answer is none comes = none (settled_wire stops names answer (subst (λ (v : Verdict). Comes v.stops.wire) is comes))
 
-pub replay_makes_nothing : (told : Outside) (profile script : List ℕ) → Never (Some (Replay profile script)) told faults.FileWrite
-replay_makes_nothing told profile script verdict is = (
-  not_decided told (Replay profile script) verdict faults.FileWrite is (λ none. none),
-  no_writes verdict reads_first (names_by (profile_in is.0) profile script) (replayed is.0 is.1) is.4 (λ none. none),
-)
-
 pub make_makes_nothing : (told : Outside) (draws : Draws) → Never (Some (Make draws)) told faults.FileWrite
 make_makes_nothing told draws verdict is = (
   not_decided told (Make draws) verdict faults.FileWrite is (λ none. none),
@@ -240,10 +238,14 @@ play_wires_nothing told profile demo verdict is = (
   λ comes. demo_wire (names_by (profile_in is.0) profile demo) (played is.0 is.1) (subst (λ (v : Verdict). Comes v.stops.wire) is.4 comes),
 )
 
+done_wire : (names : List (List ℕ)) (answer : Result Schedule Fault) → Comes (replay_done names answer).stops.wire → ⊥
+done_wire names (Ok replay) comes = comes
+done_wire names (Err e) comes = comes
+
 pub replay_wires_nothing : (told : Outside) (profile script : List ℕ) → Never (Some (Replay profile script)) told faults.Wire
 replay_wires_nothing told profile script verdict is = (
   not_decided told (Replay profile script) verdict faults.Wire is (λ none. none),
-  no_wire verdict reads_first (names_by (profile_in is.0) profile script) (replayed is.0 is.1) is.4 (λ none. none),
+  λ comes. done_wire (names_by (profile_in is.0) profile script) (replayed is.0 is.1) (subst (λ (v : Verdict). Comes v.stops.wire) is.4 comes),
 )
 
 pub make_wires_nothing : (told : Outside) (draws : Draws) → Never (Some (Make draws)) told faults.Wire
@@ -396,6 +398,10 @@ settled_nowhere : (verdict : Verdict) (stops : Stops) (names : List (List ℕ)) 
 settled_nowhere verdict stops names (Ok text) is = ap (λ (v : Verdict). v.at) is
 settled_nowhere verdict stops names (Err e) is = ap (λ (v : Verdict). v.at) is
 
+done_nowhere : (verdict : Verdict) (names : List (List ℕ)) (answer : Result Schedule Fault) → verdict ≡ replay_done names answer → verdict.at ≡ None
+done_nowhere verdict names (Ok replay) is = ap (λ (v : Verdict). v.at) is
+done_nowhere verdict names (Err e) is = ap (λ (v : Verdict). v.at) is
+
 demo_nowhere : (verdict : Verdict) (names : List (List ℕ)) (answer : Result demos.Play Fault) → verdict ≡ demo_played names answer → verdict.at ≡ None
 demo_nowhere verdict names (Ok play) is = ap (λ (v : Verdict). v.at) is
 demo_nowhere verdict names (Err e) is = ap (λ (v : Verdict). v.at) is
@@ -405,7 +411,7 @@ binds_nothing told None verdict nodeless is = settled_nowhere verdict stops_nowh
 binds_nothing told (Some Help) verdict nodeless is = settled_nowhere verdict stops_nowhere [] (Ok help_text) is
 binds_nothing told (Some Version) verdict nodeless is = settled_nowhere verdict stops_nowhere [] (Ok version_text) is
 binds_nothing told (Some (Replay profile script)) verdict nodeless is =
-    settled_nowhere verdict reads_first (names_by (profile_in is.0) profile script) (replayed is.0 is.1) is.4
+    done_nowhere verdict (names_by (profile_in is.0) profile script) (replayed is.0 is.1) is.4
 binds_nothing told (Some (Make draws)) verdict nodeless is = settled_nowhere verdict takes_memory [] (Ok (script_text (generated draws.number draws.seed))) is
 binds_nothing told (Some (Trial profile draws)) verdict nodeless is = settled_nowhere verdict reads_first (profile ∷ []) (tried is.0 draws) is.2
 binds_nothing told (Some (Play profile demo)) verdict nodeless is = demo_nowhere verdict (names_by (profile_in is.0) profile demo) (played is.0 is.1) is.4

@@ -4,6 +4,7 @@ use Rattle.std.specs.Prelude.{◌⊎◌, true, false, IsSome, unwrap_or}
 use Rattle.std.proofs.lemmas.List.{take_all, take-append-drop, length-take, length-drop, length-append, take_at, append-nil}
 use Rattle.std.proofs.Math.Seq.{take-add, get_or-append_seam}
 use Rattle.q3_io.specs.declared.sink.Failed.{Failed}
+use Rattle.q3_io.specs.Acts.{after_acts}
 use Rattle.q3_io.specs.Told.{Told, Lookup, LooksUp, Gives, ReadsAt, contents_of, contents_at, after_asked, after_given, after_named}
 use Rattle.q3net.specs.Input.{looked_up, ReadsFile, ReadsPieces, ReadsWhole, LooksUpTold, LooksUpFirst}
 use Rattle.q3net.specs.declared.fault.Fault.{Fault}
@@ -120,6 +121,7 @@ file_read most (Some told) (Some mid) now file name result looks reads =
 
 pub file_given : (most : ℕ) (told mid now : Option Told) (file : ℕ) (name : List ℕ) (result : Result (List ℕ) Fault) → LooksUp told mid name (Ok file)
     → ReadsPieces most file mid now result → LooksUpTold told now (name ∷ [])
+unfolding after_acts
 file_given most None None now file name result looks reads = reads.0
 file_given most None (Some mid) now file name result looks reads = absurd cc
 file_given most (Some told) None now file name result looks reads = absurd (let e = looks.2 in cc)
@@ -129,9 +131,10 @@ file_given most (Some told) (Some mid) now file name result looks reads =
 
 -- a file that isn't there may have been named
 pub file_missing : (told now : Option Told) (name : List ℕ) (e : Failed) → LooksUp told now name (Err e) → LooksUpFirst told now (name ∷ [])
-file_missing None now name e looks = ([], [], (looked_up name ∷ [], refl), tt, looks)
+unfolding after_acts
+file_missing None now name e looks = ([], [], (looked_up name ∷ [], refl), inl ([], refl), looks)
 file_missing (Some told) now name e looks =
     elim looks [
-      | inl same ↦ ([], [], (looked_up name ∷ [], refl), tt, (told, same, record { files = refl; named = sym (append-nil told.named) }))
-      | inr after ↦ (looked_up name ∷ [], [], ([], refl), tt, (after_named told name Lookup, after, record { files = refl; named = refl }))
+      | inl same ↦ ([], [], (looked_up name ∷ [], refl), inl ([], refl), (told, same, record { files = refl; named = sym (append-nil told.named) }))
+      | inr after ↦ (looked_up name ∷ [], [], ([], refl), inl ([], refl), (after_named told name Lookup, after, record { files = refl; named = refl }))
     ]

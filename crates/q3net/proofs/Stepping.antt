@@ -79,12 +79,15 @@ HasStepped-more follow profile start now after had written more events k event i
       sym (drop-drop 1 k all) ∙ ap (λ (left : List Answered). drop 1 left) parts,
     )
 
--- the sink or memory failed at the k-th event
+-- the sink, a file or memory failed at the k-th event
 pub HasStepped-early : (follow : TextsFollow) (profile : Profile) (start now : Counting) (had written more : Option Written) (events : List Event) (k : ℕ) (event : Event) (e : StepError) → event ≡ get_or events k event → k < length events
     → HasStepped profile start now had written events k
     → ((whole : Whole) → StandsFor profile now.kept whole → Prints written more (lines_of (step profile whole event).answer) (Err e))
     → (whole : Whole) → StandsFor profile start.kept whole → AddsLines (answers profile whole events) had more (Err e)
 HasStepped-early follow profile start now had written more events k event errors.NoMemory is lt stepped lines whole begun =
+    let was = stepped whole begun in
+    (k, subst (λ (m : Option Written). Wrote had m (all_lines (take k (answers profile whole events))) true) (sym (lines was.0 was.1)) was.2)
+HasStepped-early follow profile start now had written more events k event errors.FileFault is lt stepped lines whole begun =
     let was = stepped whole begun in
     (k, subst (λ (m : Option Written). Wrote had m (all_lines (take k (answers profile whole events))) true) (sym (lines was.0 was.1)) was.2)
 HasStepped-early follow profile start now had written more events k event errors.WriteFault is lt stepped lines whole begun =

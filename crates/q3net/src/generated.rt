@@ -140,7 +140,8 @@ fn step_quietly(world: &mut World, event: &Event) -> Result<(), NoMemory>
     match world.step(event, &mut NullFiles, &mut NullSink) {
         Ok(()) => Ok(()),
         Err(StepError::NoMemory) => Err(NoMemory),
-        Err(StepError::WriteFault | StepError::FileFault) => unreachable!(),
+        Err(StepError::WriteFault) => unreachable!(),
+        Err(StepError::FileFault) => unreachable!(),
     }
 }
 

@@ -40,7 +40,10 @@ pub fn replay<F: Files, O: Sink>(
     let events = load_events(alloc, ScriptKind::Replay, script, files)?;
     let mut world = World::new(alloc, &profile)?;
     step_all(&mut world, &events, files, out)?;
-    world.finish(files).map_err(|_| Fault::FileWrite)
+    let Ok(()) = world.finish(files) else {
+        return Err(Fault::FileWrite);
+    };
+    Ok(())
 }
 
 /// Steps over the events: prints their lines, and writes what clients record.

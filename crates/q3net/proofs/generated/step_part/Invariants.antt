@@ -1,12 +1,13 @@
-use Rattle.std.proofs.Common.{◌≡◌, ◌+◌, ◌≤◌, List, ◌++◌, drop, length}
+use Rattle.std.proofs.Common.{◌+◌, ◌≤◌, List, ◌++◌, drop, length, None}
 use Rattle.q3_profile.specs.declared.profile.Profile.{Profile}
 use Rattle.q3_script.specs.declared.event.Event.{Event}
 use Rattle.q3_world.specs.declared.counts.Counts.{Counts}
+use Rattle.q3_world.specs.Files.{AreNumbered}
 use Rattle.q3net.specs.Trying.{CountsTo}
 use Rattle.q3net.proofs.generated.step_part.Given as goal
 
 abbrev pub invariant-loop-event : goal.invariant-loop-event
-invariant-loop-event g l =
+invariant-loop-event l =
     ((profile : Profile) (total : Counts) (behind : List Event) → CountsTo profile l.initial.world (l.events ++ behind) total → CountsTo profile l.world (drop l.event-index l.events ++ behind) total)
     × (length l.world.kept.datagrams ≤ length l.initial.world.kept.datagrams + l.event-index)
-    × (l.files ≡ l.initial.files)
+    × AreNumbered None 1 l.world.numbers l.world.kept.ends

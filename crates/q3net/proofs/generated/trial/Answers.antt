@@ -38,7 +38,7 @@ returns-in_err-try_script-clause-executes g c =
 
 pub returns-in_err-try_script-clause-gives : goal.returns-in_err-try_script-clause-gives
 returns-in_err-try_script-clause-gives g c =
-    rw c.in_err-try_script.ensures.files (trial_gave (g.F.Files.told c.args.files.now) (g.F.Files.told c.load_profile.new.files) c.args.profile.now c.args.draws c.in_ok-profile.profile _ c.in_ok-profile.ensures.gives)
+    trial_gave (g.F.Files.told c.args.files.now) (g.F.Files.told c.load_profile.new.files) c.args.profile.now c.args.draws c.in_ok-profile.profile _ c.in_ok-profile.ensures.gives
 
 pub returns-clause-executes : goal.returns-clause-executes
 returns-clause-executes g c =
@@ -51,12 +51,12 @@ returns-clause-executes g c =
 
 pub returns-clause-gives : goal.returns-clause-gives
 returns-clause-gives g c =
-    rw c.in_ok-try_script.ensures.files (trial_gave (g.F.Files.told c.args.files.now) (g.F.Files.told c.load_profile.new.files) c.args.profile.now c.args.draws c.in_ok-profile.profile _ c.in_ok-profile.ensures.gives)
+    trial_gave (g.F.Files.told c.args.files.now) (g.F.Files.told c.load_profile.new.files) c.args.profile.now c.args.draws c.in_ok-profile.profile _ c.in_ok-profile.ensures.gives
 
 pub returns-in_err-try_script-clause-read_cause : goal.returns-in_err-try_script-clause-read_cause
 returns-in_err-try_script-clause-read_cause g c =
     let p = err_from_is_err_and c.from_residual-in_err-try_script.result c.from_residual-in_err-try_script.ensures.1 in
-    rw (p.1, p.2, c.try_script.ensures.files) c.in_ok-profile.ensures.read_cause
+    rw (p.1, p.2) c.in_ok-profile.ensures.read_cause
 
 pub returns-in_err-try_script-clause-write_cause : goal.returns-in_err-try_script-clause-write_cause
 returns-in_err-try_script-clause-write_cause g c =

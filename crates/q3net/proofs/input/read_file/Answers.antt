@@ -1,5 +1,6 @@
 use Rattle.std.proofs.Common.{inl, inr}
 use Rattle.q3net.specs.Input.{with_items}
+use Rattle.q3net.proofs.Demoing.{found_gives}
 use Rattle.q3net.proofs.Reading.{file_read, file_given, file_missing}
 use Rattle.q3net.proofs.input.read_file.Goals as goal
 
@@ -16,3 +17,6 @@ returns-clause-gives g c =
 pub returns-in_default-clause-gives : goal.returns-in_default-clause-gives
 returns-in_default-clause-gives g c =
     inr (tt, file_missing (g.F.Files.told c.args.files.now) (g.F.Files.told c.lookup.new.self) c.args.name.now c.in_default.field-0 c.in_default.ensures.told)
+
+pub returns-in_err-piece-clause-gives : goal.returns-in_err-piece-clause-gives
+returns-in_err-piece-clause-gives g c = inl (found_gives c.args.name.now (g.F.Files.told c.args.files.now) (g.F.Files.told c.lookup.new.self) c.in-Ok.file c.in-Ok.ensures.told)

@@ -1,10 +1,11 @@
-use Rattle.std.proofs.Common.{List, Ok, Err, ap, subst, ◌∙◌, arith}
+use Rattle.std.proofs.Common.{ℕ, List, Ok, Err, subst, ◌∙◌, arith}
 use Rattle.std.proofs.lemmas.Result.{err_from_is_err_and}
 use Rattle.q3_script.specs.declared.event.Event.{Event}
 use Rattle.q3_world.specs.World.{opening, answers}
-use Rattle.q3net.specs.Run.{AddsLines}
-use Rattle.q3net.proofs.Looking.{profile_gives, script_gives, both_given}
-use Rattle.q3net.proofs.Replaying.{profile_ended, events_ended, both_read, memory_ended, steps_ended, steps_done, nothing_sent, step_read_cause, step_write_cause}
+use Rattle.q3_io.specs.Faults.{HasCause}
+use Rattle.q3_world.specs.Files.{acts_from, ending_acts, by_files}
+use Rattle.q3net.specs.Run.{AddsLines, DoesFirst}
+use Rattle.q3net.proofs.Replaying.{profile_ended, events_ended, both_read, memory_ended, steps_ended, steps_done, finish_failed, profile_gives, script_gives, both_looked, memory_left, steps_left, finish_left, all_done, nothing_sent, step_read_cause, step_write_cause, step_file_cause}
 use Rattle.q3net.proofs.replay.replay.Goals as goal
 
 pub returns-in_err-profile-clause-executes : goal.returns-in_err-profile-clause-executes
@@ -28,7 +29,7 @@ pub returns-in_err-events-clause-gives : goal.returns-in_err-events-clause-gives
 returns-in_err-events-clause-gives g c =
     let p = err_from_is_err_and c.from_residual-in_err-events.result c.from_residual-in_err-events.ensures.1 in
     rw (p.1, p.2) (script_gives (g.F.Files.told c.args.files.now) (g.F.Files.told c.load_profile.new.files) (g.F.Files.told c.load_events.new.files) c.args.profile.now c.args.script.now c.in_ok-profile.profile c.in_err-events.field-0.0
-    c.in_ok-profile.ensures.gets c.in_ok-profile.ensures.gives c.in_err-events.ensures.gives)
+    c.in_ok-profile.ensures.gets c.in_ok-profile.ensures.gives c.in_err-events.ensures.gets c.in_err-events.ensures.gives)
 
 pub returns-in_err-world-clause-executes : goal.returns-in_err-world-clause-executes
 returns-in_err-world-clause-executes g c =
@@ -57,28 +58,66 @@ returns-clause-executes g c =
     steps_done (g.F.Files.told c.args.files.now) c.args.profile.now c.args.script.now c.in_ok-profile.profile c.in_ok-events.events.items (g.O.Sink.written c.args.out.now)
     (g.O.Sink.written c.step_all.new.out) read (rw c.deref.ensures.value at (c.in_ok-step_all.ensures.adds c.in_ok-profile.profile (opening c.in_ok-profile.profile) c.in_ok-world.ensures.stands))
 
+pub returns-in_default-clause-executes : goal.returns-in_default-clause-executes
+returns-in_default-clause-executes g c =
+    let read = both_read (g.F.Files.told c.args.files.now) (g.F.Files.told c.load_profile.new.files) c.args.profile.now c.args.script.now c.in_ok-profile.profile c.in_ok-events.events.items
+    c.in_ok-profile.ensures.gets c.in_ok-profile.ensures.gives c.in_ok-events.ensures.gets in
+    finish_failed (g.F.Files.told c.args.files.now) c.args.profile.now c.args.script.now c.in_ok-profile.profile c.in_ok-events.events.items (g.O.Sink.written c.args.out.now)
+    (g.O.Sink.written c.step_all.new.out) read (rw c.deref.ensures.value at (c.in_ok-step_all.ensures.adds c.in_ok-profile.profile (opening c.in_ok-profile.profile) c.in_ok-world.ensures.stands))
+
 pub returns-in_err-world-clause-gives : goal.returns-in_err-world-clause-gives
 returns-in_err-world-clause-gives g c =
-    both_given (g.F.Files.told c.args.files.now) (g.F.Files.told c.load_profile.new.files) (g.F.Files.told c.load_events.new.files) c.args.profile.now c.args.script.now c.in_ok-profile.profile c.in_ok-events.events _
-    c.in_ok-profile.ensures.gets c.in_ok-profile.ensures.gives c.in_ok-events.ensures.gives
+    let p = err_from_is_err_and c.from_residual-in_err-world.result c.from_residual-in_err-world.ensures.1 in
+    let read = both_read (g.F.Files.told c.args.files.now) (g.F.Files.told c.load_profile.new.files) c.args.profile.now c.args.script.now c.in_ok-profile.profile c.in_ok-events.events.items
+    c.in_ok-profile.ensures.gets c.in_ok-profile.ensures.gives c.in_ok-events.ensures.gets in
+    let looked = both_looked (g.F.Files.told c.args.files.now) (g.F.Files.told c.load_profile.new.files) (g.F.Files.told c.load_events.new.files) c.args.profile.now c.args.script.now c.in_ok-profile.profile c.in_ok-events.events
+    c.in_ok-profile.ensures.gives c.in_ok-events.ensures.gives in
+    rw (p.1, p.2) (memory_left (g.F.Files.told c.args.files.now) (g.F.Files.told c.load_events.new.files) c.args.profile.now c.args.script.now c.in_ok-profile.profile c.in_ok-events.events.items read looked)
 
 pub returns-in_err-step_all-clause-gives : goal.returns-in_err-step_all-clause-gives
 returns-in_err-step_all-clause-gives g c =
-    rw c.in_err-step_all.ensures.files (both_given (g.F.Files.told c.args.files.now) (g.F.Files.told c.load_profile.new.files) (g.F.Files.told c.load_events.new.files) c.args.profile.now c.args.script.now c.in_ok-profile.profile
-    c.in_ok-events.events _ c.in_ok-profile.ensures.gets c.in_ok-profile.ensures.gives c.in_ok-events.ensures.gives)
+    let p = err_from_is_err_and c.from_residual-in_err-step_all.result c.from_residual-in_err-step_all.ensures.1 in
+    let read = both_read (g.F.Files.told c.args.files.now) (g.F.Files.told c.load_profile.new.files) c.args.profile.now c.args.script.now c.in_ok-profile.profile c.in_ok-events.events.items
+    c.in_ok-profile.ensures.gets c.in_ok-profile.ensures.gives c.in_ok-events.ensures.gets in
+    let looked = both_looked (g.F.Files.told c.args.files.now) (g.F.Files.told c.load_profile.new.files) (g.F.Files.told c.load_events.new.files) c.args.profile.now c.args.script.now c.in_ok-profile.profile c.in_ok-events.events
+    c.in_ok-profile.ensures.gives c.in_ok-events.ensures.gives in
+    let does = subst (λ (events : List Event). DoesFirst (g.F.Files.told c.load_events.new.files) (g.F.Files.told c.step_all.new.files) (acts_from c.in_ok-world.world.kept events) (ending_acts c.step_all.new.world.kept.ends) (Err c.in_err-step_all.field-0.0)) c.deref.ensures.value c.in_err-step_all.ensures.files in
+    rw (p.1, p.2) (steps_left (g.F.Files.told c.args.files.now) (g.F.Files.told c.load_events.new.files) (g.F.Files.told c.step_all.new.files) c.args.profile.now c.args.script.now c.in_ok-profile.profile c.in_ok-events.events.items
+    c.in_ok-world.world.kept (ending_acts c.step_all.new.world.kept.ends) c.in_err-step_all.field-0.0 read looked c.in_ok-world.ensures.stands does)
+
+pub returns-in_default-clause-gives : goal.returns-in_default-clause-gives
+returns-in_default-clause-gives g c =
+    let read = both_read (g.F.Files.told c.args.files.now) (g.F.Files.told c.load_profile.new.files) c.args.profile.now c.args.script.now c.in_ok-profile.profile c.in_ok-events.events.items
+    c.in_ok-profile.ensures.gets c.in_ok-profile.ensures.gives c.in_ok-events.ensures.gets in
+    let looked = both_looked (g.F.Files.told c.args.files.now) (g.F.Files.told c.load_profile.new.files) (g.F.Files.told c.load_events.new.files) c.args.profile.now c.args.script.now c.in_ok-profile.profile c.in_ok-events.events
+    c.in_ok-profile.ensures.gives c.in_ok-events.ensures.gives in
+    let does = subst (λ (events : List Event). DoesFirst (g.F.Files.told c.load_events.new.files) (g.F.Files.told c.step_all.new.files) (acts_from c.in_ok-world.world.kept events) (ending_acts c.step_all.new.world.kept.ends) (Ok tt)) c.deref.ensures.value c.in_ok-step_all.ensures.files in
+    finish_left (g.F.Files.told c.args.files.now) (g.F.Files.told c.load_events.new.files) (g.F.Files.told c.step_all.new.files) (g.F.Files.told c.finish.new.files) c.args.profile.now c.args.script.now c.in_ok-profile.profile c.in_ok-events.events.items
+    c.in_ok-world.world.kept (ending_acts c.step_all.new.world.kept.ends) c.in_default.field-0 read looked c.in_ok-world.ensures.stands does c.in_default.ensures.files.acts_on
 
 pub returns-clause-gives : goal.returns-clause-gives
 returns-clause-gives g c =
-    rw c.in_ok-step_all.ensures.files (both_given (g.F.Files.told c.args.files.now) (g.F.Files.told c.load_profile.new.files) (g.F.Files.told c.load_events.new.files) c.args.profile.now c.args.script.now c.in_ok-profile.profile
-    c.in_ok-events.events (Ok tt) c.in_ok-profile.ensures.gets c.in_ok-profile.ensures.gives c.in_ok-events.ensures.gives)
+    let read = both_read (g.F.Files.told c.args.files.now) (g.F.Files.told c.load_profile.new.files) c.args.profile.now c.args.script.now c.in_ok-profile.profile c.in_ok-events.events.items
+    c.in_ok-profile.ensures.gets c.in_ok-profile.ensures.gives c.in_ok-events.ensures.gets in
+    let looked = both_looked (g.F.Files.told c.args.files.now) (g.F.Files.told c.load_profile.new.files) (g.F.Files.told c.load_events.new.files) c.args.profile.now c.args.script.now c.in_ok-profile.profile c.in_ok-events.events
+    c.in_ok-profile.ensures.gives c.in_ok-events.ensures.gives in
+    let does = subst (λ (events : List Event). DoesFirst (g.F.Files.told c.load_events.new.files) (g.F.Files.told c.step_all.new.files) (acts_from c.in_ok-world.world.kept events) (ending_acts c.step_all.new.world.kept.ends) (Ok tt)) c.deref.ensures.value c.in_ok-step_all.ensures.files in
+    all_done (g.F.Files.told c.args.files.now) (g.F.Files.told c.load_events.new.files) (g.F.Files.told c.step_all.new.files) (g.F.Files.told c.finish.new.files) c.args.profile.now c.args.script.now c.in_ok-profile.profile c.in_ok-events.events.items
+    c.in_ok-world.world.kept (ending_acts c.step_all.new.world.kept.ends) read looked c.in_ok-world.ensures.stands does c.in-Ok.ensures.files.acts_on
 
 pub returns-in_err-step_all-clause-read_cause : goal.returns-in_err-step_all-clause-read_cause
 returns-in_err-step_all-clause-read_cause g c =
     let p = err_from_is_err_and c.from_residual-in_err-step_all.result c.from_residual-in_err-step_all.ensures.1 in
     rw (p.1, p.2) (step_read_cause (g.F.Files.faults c.args.files.now) (g.F.Files.faults c.step_all.new.files) c.in_err-step_all.field-0.0
-    (ap (λ files. g.F.Files.faults files) c.step_all.ensures.files ∙ (c.in_ok-events.ensures.read_cause ∙ c.in_ok-profile.ensures.read_cause)))
+    (c.step_all.ensures.reads ∙ (c.in_ok-events.ensures.read_cause ∙ c.in_ok-profile.ensures.read_cause)))
 
 pub returns-in_err-step_all-clause-write_cause : goal.returns-in_err-step_all-clause-write_cause
 returns-in_err-step_all-clause-write_cause g c =
     let p = err_from_is_err_and c.from_residual-in_err-step_all.result c.from_residual-in_err-step_all.ensures.1 in
     rw (p.1, p.2) (step_write_cause (g.O.Sink.faults c.args.out.now) (g.O.Sink.faults c.step_all.new.out) c.in_err-step_all.field-0.0 c.in_err-step_all.ensures.cause)
+
+pub returns-in_err-step_all-clause-file_cause : goal.returns-in_err-step_all-clause-file_cause
+returns-in_err-step_all-clause-file_cause g c =
+    let p = err_from_is_err_and c.from_residual-in_err-step_all.result c.from_residual-in_err-step_all.ensures.1 in
+    rw (p.1, p.2) (step_file_cause (g.F.Files.write_faults c.args.files.now) (g.F.Files.write_faults c.step_all.new.files) c.in_err-step_all.field-0.0
+    (subst (λ (n : ℕ). HasCause n (g.F.Files.write_faults c.step_all.new.files) (by_files (Err c.in_err-step_all.field-0.0))) (c.in_ok-events.ensures.writes ∙ c.in_ok-profile.ensures.writes) c.in_err-step_all.ensures.file_cause))

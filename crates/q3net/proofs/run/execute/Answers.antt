@@ -6,7 +6,7 @@ use Rattle.q3net.specs.Lines.{help_text, version_text}
 use Rattle.q3net.specs.Verdict.{outside, of_files, stops_nowhere, takes_memory}
 use Rattle.q3net.proofs.Ending.{none_executes, text_executes}
 use Rattle.q3net.proofs.Looking.{none_given, text_given}
-use Rattle.q3net.proofs.Outside.{no_file_fails, no_read_fails, no_wire_fails, wire_stays, executes_of, replay_makes_nothing, make_makes_nothing, trial_makes_nothing, serve_makes_nothing, join_makes_nothing, play_makes_nothing, play_wires_nothing, replay_wires_nothing, make_wires_nothing, trial_wires_nothing, make_reads_nothing}
+use Rattle.q3net.proofs.Outside.{no_file_fails, no_read_fails, no_wire_fails, wire_stays, executes_of, make_makes_nothing, trial_makes_nothing, serve_makes_nothing, join_makes_nothing, play_makes_nothing, play_wires_nothing, replay_wires_nothing, make_wires_nothing, trial_wires_nothing, make_reads_nothing}
 use Rattle.q3net.proofs.run.execute.Goals as goal
 
 pub returns-in-None-clause-gives : goal.returns-in-None-clause-gives
@@ -40,12 +40,6 @@ returns-in-Some-Make-clause-file_cause g c =
     no_file_fails (Some (Make c.in-Some-Make.draws)) (outside (g.F.Files.told c.args.files.now) (g.W.Wire.told c.args.wire.now) (g.C.Clock.readings c.args.clock.now)) (g.O.Sink.written c.args.out.now) (g.O.Sink.written c.make.new.out) c.make.result
     (g.F.Files.write_faults c.args.files.now) (g.F.Files.write_faults c.args.files.now) (make_makes_nothing (outside (g.F.Files.told c.args.files.now) (g.W.Wire.told c.args.wire.now) (g.C.Clock.readings c.args.clock.now)) c.in-Some-Make.draws)
     (c.make.ensures.executes (outside (g.F.Files.told c.args.files.now) (g.W.Wire.told c.args.wire.now) (g.C.Clock.readings c.args.clock.now))) refl
-
-pub returns-in-Some-Replay-clause-file_cause : goal.returns-in-Some-Replay-clause-file_cause
-returns-in-Some-Replay-clause-file_cause g c =
-    no_file_fails (Some (Replay c.in-Some-Replay.profile.now c.in-Some-Replay.script.now)) (of_files (g.F.Files.told c.args.files.now)) (g.O.Sink.written c.args.out.now) (g.O.Sink.written c.replay.new.out) c.replay.result
-    (g.F.Files.write_faults c.args.files.now) (g.F.Files.write_faults c.replay.new.files) (replay_makes_nothing (of_files (g.F.Files.told c.args.files.now)) c.in-Some-Replay.profile.now c.in-Some-Replay.script.now)
-    c.replay.ensures.executes c.replay.ensures.writes
 
 pub returns-in-Some-Trial-clause-file_cause : goal.returns-in-Some-Trial-clause-file_cause
 returns-in-Some-Trial-clause-file_cause g c =
