@@ -1,11 +1,11 @@
 -- What calls do to files, as acts.
-use Rattle.std.proofs.Common.{true, false, ◌≡◌, ℕ, ◌<◌, ◌≤◌, List, [], ◌∷◌, ◌++◌, length, Option, Some, None, Result, Ok, Err, refl, sym, ap, subst, ◌∙◌, inl, inr, arith}
+use Rattle.std.proofs.Common.{true, false, ◌≡◌, ℕ, ◌<◌, ◌≤◌, List, [], ◌∷◌, ◌++◌, length, Option, Some, None, Result, Ok, Err, refl, sym, ap, subst, ◌∙◌, append_assoc, inl, inr, arith}
 use Rattle.std.specs.Prelude.{slice_index_or, get_or}
 use Rattle.std.specs.Option.{is_some}
 use Rattle.std.proofs.lemmas.List.{get_or_append_left}
 use Rattle.std.proofs.Math.Seq.{get_or-append_seam}
 use Rattle.q3_io.specs.declared.sink.Failed.{Failed}
-use Rattle.q3_io.specs.Acts.{FileAct, Makes, Extends, ActsOn, after_act, after_acts}
+use Rattle.q3_io.specs.Acts.{FileAct, Makes, Extends, ActsOn, BreaksOff, after_act, after_acts}
 use Rattle.q3_io.specs.Faults.{HasCause}
 use Rattle.q3_io.specs.Told.{Told, Appends, Create, Creates, IsGiven, name_of, after_named}
 use Rattle.q3_demo.specs.Recorder.{AppendsBytes, done}
@@ -156,3 +156,74 @@ none_goes (Some going) is = absurd cc
 pub begins_new : (client : ClientState) (recording : Option RecordingState) (fresh : RecordingState) → client.state.has_game ≡ true → recording ≡ None
     → (begin_at client recording fresh).acts ≡ Makes fresh.name ∷ []
 begins_new client recording fresh has none = rw (none, has) refl
+
+-- ---- one after the other
+
+acts_over : (told : Told) (first second : List FileAct) → after_acts told (first ++ second) ≡ after_acts (after_acts told first) second
+unfolding after_acts
+acts_over told [] second = refl
+acts_over told (act ∷ first) second = acts_over (after_act told act) first second
+
+pub acts_both : (told mid now : Option Told) (first second : List FileAct) (result : Result (Unit {0}) Failed) → ActsOn told mid first (Ok tt) → ActsOn mid now second result
+    → ActsOn told now (first ++ second) result
+acts_both None mid now first second result before behind = subst (λ (m : Option Told). ActsOn m now second result) before behind
+acts_both (Some told) mid now first second (Ok x) before behind =
+    let then = subst (λ (m : Option Told). ActsOn m now second (Ok x)) before behind in
+    then ∙ ap (λ (t : Told). Some t) (sym (acts_over told first second))
+acts_both (Some told) mid now first second (Err e) before behind =
+    let then = subst (λ (m : Option Told). ActsOn m now second (Err e)) before behind in (
+      first ++ then.0,
+      then.1,
+      then.2,
+      ap (λ (acts : List FileAct). first ++ acts) then.3 ∙ sym (append_assoc first then.0 (then.1 ∷ then.2)),
+      then.4,
+      then.5,
+      subst (λ (t : Told). BreaksOff t then.1 then.4) (sym (acts_over told first then.0)) then.6,
+    )
+
+-- what broke off breaks off what is longer
+acts_more : (told now : Option Told) (acts more : List FileAct) (e : Failed) → ActsOn told now acts (Err e) → ActsOn told now (acts ++ more) (Err e)
+acts_more None now acts more e is = is
+acts_more (Some told) now acts more e is = (
+  is.0,
+  is.1,
+  is.2 ++ more,
+  ap (λ (a : List FileAct). a ++ more) is.3 ∙ append_assoc is.0 (is.1 ∷ is.2) more,
+  is.4,
+  is.5,
+  is.6,
+)
+
+some_more : (acts more : List FileAct) → (acts ≡ [] → ⊥) → acts ++ more ≡ [] → ⊥
+some_more [] more some none = some refl
+some_more (act ∷ acts) more some none = absurd cc
+
+some_both : (first acts : List FileAct) → (acts ≡ [] → ⊥) → first ++ acts ≡ [] → ⊥
+some_both [] acts some none = some none
+some_both (act ∷ first) acts some none = absurd cc
+
+pub writes_both : {told mid now : Option Told} {given between behind faults faults' faults'' write_faults write_faults' write_faults'' : ℕ} {first second : List FileAct} {result : Result (Unit {0}) Failed}
+    → WritesFiles told mid given between faults faults' write_faults write_faults' first (Ok tt) → WritesFiles mid now between behind faults' faults'' write_faults' write_faults'' second result
+    → WritesFiles told now given behind faults faults'' write_faults write_faults'' (first ++ second) result
+writes_both {told} {mid} {now} {given} {between} {behind} {faults} {faults'} {faults''} {write_faults} {write_faults'} {write_faults''} {first} {second} {result} before after =
+    let le = before.numbers in
+    let more = after.numbers in
+    record {
+      acts_on = acts_both told mid now first second result before.acts_on after.acts_on;
+      some = λ failed. some_both first second (after.some failed);
+      numbers = omega (arith, le, more);
+      reads = after.reads ∙ before.reads;
+      names = λ file name lt is. after.names file name (omega (arith, lt, le)) (before.names file name lt is);
+      cause = subst (λ (w : ℕ). HasCause w write_faults'' result) (before.cause.ok refl) after.cause;
+    }
+
+pub writes_more : {told now : Option Told} {given behind faults faults' write_faults write_faults' : ℕ} {acts : List FileAct} {e : Failed} (more : List FileAct)
+    → WritesFiles told now given behind faults faults' write_faults write_faults' acts (Err e) → WritesFiles told now given behind faults faults' write_faults write_faults' (acts ++ more) (Err e)
+writes_more {told} {now} {given} {behind} {faults} {faults'} {write_faults} {write_faults'} {acts} {e} more is = record {
+  acts_on = acts_more told now acts more e is.acts_on;
+  some = λ failed. some_more acts more (is.some refl);
+  numbers = is.numbers;
+  reads = is.reads;
+  names = is.names;
+  cause = is.cause;
+}

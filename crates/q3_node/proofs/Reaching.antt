@@ -8,7 +8,7 @@ use Rattle.std.proofs.lemmas.Bool.Decides.{nat_tests}
 use Rattle.q3_io.specs.Readings.{reading_of, readings_after, DontFall}
 use Rattle.q3_io.specs.Traffic.{Parcel, next_of}
 use Rattle.q3_script.specs.declared.event.Event.{Event}
-use Rattle.q3_script.specs.declared.event.Event.TheVariants.{Client, Port, Map, Entity, Remove, Baseline, Player, Area, Time, Config, Say, TypeText, Move, Serve, Send, Deliver, Show, Bytes, Toclient, Toserver, At, End}
+use Rattle.q3_script.specs.declared.event.Event.TheVariants.{Client, Port, Map, Entity, Remove, Baseline, Player, Area, Time, Config, Say, TypeText, Move, Serve, Send, Deliver, RecordTo, Stop, Show, Bytes, Toclient, Toserver, At, End}
 use Rattle.q3_script.specs.Grammar.{TimesRise, EndsLast}
 use Rattle.q3_node.specs.Node.{Rules, Node, Turn, Turned, due_at, time_behind, is_end, start_at, due, line_turn, receive_turn, turn_of, turn_at, turns_of, arrivals_after, did_end}
 use Rattle.q3_node.specs.Running.{readings_behind}
@@ -43,6 +43,8 @@ line_sort (Move c one) = inr (record { behind = λ t. refl; due = λ t. refl; en
 line_sort (Serve c) = inr (record { behind = λ t. refl; due = λ t. refl; ends = refl; rise = λ l es is. is; last = λ es is. is; time = λ es. refl })
 line_sort (Send c) = inr (record { behind = λ t. refl; due = λ t. refl; ends = refl; rise = λ l es is. is; last = λ es is. is; time = λ es. refl })
 line_sort (Deliver datagram) = inr (record { behind = λ t. refl; due = λ t. refl; ends = refl; rise = λ l es is. is; last = λ es is. is; time = λ es. refl })
+line_sort (RecordTo c name) = inr (record { behind = λ t. refl; due = λ t. refl; ends = refl; rise = λ l es is. is; last = λ es is. is; time = λ es. refl })
+line_sort (Stop c) = inr (record { behind = λ t. refl; due = λ t. refl; ends = refl; rise = λ l es is. is; last = λ es is. is; time = λ es. refl })
 line_sort (Show c) = inr (record { behind = λ t. refl; due = λ t. refl; ends = refl; rise = λ l es is. is; last = λ es is. is; time = λ es. refl })
 line_sort (Bytes datagram) = inr (record { behind = λ t. refl; due = λ t. refl; ends = refl; rise = λ l es is. is; last = λ es is. is; time = λ es. refl })
 line_sort (Toclient c bytes) = inr (record { behind = λ t. refl; due = λ t. refl; ends = refl; rise = λ l es is. is; last = λ es is. is; time = λ es. refl })

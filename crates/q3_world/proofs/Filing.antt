@@ -1,18 +1,40 @@
 -- What calls do to files, and which numbers stand for the files of recordings.
-use Rattle.std.proofs.Common.{◌≡◌, ◌≢◌, ℕ, ◌<◌, ◌≤◌, List, [], length, set, Option, Some, None, Result, Ok, Err, refl, sym, subst, ◌∙◌, inl, inr, arith}
-use Rattle.std.specs.Prelude.{IsErrOf, slice_index}
-use Rattle.std.proofs.lemmas.Bool.{cases_eq}
-use Rattle.std.proofs.lemmas.List.{get_or-set_other, get_or-set_same}
+use Rattle.std.proofs.Common.{◌≡◌, ◌≢◌, ℕ, ◌<◌, ◌≤◌, List, [], length, get_or, set, Option, Some, None, Result, Ok, Err, refl, sym, subst, ◌∙◌, inl, inr, arith}
+use Rattle.std.specs.Prelude.{IfSome, IsErrOf, ◌⊎◌, nat_lt, slice_get, slice_index}
+use Rattle.std.proofs.lemmas.Bool.{cases_Bool, cases_eq, ltb-false, ltb-true}
+use Rattle.std.proofs.lemmas.Option.{slice_get_cases}
+use Rattle.std.proofs.Math.ListN.{get_or-eq_default}
+use Rattle.std.proofs.Math.Seq.{set_out}
+use Rattle.std.proofs.lemmas.List.{get_or_default, get_or-set_other, get_or-set_same}
 use Rattle.q3_io.specs.Acts.{FileAct}
 use Rattle.q3_io.specs.Told.{Told}
-use Rattle.q3_server.specs.Server.{places}
-use Rattle.q3_ends.specs.Recording.{RecordingState, HasFile, StandsForName, WritesFiles}
+use Rattle.q3_profile.specs.declared.profile.Profile.{Profile}
+use Rattle.q3_io.specs.declared.address.Address.{Address}
+use Rattle.q3_script.specs.declared.event.Event.{Event}
+use Rattle.q3_script.specs.declared.event.Event.TheVariants as events
+use Rattle.q3_client.specs.Client.{ClientState, new_client}
+use Rattle.q3_client.specs.Sending as speaks
+use Rattle.q3_server.specs.declared.server.SlotError.{SlotError}
+use Rattle.q3_report.specs.declared.answer.Front.TheVariants as fronts
+use Rattle.q3_report.specs.declared.answer.HandedIn.{HandedIn}
+use Rattle.q3_world.specs.declared.made.Direction.TheVariants.{ToClient, ToServer}
+use Rattle.q3_ends.specs.AtClient.{ClientStep}
+use Rattle.q3_clmsg.specs.declared.moves.Move.{Move}
+use Rattle.q3_ends.specs.AtServer.{ServerStep, server_line}
+use Rattle.q3_world.specs.Kept.{Kept, SentBytes, deliver_at, kept_send}
+use Rattle.q3_server.specs.Server.{ServerState, add_client_at, places}
+use Rattle.q3_ends.specs.Recording.{RecordingState, asking, HasFile, StandsForName, WritesFiles, stop_at}
 use Rattle.q3_ends.proofs.Files.{writes_nothing}
 use Rattle.q3_world.specs.declared.places.Place.{Place}
 use Rattle.q3_world.specs.declared.told.StepError.{StepError}
 use Rattle.q3_world.specs.declared.told.StepError.TheVariants.{NoMemory, WriteFault, FileFault}
-use Rattle.q3_world.specs.Ends.{Ends, place_at, with_place}
-use Rattle.q3_world.specs.Files.{AreNumbered, DoesFiles, recording_at}
+use Rattle.q3_world.specs.Ends.{Ends, place_at, recording_at, with_place, client_takes, game_step, hand_server_of, join, joined, line_of, server_takes, set_port_of, step_in, to_client}
+use Rattle.q3_io.specs.Written.{Written}
+use Rattle.q3_world.specs.declared.counts.Counts.{Counts}
+use Rattle.q3_world.specs.Counts.{Counting}
+use Rattle.q3_world.specs.Doing.{EndsDo, LeavesRecordings, Tells}
+use Rattle.q3_world.specs.Ends.{EndsStep}
+use Rattle.q3_world.specs.Files.{AreNumbered, DoesFiles, line_acts, deliver_acts, take_acts}
 use Rattle.q3_world.proofs.OnePlace.{set_there}
 
 -- nothing is done
@@ -69,7 +91,182 @@ numbered_new told now given behind c number numbers ends place names le lt room 
     ap_recording : {one other : Option Place} → one ≡ other → recording_at one ≡ recording_at other
     ap_recording is = rw is refl
 
+-- nobody is at a place
+pub numbered_gone : (told : Option Told) (given c : ℕ) (numbers : List ℕ) (ends : Ends) (found : Option Place) → found ≡ None → c < places → length ends.clients ≡ places
+    → AreNumbered told given numbers ends → AreNumbered told given numbers (record ends { clients = set ends.clients c found })
+numbered_gone told given c numbers ends found gone lt count numbered =
+    numbered_at told told given given c numbers numbers ends (record ends { clients = set ends.clients c found }) (λ file name lt is. is) (omega arith) (λ d not. refl)
+    (λ d not. rw (get_or-set_other ends.clients c d found None not) refl)
+    (subst (λ (there : Option Place). HasFile told given (slice_index numbers c) (recording_at there)) (sym (set_there ends.clients c None found count lt ∙ gone)) tt) numbered
+
+-- a recording that has its end needs no file
+pub stopped_file : (told : Option Told) (given file : ℕ) (recording : Option RecordingState) → HasFile told given file (stop_at recording).recording
+stopped_file told given file None = tt
+stopped_file told given file (Some recording) = tt
+
 -- nobody changes
 pub numbered_same : (told : Option Told) (given : ℕ) (numbers : List ℕ) (old new : Ends) → ((d : ℕ) → recording_at (place_at new d) ≡ recording_at (place_at old d))
     → AreNumbered told given numbers old → AreNumbered told given numbers new
 numbered_same told given numbers old new same numbered = λ d lt. subst (λ (r : Option RecordingState). HasFile told given (slice_index numbers d) r) (sym (same d)) (numbered d lt)
+
+-- ---- a place of the ends
+
+-- a place that was looked up
+pub at_place : (clients : List (Option Place)) (c : ℕ) (found : Option Place) → found ≡ get_or clients c found → c < length clients → get_or clients c None ≡ found
+at_place clients c found is lt = get_or_default clients c None found lt ∙ sym is
+
+-- an answer was told, and nothing else was done
+pub tells_ends : (old new : Ends) (counts_old counts : Counts) (before behind : Option Written) (were are : ℕ) (step : EndsStep) (result : Result (Unit {0}) StepError) → new ≡ step.ends
+    → Tells counts_old counts before behind were are step.answer result → EndsDo old new counts_old counts before behind were are step result
+tells_ends old new counts_old counts before behind were are step (Ok x) ends tells = record {
+  ends = ends;
+  told = tells.counts;
+  printed = tells.printed;
+  flushed = tells.flushed;
+  cause = tells.cause;
+  no_memory = λ is. absurd (tells.memory is);
+}
+tells_ends old new counts_old counts before behind were are step (Err e) ends tells = record {
+  ends = tt;
+  told = tt;
+  printed = tells.printed;
+  flushed = tells.flushed;
+  cause = tells.cause;
+  no_memory = λ is. absurd (tells.memory is);
+}
+
+-- ---- what leaves recordings as they are
+
+abbrev pub SameRecordings : Ends → Ends → Type 0
+SameRecordings old new = (d : ℕ) → recording_at (place_at new d) ≡ recording_at (place_at old d)
+
+-- a place with the same recording
+pub same_put : (ends : Ends) (c : ℕ) (place : Place) → place.recording ≡ recording_at (place_at ends c) → SameRecordings ends (with_place ends c place)
+same_put ends c place is = λ d. elim (cases_eq d c) [
+  | inl same ↦ elim (below (length ends.clients) c) [
+    | inl lt ↦ rw (same, get_or-set_same ends.clients c (Some place) None lt) is
+    | inr ge ↦ rw (set_out ends.clients c (Some place) ge) refl
+  ]
+  | inr not ↦ rw (get_or-set_other ends.clients c d (Some place) None not) refl
+]
+  where
+    below : (count c : ℕ) → (c < count) ⊎ (count ≤ c)
+    below count c = elim (cases_Bool (nat_lt c count)) [
+      | inl lt ↦ inl (ltb-true c count lt)
+      | inr ge ↦ inr (ltb-false c count ge)
+    ]
+
+pub same_line : (ends : Ends) (c : ℕ) (nobody : HandedIn) (line : ClientState → ClientStep) (found : Option Place) → place_at ends c ≡ found
+    → SameRecordings ends (to_client ends c nobody line found).ends
+same_line ends c nobody line None at = λ d. refl
+same_line ends c nobody line (Some place) at = same_put ends c (record place { client = (line place.client).client }) (sym (rw at refl))
+
+pub same_port : (ends : Ends) (c port : ℕ) (found : Option Place) → place_at ends c ≡ found → SameRecordings ends (set_port_of ends c port found).ends
+same_port ends c port None at = λ d. refl
+same_port ends c port (Some place) at = same_put ends c (record place { address = record place.address { port = port } }) (sym (rw at refl))
+
+pub same_game : (ends : Ends) (found : Option ServerStep) → SameRecordings ends (game_step ends found).ends
+same_game ends None = λ d. refl
+same_game ends (Some step) = λ d. refl
+
+pub same_handed : (ends : Ends) (c : ℕ) (bytes : List ℕ) (found : Option Place) → SameRecordings ends (hand_server_of ends c bytes found).ends
+same_handed ends c bytes None = λ d. refl
+same_handed ends c bytes (Some place) = λ d. refl
+
+pub same_sent : (kept : Kept) (c : ℕ) (found : Option Place) → place_at kept.ends c ≡ found → SameRecordings kept.ends (kept_send kept c found).kept.ends
+same_sent kept c None at = λ d. refl
+same_sent kept c (Some place) at = same_put kept.ends c (record place { client = (speaks.emit_at (asking place.client place.recording)).client }) (sym (rw at refl))
+
+-- a client that joins records nothing
+pub numbered_joined : (told : Option Told) (given c : ℕ) (numbers : List ℕ) (profile : Profile) (ends : Ends) (challenge qport dup : ℕ) (address : Address) → AreNumbered told given numbers ends
+    → AreNumbered told given numbers (join profile ends c challenge qport dup address).ends
+numbered_joined told given c numbers profile ends challenge qport dup address numbered =
+    let added = add_client_at ends.server c challenge qport address in
+    by_answer added.server (record { client = new_client profile challenge qport dup; address = address; recording = None }) refl added.answer
+  where
+    by_answer : (server : ServerState) (place : Place) → place.recording ≡ None → (answer : Result (Unit {0}) SlotError)
+        → AreNumbered told given numbers (joined (record ends { server = server }) c place answer).ends
+    by_answer server place none (Ok x) = λ d lt. elim (cases_eq d c) [
+      | inl same ↦ subst (HasFile told given (slice_index numbers d)) (sym (nothing_there d same)) tt
+      | inr not ↦ subst (λ (found : Option Place). HasFile told given (slice_index numbers d) (recording_at found)) (sym (get_or-set_other ends.clients c d (Some place) None not)) (numbered d lt)
+    ]
+      where
+        nothing_there : (d : ℕ) → d ≡ c → recording_at (get_or (set ends.clients c (Some place)) d None) ≡ None
+        nothing_there d same = elim (cases_Bool (nat_lt c (length ends.clients))) [
+          | inl lt ↦ rw (same, get_or-set_same ends.clients c (Some place) None (ltb-true c (length ends.clients) lt)) none
+          | inr ge ↦
+              let out = ltb-false c (length ends.clients) ge in
+              rw (same, set_out ends.clients c (Some place) out, get_or-eq_default ends.clients None out) refl
+        ]
+    by_answer server place none (Err e) = numbered
+
+-- ---- lines that do nothing to files
+
+pub quiet_line : (ends : Ends) (event : Event) → ((c : ℕ) (name : List ℕ) → event ≡ events.RecordTo c name → ⊥) → ((c : ℕ) → event ≡ events.Stop c → ⊥)
+    → ((c : ℕ) (bytes : List ℕ) → event ≡ events.Toclient c bytes → ⊥) → line_acts ends event ≡ []
+unfolding line_acts
+quiet_line ends (events.RecordTo c name) begun stop toclient = absurd (begun c name refl)
+quiet_line ends (events.Stop c) begun stop toclient = absurd (stop c refl)
+quiet_line ends (events.Toclient c bytes) begun stop toclient = absurd (toclient c bytes refl)
+quiet_line ends other begun stop toclient = refl
+
+-- a datagram that was made goes to its end
+pub delivers_none : (ends : Ends) (datagrams : List SentBytes) (k : ℕ) → length datagrams ≤ k → deliver_acts ends (slice_get datagrams k) ≡ []
+delivers_none ends datagrams k ge = elim (slice_get_cases datagrams k).1 [
+  | inl found ↦ let lt = found.1 in absurd (omega (arith, ge, lt))
+  | inr none ↦ rw none.1 refl
+]
+
+-- ---- what leaves recordings, of the world
+
+pub numbered_left : (told : Option Told) (given : ℕ) (old new : Counting) (result : Result (Unit {0}) StepError) → LeavesRecordings old new result → AreNumbered told given old.numbers old.kept.ends
+    → AreNumbered told given new.numbers new.kept.ends
+numbered_left told given old new result leaves numbered =
+    numbered_same told given new.numbers old.kept.ends new.kept.ends leaves.recordings
+    (subst (λ (numbers : List ℕ). AreNumbered told given numbers old.kept.ends) (sym leaves.numbers) numbered)
+
+pub leaves_told : (old new : Counting) (kept : Kept) (result : Result (Unit {0}) StepError) → new.kept ≡ kept → new.numbers ≡ old.numbers → SameRecordings old.kept.ends kept.ends → (IsErrOf result FileFault → ⊥)
+    → LeavesRecordings old new result
+leaves_told old new kept result is numbers same files = record { numbers = numbers; recordings = λ c. rw is (same c); files = files }
+
+-- ---- a datagram that was made arrives
+
+pub server_does : (Says : EndsStep → Type 0) (ends : Ends) (number k : ℕ) (datagrams : List SentBytes) (sent : SentBytes) (from : Address) (bytes : List ℕ) → slice_get datagrams k ≡ Some sent
+    → sent.direction ≡ ToServer from → sent.bytes ≡ bytes → Says (server_takes ends (fronts.Deliver number) from bytes) → Says (deliver_at ends number (slice_get datagrams k))
+server_does Says ends number k datagrams sent from bytes found way is says = rw (found, way, is) says
+
+pub server_acts : (ends : Ends) (k : ℕ) (datagrams : List SentBytes) (sent : SentBytes) (from : Address) → slice_get datagrams k ≡ Some sent → sent.direction ≡ ToServer from
+    → deliver_acts ends (slice_get datagrams k) ≡ []
+server_acts ends k datagrams sent from found way = rw (found, way) refl
+
+pub client_does : (Says : EndsStep → Type 0) (ends : Ends) (number k c : ℕ) (datagrams : List SentBytes) (sent : SentBytes) (bytes : List ℕ) → slice_get datagrams k ≡ Some sent
+    → sent.direction ≡ ToClient → sent.client ≡ c → sent.bytes ≡ bytes → Says (client_takes ends c (fronts.Deliver number) bytes (place_at ends c)) → Says (deliver_at ends number (slice_get datagrams k))
+client_does Says ends number k c datagrams sent bytes found way of is says = rw (found, way, of, is) says
+
+pub client_acts : (ends : Ends) (k c : ℕ) (datagrams : List SentBytes) (sent : SentBytes) (bytes : List ℕ) → slice_get datagrams k ≡ Some sent → sent.direction ≡ ToClient → sent.client ≡ c
+    → sent.bytes ≡ bytes → deliver_acts ends (slice_get datagrams k) ≡ take_acts (place_at ends c) bytes
+client_acts ends k c datagrams sent bytes found way of is = rw (found, way, of, is) refl
+
+-- ---- a line of the game
+
+pub game_does : (Says : EndsStep → Type 0) (profile : Profile) (ends : Ends) (event : Event)
+    → ((c challenge qport dup : ℕ) (address : Address) → event ≡ events.Client c challenge qport dup address → ⊥) → ((c port : ℕ) → event ≡ events.Port c port → ⊥)
+    → ((c : ℕ) (text : List ℕ) → event ≡ events.TypeText c text → ⊥) → ((c : ℕ) (one : Move) → event ≡ events.Move c one → ⊥) → ((c : ℕ) (name : List ℕ) → event ≡ events.RecordTo c name → ⊥)
+    → ((c : ℕ) → event ≡ events.Stop c → ⊥) → ((c : ℕ) → event ≡ events.Show c → ⊥) → ((c : ℕ) (bytes : List ℕ) → event ≡ events.Toclient c bytes → ⊥)
+    → ((c : ℕ) (bytes : List ℕ) → event ≡ events.Toserver c bytes → ⊥)
+    → Says (game_step ends (server_line ends.server event)) → IfSome (step_in (line_of profile ends event)) Says
+unfolding line_of
+game_does Says profile ends (events.Client c challenge qport dup address) client port types move begun stop show toclient toserver says = absurd (client c challenge qport dup address refl)
+game_does Says profile ends (events.Port c at) client port types move begun stop show toclient toserver says = absurd (port c at refl)
+game_does Says profile ends (events.TypeText c text) client port types move begun stop show toclient toserver says = absurd (types c text refl)
+game_does Says profile ends (events.Move c one) client port types move begun stop show toclient toserver says = absurd (move c one refl)
+game_does Says profile ends (events.RecordTo c name) client port types move begun stop show toclient toserver says = absurd (begun c name refl)
+game_does Says profile ends (events.Stop c) client port types move begun stop show toclient toserver says = absurd (stop c refl)
+game_does Says profile ends (events.Show c) client port types move begun stop show toclient toserver says = absurd (show c refl)
+game_does Says profile ends (events.Toclient c bytes) client port types move begun stop show toclient toserver says = absurd (toclient c bytes refl)
+game_does Says profile ends (events.Toserver c bytes) client port types move begun stop show toclient toserver says = absurd (toserver c bytes refl)
+game_does Says profile ends (events.Serve c) client port types move begun stop show toclient toserver says = tt
+game_does Says profile ends (events.Send c) client port types move begun stop show toclient toserver says = tt
+game_does Says profile ends (events.Deliver number) client port types move begun stop show toclient toserver says = tt
+game_does Says profile ends (events.Bytes number) client port types move begun stop show toclient toserver says = tt
+game_does Says profile ends other client port types move begun stop show toclient toserver says = says

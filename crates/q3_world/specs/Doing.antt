@@ -12,7 +12,7 @@ use Rattle.q3_ends.specs.AtClient.{taken_by_client}
 use Rattle.q3_ends.specs.Recording.{note_taken}
 use Rattle.q3_world.specs.declared.places.Place.{Place}
 use Rattle.q3_world.specs.Counts.{Counting, counted}
-use Rattle.q3_world.specs.Ends.{Ends, EndsStep}
+use Rattle.q3_world.specs.Ends.{Ends, EndsStep, place_at, recording_at}
 use Rattle.q3_world.specs.Kept.{KeptStep}
 use Rattle.q3_world.specs.Outcome.{Prints, HasStepCause}
 
@@ -53,3 +53,9 @@ pub record Does (old new : Counting) (before behind : Option Written) (were are 
   pub cause : HasStepCause were are result
   pub no_memory : IsErrOf result NoMemory → (new ≡ old) × (behind ≡ before)
   pub few : length new.kept.datagrams ≤ length old.kept.datagrams + 1
+
+-- recordings stay as they are, with the numbers of their files, and no file fails
+pub record LeavesRecordings (old new : Counting) (result : Result (Unit {0}) StepError) : Type 0 where
+  pub numbers : new.numbers ≡ old.numbers
+  pub recordings : (c : ℕ) → recording_at (place_at new.kept.ends c) ≡ recording_at (place_at old.kept.ends c)
+  pub files : IsErrOf result FileFault → ⊥

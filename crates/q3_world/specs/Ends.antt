@@ -25,7 +25,7 @@ use Rattle.q3_report.specs.Answers.{Answered, Given, Untaken, Shown, Showing, Sh
 use Rattle.q3_ends.specs.AtServer.{ServerStep, server_line, taken_by_server}
 use Rattle.q3_ends.specs.AtClient as at_client
 use Rattle.q3_ends.specs.AtClient.{ClientStep, taken_by_client, newest_of, showing}
-use Rattle.q3_ends.specs.Recording.{new_recording, begin_at, stop_at, note_taken}
+use Rattle.q3_ends.specs.Recording.{RecordingState, new_recording, begin_at, stop_at, note_taken}
 
 -- the server, and at its place each client with the address that its datagrams come from, and its recording, if one goes on
 pub record Ends : Type 0 where
@@ -41,6 +41,11 @@ client_of place = place.client
 
 abbrev pub client_at : Ends → ℕ → Option ClientState
 client_at ends c = option_map client_of (place_at ends c)
+
+-- its recording, if there is a client and it records
+abbrev pub recording_at : Option Place → Option RecordingState
+recording_at None = None
+recording_at (Some place) = place.recording
 
 -- the ends with this at a place, and with this client there
 abbrev pub with_place : Ends → ℕ → Place → Ends

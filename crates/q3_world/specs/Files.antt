@@ -8,13 +8,13 @@ use Rattle.q3_script.specs.declared.event.Event.{Event}
 use Rattle.q3_script.specs.declared.event.Event.TheVariants as events
 use Rattle.q3_server.specs.Server.{places}
 use Rattle.q3_client.specs.Client as takes
-use Rattle.q3_ends.specs.Recording.{RecordingState, new_recording, begin_at, stop_at, note_taken, HasFile, WritesFiles}
+use Rattle.q3_ends.specs.Recording.{new_recording, begin_at, stop_at, note_taken, HasFile, WritesFiles}
 use Rattle.q3_world.specs.declared.made.Direction.{Direction}
 use Rattle.q3_world.specs.declared.made.Direction.TheVariants.{ToClient, ToServer}
 use Rattle.q3_world.specs.declared.places.Place.{Place}
 use Rattle.q3_world.specs.declared.told.StepError.{StepError}
 use Rattle.q3_world.specs.declared.told.StepError.TheVariants.{NoMemory, WriteFault, FileFault}
-use Rattle.q3_world.specs.Ends.{Ends, place_at}
+use Rattle.q3_world.specs.Ends.{Ends, place_at, recording_at}
 use Rattle.q3_world.specs.Kept.{SentBytes, Kept, kept_step}
 
 -- a recording begins; it has its end; or it goes on by bytes that its client takes
@@ -61,10 +61,6 @@ acts_from kept [] = ending_acts kept.ends
 acts_from kept (event ∷ events) = acts_of kept event ++ acts_from (kept_step kept event).kept events
 
 -- ---- the program's files
-
-abbrev pub recording_at : Option Place → Option RecordingState
-recording_at None = None
-recording_at (Some place) = place.recording
 
 -- each recording that goes on has its file under the number that is kept for its client
 abbrev pub AreNumbered : Option Told → ℕ → List ℕ → Ends → Type 0

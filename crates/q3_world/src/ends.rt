@@ -9,7 +9,7 @@ ghost use Rattle.q3_report.specs.Tellings.{answered_of};
 ghost use Rattle.q3_ends.specs.AtServer.{server_line};
 ghost use Rattle.q3_ends.specs.Recording.{new_recording, HasFile};
 ghost use Rattle.q3_world.specs.declared.places.Place.{Place as PlaceValue};
-ghost use Rattle.q3_world.specs.Files.{recording_at};
+ghost use Rattle.q3_world.specs.Ends.{recording_at};
 
 use crate::counts::Counts;
 use crate::made::{Direction, Made, keep};
@@ -327,10 +327,18 @@ impl Ends {
         ensures ended { OnOk result (NoneRecords self.new) }
         ensures numbered { AreNumbered (F.told files.new) (F.given files.new) numbers.now self.new }
     {
+        self.stands();
         for c in 0..MOST_SLOTS {
             self.end_at(c, numbers[c as usize], files)?;
         }
         Ok(())
+    }
+
+    /// There is a place for each client.
+    fn stands(&self)
+        ensures { length self.now.clients ≡ places }
+    {
+        let _clients = &self.clients;
     }
 
     /// What a client shows.

@@ -62,7 +62,7 @@ impl Model for World {
 }
 
 impl World {
-    ghost use Rattle.q3_world.specs.Doing.{Does};
+    ghost use Rattle.q3_world.specs.Doing.{Does, LeavesRecordings};
     ghost use Rattle.q3_world.specs.Files.{AreNumbered, DoesFiles, NoneRecords, acts_of, line_acts, deliver_acts, ending_acts};
     ghost use Rattle.q3_ends.specs.Recording.{WritesFiles};
     ghost use Rattle.q3_io.specs.Told.{Told};
@@ -199,8 +199,9 @@ impl World {
     fn serve<O: Sink>(&mut self, c: u8, out: &mut O) -> Result<(), StepError>
         requires place { c < places }
         requires few { length self.old.kept.datagrams < most_datagrams }
-        ensures { Does self.old self.new (O.written out.old) (O.written out.new) (O.faults out.old) (O.faults out.new)
+        ensures does { Does self.old self.new (O.written out.old) (O.written out.new) (O.faults out.old) (O.faults out.new)
             (kept_serve self.old.kept c (emit_at self.old.kept.ends.server c)) result }
+        ensures leaves { LeavesRecordings self.old self.new result }
     {
         let Ok(bytes) = room_for_one(self.alloc, &mut self.datagrams) else {
             return Err(StepError::NoMemory);
@@ -213,8 +214,9 @@ impl World {
     fn send<O: Sink>(&mut self, c: u8, out: &mut O) -> Result<(), StepError>
         requires place { c < places }
         requires few { length self.old.kept.datagrams < most_datagrams }
-        ensures { Does self.old self.new (O.written out.old) (O.written out.new) (O.faults out.old) (O.faults out.new)
+        ensures does { Does self.old self.new (O.written out.old) (O.written out.new) (O.faults out.old) (O.faults out.new)
             (kept_send self.old.kept c (place_at self.old.kept.ends c)) result }
+        ensures leaves { LeavesRecordings self.old self.new result }
     {
         let Ok(bytes) = room_for_one(self.alloc, &mut self.datagrams) else {
             return Err(StepError::NoMemory);
@@ -258,6 +260,7 @@ impl World {
         ensures does { Does self.old self.new (O.written out.old) (O.written out.new) (O.faults out.old) (O.faults out.new)
             (record { kept = self.old.kept; answer = Bytes number (kept_bytes self.old.kept.datagrams number) }) result }
         ensures memory { IsErrOf result StepError.NoMemory → ⊥ }
+        ensures leaves { LeavesRecordings self.old self.new result }
     {
         let bytes = bytes_of(&self.datagrams, number);
         let answer = Answer::Bytes {

@@ -1,0 +1,22 @@
+use Rattle.std.proofs.Common.{List, None, Option, Some, ap, arith, refl, subst, sym, ◌∙◌, ◌≡◌, ℕ}
+use Rattle.q3_io.specs.Acts.{FileAct}
+use Rattle.q3_world.specs.declared.places.Place.{Place}
+use Rattle.q3_world.specs.Ends.{Ends, place_at}
+use Rattle.q3_world.specs.Files.{AreNumbered, DoesFiles, begin_acts, stop_acts, take_acts, deliver_acts}
+use Rattle.q3_world.proofs.Filing.{at_place, does_nothing, numbered_new, numbered_put, numbered_same, tells_ends}
+use Rattle.q3_world.proofs.ends.Ends.client_takes.Goals as goal
+
+pub returns-in_default-clause-files : goal.returns-in_default-clause-files
+returns-in_default-clause-files g c =
+    let none : place_at c.args.self.now c.args.c ≡ None =
+    subst (λ (ends : Ends). place_at ends c.args.c ≡ None) c.self.view_is
+    (at_place c.self.inside.clients.items c.args.c c.index_mut.result.now c.index_mut.ensures.value (omega (arith, c.requires.place, c.self.invariant)) ∙ c.in_default.is) in
+    subst (λ (acts : List FileAct). DoesFiles (g.F.Files.told c.args.files.now) (g.F.Files.told c.args.files.now) (g.F.Files.given c.args.files.now) (g.F.Files.given c.args.files.now)
+    (g.F.Files.faults c.args.files.now) (g.F.Files.faults c.args.files.now) (g.F.Files.write_faults c.args.files.now) (g.F.Files.write_faults c.args.files.now) acts c.tell.result)
+    (ap (λ (found : Option Place). take_acts found c.args.bytes.now) (sym none)) (does_nothing _ _ _ _ c.tell.result c.tell.ensures.files)
+
+pub returns-clause-numbered : goal.returns-clause-numbered
+returns-clause-numbered g c =
+    let ends : Ends = record { server = c.self.inside.server; clients = c.self.inside.clients.items } in
+    let numbered = subst (λ (e : Ends). AreNumbered (g.F.Files.told c.args.files.now) (g.F.Files.given c.args.files.now) c.args.numbers.now e) (sym c.self.view_is) c.requires.numbered in
+    numbered_put _ _ _ _ c.args.c c.args.numbers.now ends c.take.new.self c.take.ensures.files.names c.take.ensures.files.numbers c.requires.place c.self.invariant c.take.ensures.file numbered
