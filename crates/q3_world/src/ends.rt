@@ -259,7 +259,11 @@ impl Ends {
     {
         let Some(place) = &mut self.clients[c as usize] else {
             let outcome = Err(RecordRefused::NoClient);
-            return tell(&Answer::HandedIn(HandedIn::Record { c, outcome }), counts, out);
+            return tell(
+                &Answer::HandedIn(HandedIn::Record { c, outcome }),
+                counts,
+                out,
+            );
         };
         let mut number = numbers[c as usize];
         let begun = place.record(fresh, &mut number, files);
@@ -267,7 +271,11 @@ impl Ends {
         let Ok(outcome) = begun else {
             return Err(StepError::FileFault);
         };
-        tell(&Answer::HandedIn(HandedIn::Record { c, outcome }), counts, out)
+        tell(
+            &Answer::HandedIn(HandedIn::Record { c, outcome }),
+            counts,
+            out,
+        )
     }
 
     /// A client's recording has its end, if the client is there.
@@ -289,21 +297,24 @@ impl Ends {
     {
         let Some(place) = &mut self.clients[c as usize] else {
             let outcome = Err(StopRefused::NoClient);
-            return tell(&Answer::HandedIn(HandedIn::Stop { c, outcome }), counts, out);
+            return tell(
+                &Answer::HandedIn(HandedIn::Stop { c, outcome }),
+                counts,
+                out,
+            );
         };
         let Ok(outcome) = place.stop(numbers[c as usize], files) else {
             return Err(StepError::FileFault);
         };
-        tell(&Answer::HandedIn(HandedIn::Stop { c, outcome }), counts, out)
+        tell(
+            &Answer::HandedIn(HandedIn::Stop { c, outcome }),
+            counts,
+            out,
+        )
     }
 
     /// The recording of the client at a place has its end, if the client is there and one goes on.
-    fn end_at<F: Files>(
-        &mut self,
-        c: u8,
-        number: usize,
-        files: &mut F,
-    ) -> Result<(), Failed>
+    fn end_at<F: Files>(&mut self, c: u8, number: usize, files: &mut F) -> Result<(), Failed>
         requires place { c < places }
         requires file { HasFile (F.told files.old) (F.given files.old) number (recording_at (place_at self.old c)) }
         ensures server { self.new.server ≡ self.old.server }
@@ -378,7 +389,16 @@ impl Ends {
             let cause = TakeRefused::NoClient;
             return tell(&Answer::Untaken { front, cause }, counts, out);
         };
-        place.take(front, c, bytes, log, numbers[c as usize], counts, files, out)
+        place.take(
+            front,
+            c,
+            bytes,
+            log,
+            numbers[c as usize],
+            counts,
+            files,
+            out,
+        )
     }
 
     /// The server takes bytes from the address of a client, if it is there.
@@ -456,7 +476,16 @@ impl Ends {
                 self.server_takes(front, from, &sent.bytes, heard, counts, out)
             }
             Direction::ToClient => {
-                self.client_takes(front, sent.client, &sent.bytes, numbers, log, counts, files, out)
+                self.client_takes(
+                    front,
+                    sent.client,
+                    &sent.bytes,
+                    numbers,
+                    log,
+                    counts,
+                    files,
+                    out,
+                )
             }
         }
     }

@@ -22,8 +22,7 @@ returns-in_err-end_at-clause-files g c =
 pub loop-c-preserved : goal.loop-c-preserved
 loop-c-preserved g c =
     let at = c.loop-c.invariant.0.others c.loop-c.c (omega arith) in
-    let there = c.end_at.ensures.ends in
-    (
+    let there = c.end_at.ensures.ends in (
       HaveEnds-more c.loop-c.c c.args.self.now c.loop-c.self c.end_at.new.self c.loop-c.invariant.0 there.0 there.1,
       ends_more c.args.self.now c.loop-c.c (omega (arith, c.stands.ensures, c.loop-c-test.true)) c.loop-c.invariant.1
           (subst (λ (found : Option Place). WritesFiles (g.F.Files.told c.loop-c.files) (g.F.Files.told c.end_at.new.files) (g.F.Files.given c.loop-c.files) (g.F.Files.given c.end_at.new.files) (g.F.Files.faults c.loop-c.files) (g.F.Files.faults c.end_at.new.files) (g.F.Files.write_faults c.loop-c.files) (g.F.Files.write_faults c.end_at.new.files) (stop_acts found) (Ok c.in_ok-end_at.field-0)) at c.in_ok-end_at.ensures.files),

@@ -23,4 +23,3 @@ returns-in-Bytes-clause-files g c = rw c.in-Bytes.is (does_nothing _ _ _ _ c.tel
 
 pub returns-in-Bytes-clause-numbered : goal.returns-in-Bytes-clause-numbered
 returns-in-Bytes-clause-numbered g c = numbered_left _ _ c.args.self.now c.tell_bytes.new.self c.tell_bytes.result c.tell_bytes.ensures.leaves c.requires.numbered
-
