@@ -1,22 +1,21 @@
 -- Every recording that goes on has its end, client by client.
-use Rattle.std.proofs.Common.{◌≡◌, ◌≢◌, ℕ, ◌+◌, ◌<◌, ◌≤◌, List, [], ◌∷◌, ◌++◌, length, get_or, take, drop, Option, Some, None, Result, Ok, Err, refl, sym, ap, subst, ◌∙◌, inl, inr, arith}
+use Rattle.std.proofs.Common.{◌≡◌, ℕ, ◌+◌, ◌<◌, ◌≤◌, List, [], ◌∷◌, ◌++◌, length, get_or, take, drop, set, Option, Some, None, Result, Ok, Err, refl, sym, ap, subst, ◌∙◌, append_assoc, arith}
 use Rattle.std.specs.List.{flat_map}
-use Rattle.std.specs.Option.{option_map}
-use Rattle.std.specs.Prelude.{slice_index}
-use Rattle.std.proofs.lemmas.Bool.{cases_eq}
+use Rattle.std.specs.Prelude.{map, slice_index, slice_set}
 use Rattle.std.proofs.lemmas.Grind.{flat_map-append}
-use Rattle.std.proofs.lemmas.List.{append-nil, drop_more, take-append-drop, take_all}
-use Rattle.std.proofs.Math.Seq.{take-add}
+use Rattle.std.proofs.lemmas.List.{append-nil, drop_all, drop_more, get_or-set_other, length-append, length-map, length-take-le, map-append, take-append-drop, take_all}
+use Rattle.std.proofs.Math.Seq.{get_or-append_seam, set-append_seam, take-add}
 use Rattle.q3_io.specs.declared.sink.Failed.{Failed}
 use Rattle.q3_io.specs.Acts.{FileAct}
 use Rattle.q3_io.specs.Told.{Told}
 use Rattle.q3_server.specs.Server.{places}
-use Rattle.q3_ends.specs.Recording.{RecordingState, HasFile, WritesFiles}
+use Rattle.q3_ends.specs.Recording.{HasFile, WritesFiles}
 use Rattle.q3_ends.proofs.Files.{writes_both, writes_more, writes_nothing}
 use Rattle.q3_world.specs.declared.places.Place.{Place}
 use Rattle.q3_world.specs.Ends.{Ends, place_at, recording_at}
-use Rattle.q3_world.specs.Files.{AreNumbered, NoneRecords, ending_acts, stop_acts}
-use Rattle.q3_world.proofs.Filing.{keeps_file}
+use Rattle.q3_world.specs.Files.{AreNumbered, ended, ending_acts, stop_acts, without}
+use Rattle.q3_world.proofs.Filing.{KeepsNames, numbered_at}
+use Rattle.q3_world.proofs.OnePlace.{set_there}
 
 -- what the ends of so many clients do
 abbrev pub ended_acts : Ends → ℕ → List FileAct
@@ -34,48 +33,86 @@ ended_rest ends count = ap (flat_map stop_acts) (sym (take-append-drop count end
 
 -- the recordings of so many clients have their ends, and the others are as they were
 pub record HaveEnds (count : ℕ) (start now : Ends) : Type 0 where
-  pub ended : (d : ℕ) → d < count → recording_at (place_at now d) ≡ None
-  pub others : (d : ℕ) → count ≤ d → place_at now d ≡ place_at start d
+  pub are : now ≡ record start { clients = map without (take count start.clients) ++ drop count start.clients }
 
 pub HaveEnds-begin : (start : Ends) → HaveEnds 0 start start
-HaveEnds-begin start = record { ended = λ d lt. absurd (omega (arith, lt)); others = λ d ge. refl }
+HaveEnds-begin start = record { are = refl }
 
-abbrev pub without : Option Place → Option Place
-without found = option_map (λ (place : Place). record place { recording = None }) found
+-- the next one is as it was
+in_front : (clients : List (Option Place)) (count : ℕ) → count < length clients → length (map without (take count clients)) ≡ count
+in_front clients count lt = length-map (take count clients) without ∙ length-take-le count clients (omega (arith, lt))
 
-pub HaveEnds-more : (count : ℕ) (start now more : Ends) → HaveEnds count start now → place_at more count ≡ without (place_at now count)
-    → ((d : ℕ) → d ≢ count → place_at more d ≡ place_at now d) → HaveEnds (count + 1) start more
-HaveEnds-more count start now more have here others = record {
-  ended = λ d lt. elim (cases_eq d count) [
-    | inl same ↦ rw (same, here) (nothing_left (place_at now count))
-    | inr not ↦ ap recording_at (others d not) ∙ have.ended d (omega (arith, lt, not))
-  ];
-  others = λ d ge. others d (λ same. omega (arith, ge, same)) ∙ have.others d (omega (arith, ge));
-}
-  where
-    nothing_left : (found : Option Place) → recording_at (without found) ≡ None
-    nothing_left None = refl
-    nothing_left (Some place) = refl
+parts : (clients : List (Option Place)) (count : ℕ) → count < length clients → drop count clients ≡ get_or clients count None ∷ drop (count + 1) clients
+parts clients count lt = drop_more clients count None lt
 
-pub none_records : (start now : Ends) (count : ℕ) → places ≤ count → HaveEnds count start now → NoneRecords now
-none_records start now count le have = λ d lt. have.ended d (omega (arith, lt, le))
+pub HaveEnds-there : (count : ℕ) (start now : Ends) → count < length start.clients → HaveEnds count start now → place_at now count ≡ place_at start count
+HaveEnds-there count start now lt have =
+    let front = map without (take count start.clients) in
+    let rest = drop (count + 1) start.clients in
+    ap (λ (ends : Ends). place_at ends count) have.are
+    ∙ (ap (λ (left : List (Option Place)). get_or (front ++ left) count None) (parts start.clients count lt)
+    ∙ (ap (λ (k : ℕ). get_or (front ++ place_at start count ∷ rest) k None) (sym (in_front start.clients count lt))
+    ∙ get_or-append_seam front (place_at start count) rest None))
+
+one_more : (clients : List (Option Place)) (count : ℕ) → count < length clients
+    → map without (take count clients) ++ without (get_or clients count None) ∷ drop (count + 1) clients ≡ map without (take (count + 1) clients) ++ drop (count + 1) clients
+one_more clients count lt =
+    let there = get_or clients count None in
+    let rest = drop (count + 1) clients in
+    sym (append_assoc (map without (take count clients)) (without there ∷ []) rest)
+    ∙ ap (λ (front : List (Option Place)). front ++ rest)
+    (sym (ap (map without) (take-add count 1 clients ∙ ap (λ (left : List (Option Place)). take count clients ++ take 1 left) (parts clients count lt))
+    ∙ map-append without (take count clients) (there ∷ [])))
+
+set_next : (front rest : List (Option Place)) (one other : Option Place) (count : ℕ) → length front ≡ count → set (front ++ one ∷ rest) count other ≡ front ++ other ∷ rest
+set_next front rest one other count is = subst (λ (k : ℕ). set (front ++ one ∷ rest) k other ≡ front ++ other ∷ rest) is (set-append_seam front one rest other)
+
+pub HaveEnds-more : (count : ℕ) (start now : Ends) → count < length start.clients → HaveEnds count start now
+    → HaveEnds (count + 1) start (record now { clients = slice_set now.clients count (without (place_at now count)) })
+HaveEnds-more count start now lt have =
+    let front = map without (take count start.clients) in
+    let there = place_at start count in
+    let rest = drop (count + 1) start.clients in
+    let clients : now.clients ≡ front ++ there ∷ rest =
+    ap (λ (ends : Ends). ends.clients) have.are ∙ ap (λ (left : List (Option Place)). front ++ left) (parts start.clients count lt) in
+    let next : slice_set now.clients count (without (place_at now count)) ≡ front ++ without there ∷ rest =
+    ap (λ (found : Option Place). slice_set now.clients count (without found)) (HaveEnds-there count start now lt have)
+    ∙ (ap (λ (list : List (Option Place)). slice_set list count (without there)) clients
+    ∙ set_next front rest there (without there) count (in_front start.clients count lt)) in
+    record {
+      are = ap (λ (ends : Ends). record ends { clients = slice_set now.clients count (without (place_at now count)) }) have.are
+          ∙ ap (λ (list : List (Option Place)). record start { clients = list }) (next ∙ one_more start.clients count lt);
+    }
+
+pub HaveEnds-all : (count : ℕ) (start now : Ends) → length start.clients ≤ count → HaveEnds count start now → now ≡ ended start
+HaveEnds-all count start now le have =
+    have.are
+    ∙ ap (λ (list : List (Option Place)). record start { clients = list })
+    (ap (λ (left : List (Option Place)). map without (take count start.clients) ++ left) (drop_all count start.clients le)
+    ∙ (append-nil (map without (take count start.clients)) ∙ ap (map without) (take_all count start.clients le)))
+
+HaveEnds-length : (count : ℕ) (start now : Ends) → HaveEnds count start now → length now.clients ≡ length start.clients
+HaveEnds-length count start now have =
+    ap (λ (ends : Ends). length ends.clients) have.are
+    ∙ (length-append (map without (take count start.clients)) (drop count start.clients)
+    ∙ (ap (λ (k : ℕ). k + length (drop count start.clients)) (length-map (take count start.clients) without)
+    ∙ (sym (length-append (take count start.clients) (drop count start.clients)) ∙ ap length (take-append-drop count start.clients))))
 
 -- numbers stay where files go on
-pub numbered_then : (told now : Option Told) (given behind faults faults' write_faults write_faults' c : ℕ) (acts : List FileAct) (result : Result (Unit {0}) Failed) (numbers : List ℕ) (old new : Ends)
-    → WritesFiles told now given behind faults faults' write_faults write_faults' acts result → (recording_at (place_at new c) ≡ None)
-    → ((d : ℕ) → d ≢ c → place_at new d ≡ place_at old d) → AreNumbered told given numbers old → AreNumbered now behind numbers new
-numbered_then told now given behind faults faults' write_faults write_faults' c acts result numbers old new writes none others numbered = λ d lt. elim (cases_eq d c) [
-  | inl same ↦
-      let gone : recording_at (place_at new d) ≡ None = rw same none in
-      subst (λ (r : Option RecordingState). HasFile now behind (slice_index numbers d) r) (sym gone) tt
-  | inr not ↦
-      subst (λ (found : Option Place). HasFile now behind (slice_index numbers d) (recording_at found)) (sym (others d not))
-      (keeps_file told now given behind (slice_index numbers d) (recording_at (place_at old d)) writes.names writes.numbers (numbered d lt))
-]
+gone_file : (told : Option Told) (given file : ℕ) (found : Option Place) → HasFile told given file (recording_at (without found))
+gone_file told given file None = tt
+gone_file told given file (Some place) = tt
 
-pub gone : (found : Option Place) → recording_at (without found) ≡ None
-gone None = refl
-gone (Some place) = refl
+pub numbered_ended : (told now : Option Told) (given behind count : ℕ) (numbers : List ℕ) (start here : Ends) → KeepsNames told now given → given ≤ behind → count < places
+    → length start.clients ≡ places → HaveEnds count start here → AreNumbered told given numbers here
+    → AreNumbered now behind numbers (record here { clients = slice_set here.clients count (without (place_at here count)) })
+numbered_ended told now given behind count numbers start here names le lt room have numbered =
+    let found = without (place_at here count) in
+    let many : length here.clients ≡ places = HaveEnds-length count start here have ∙ room in
+    numbered_at told now given behind count numbers numbers here (record here { clients = slice_set here.clients count found }) names le (λ d not. refl)
+    (λ d not. ap recording_at (get_or-set_other here.clients count d found None not))
+    (subst (λ (there : Option Place). HasFile now behind (slice_index numbers count) (recording_at there)) (sym (set_there here.clients count None found many lt))
+    (gone_file now behind (slice_index numbers count) (place_at here count))) numbered
 
 -- ---- the acts so far
 

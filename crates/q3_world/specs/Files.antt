@@ -1,5 +1,5 @@
 -- What events do to files: those of recordings are made, and what clients apply is written to them.
-use Rattle.std.specs.Prelude.{◌≡◌, ℕ, ◌-◌, ◌<◌, List, [], ◌∷◌, ◌++◌, Option, Some, None, Result, Ok, Err, slice_get, slice_index}
+use Rattle.std.specs.Prelude.{◌≡◌, ℕ, ◌-◌, ◌<◌, List, [], ◌∷◌, ◌++◌, map, Option, Some, None, option_map, Result, Ok, Err, slice_get, slice_index}
 use Rattle.std.specs.List.{flat_map}
 use Rattle.q3_io.specs.declared.sink.Failed.{Failed}
 use Rattle.q3_io.specs.Acts.{FileAct}
@@ -66,9 +66,12 @@ acts_from kept (event ∷ events) = acts_of kept event ++ acts_from (kept_step k
 abbrev pub AreNumbered : Option Told → ℕ → List ℕ → Ends → Type 0
 AreNumbered told given numbers ends = (c : ℕ) → c < places → HasFile told given (slice_index numbers c) (recording_at (place_at ends c))
 
--- no client's recording goes on
-abbrev pub NoneRecords : Ends → Type 0
-NoneRecords ends = (c : ℕ) → c < places → recording_at (place_at ends c) ≡ None
+-- the ends with no recording any more, and everything else as it was
+abbrev pub without : Option Place → Option Place
+without found = option_map (λ (place : Place). record place { recording = None }) found
+
+abbrev pub ended : Ends → Ends
+ended ends = record ends { clients = map without ends.clients }
 
 -- at want of memory nothing is done to files, and otherwise all; or some of it, where one of them can't be written
 abbrev pub acts_by : Result (Unit {0}) StepError → List FileAct → List FileAct

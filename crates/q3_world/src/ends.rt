@@ -1,6 +1,6 @@
 //! Both ends of every client, and what a line of a script does at them.
 
-ghost use Rattle.std.specs.Prelude.{◌≡◌, ◌≢◌, ◌<◌, ◌≤◌, ◌+◌, ◌-◌, ℕ, None, [], length, option_map, slice_get, vec_capacity, IfOk, IfSome, IsSome, IsErrOf, OnErr, OnOk};
+ghost use Rattle.std.specs.Prelude.{◌≡◌, ◌<◌, ◌≤◌, ◌+◌, ◌-◌, [], length, slice_get, slice_set, vec_capacity, IfOk, IfSome, IsSome, IsErrOf, OnErr, OnOk};
 ghost use Rattle.q3_profile.specs.Profile.{IsProfile, IsCodec};
 ghost use Rattle.q3_script.specs.Grammar.{IsReplayEvent};
 ghost use Rattle.q3_server.specs.Server.{places, emit_at};
@@ -8,7 +8,6 @@ ghost use Rattle.q3_report.specs.Answers.{Given, Shown};
 ghost use Rattle.q3_report.specs.Tellings.{answered_of};
 ghost use Rattle.q3_ends.specs.AtServer.{server_line};
 ghost use Rattle.q3_ends.specs.Recording.{new_recording, HasFile};
-ghost use Rattle.q3_world.specs.declared.places.Place.{Place as PlaceValue};
 ghost use Rattle.q3_world.specs.Ends.{recording_at};
 
 use crate::counts::Counts;
@@ -58,7 +57,7 @@ impl Ends {
     ghost use Rattle.q3_world.specs.Ends.{place_at, new_ends, join, set_port, game_step, type_text, add_move, record_to, stop, show, client_takes, server_takes, hand_server, step_in, line_of};
     ghost use Rattle.q3_world.specs.Kept.{Kept, most_datagrams, deliver_at, kept_serve, kept_send};
     ghost use Rattle.q3_world.specs.Doing.{Tells, EndsDo};
-    ghost use Rattle.q3_world.specs.Files.{AreNumbered, DoesFiles, NoneRecords, begin_acts, stop_acts, take_acts, deliver_acts, line_acts, ending_acts};
+    ghost use Rattle.q3_world.specs.Files.{AreNumbered, DoesFiles, without, ended, begin_acts, stop_acts, take_acts, deliver_acts, line_acts, ending_acts};
     ghost use Rattle.q3_world.specs.Outcome.{TakesMemory};
     ghost use Rattle.q3_ends.specs.Recording.{WritesFiles};
 
@@ -317,9 +316,7 @@ impl Ends {
     fn end_at<F: Files>(&mut self, c: u8, number: usize, files: &mut F) -> Result<(), Failed>
         requires place { c < places }
         requires file { HasFile (F.told files.old) (F.given files.old) number (recording_at (place_at self.old c)) }
-        ensures server { self.new.server ≡ self.old.server }
-        ensures ends { (place_at self.new c ≡ option_map (λ (place : PlaceValue). record place { recording = None }) (place_at self.old c))
-            × ((d : ℕ) → d ≢ c → place_at self.new d ≡ place_at self.old d) }
+        ensures ends { self.new ≡ record self.old { clients = slice_set self.old.clients c (without (place_at self.old c)) } }
         ensures files { WritesFiles (F.told files.old) (F.told files.new) (F.given files.old) (F.given files.new) (F.faults files.old) (F.faults files.new)
             (F.write_faults files.old) (F.write_faults files.new) (stop_acts (place_at self.old c)) result }
     {
@@ -335,7 +332,7 @@ impl Ends {
         requires numbered { AreNumbered (F.told files.old) (F.given files.old) numbers.now self.old }
         ensures files { WritesFiles (F.told files.old) (F.told files.new) (F.given files.old) (F.given files.new) (F.faults files.old) (F.faults files.new)
             (F.write_faults files.old) (F.write_faults files.new) (ending_acts self.old) result }
-        ensures ended { OnOk result (NoneRecords self.new) }
+        ensures ended { OnOk result (self.new ≡ ended self.old) }
         ensures numbered { AreNumbered (F.told files.new) (F.given files.new) numbers.now self.new }
     {
         self.stands();

@@ -63,7 +63,7 @@ impl Model for World {
 
 impl World {
     ghost use Rattle.q3_world.specs.Doing.{Does, LeavesRecordings};
-    ghost use Rattle.q3_world.specs.Files.{AreNumbered, DoesFiles, NoneRecords, acts_of, line_acts, deliver_acts, ending_acts};
+    ghost use Rattle.q3_world.specs.Files.{AreNumbered, DoesFiles, ended, acts_of, line_acts, deliver_acts, ending_acts};
     ghost use Rattle.q3_ends.specs.Recording.{WritesFiles};
     ghost use Rattle.q3_io.specs.Told.{Told};
 
@@ -270,12 +270,13 @@ impl World {
         tell(&answer, &mut self.counts, out)
     }
 
-    /// Each recording that goes on has its end, by client; it is called behind the last event. `Failed` comes where one can't be written.
+    /// Each recording that goes on has its end, by client, and nothing else changes; it is called behind the last event. `Failed` comes
+    /// where one can't be written.
     pub fn finish<F: Files>(&mut self, files: &mut F) -> Result<(), Failed>
         requires numbered { AreNumbered (F.told files.old) (F.given files.old) self.old.numbers self.old.kept.ends }
         ensures files { WritesFiles (F.told files.old) (F.told files.new) (F.given files.old) (F.given files.new) (F.faults files.old) (F.faults files.new)
             (F.write_faults files.old) (F.write_faults files.new) (ending_acts self.old.kept.ends) result }
-        ensures ended { OnOk result (NoneRecords self.new.kept.ends) }
+        ensures ended { OnOk result (self.new ≡ record self.old { kept = record self.old.kept { ends = ended self.old.kept.ends } }) }
         ensures numbered { AreNumbered (F.told files.new) (F.given files.new) self.new.numbers self.new.kept.ends }
     {
         self.ends.finish(&self.numbers, files)
