@@ -1,40 +1,33 @@
 -- What an event does to recordings, and to their files.
-use Rattle.std.proofs.Common.{◌≡◌, ◌≢◌, ℕ, List, [], ◌∷◌, ◌++◌, get_or, length, set, Option, Some, None, Result, Ok, Err, true, false, refl, sym, ap, subst, ◌∙◌, inl, inr}
-use Rattle.std.specs.Prelude.{◌⊎◌, ◌==◌, ◌-◌, if◌then◌else◌, Bool, slice_get}
+use Rattle.std.proofs.Common.{◌≡◌, ℕ, List, [], length, Option, Some, None, Result, Ok, Err, true, false, refl, sym, ap, ◌∙◌, inl, inr}
+use Rattle.std.specs.Prelude.{◌⊎◌, ◌==◌, ◌-◌, if◌then◌else◌, slice_get}
 use Rattle.std.specs.Option.{is_some}
-use Rattle.std.proofs.lemmas.Bool.{cases_eq, cond_both}
+use Rattle.std.proofs.lemmas.Bool.{cases_eq}
 use Rattle.std.proofs.lemmas.List.{get_or-set_other, get_or-set_same}
 use Rattle.std.proofs.Math.ListN.{get_or-eq_default}
 use Rattle.std.proofs.Math.Seq.{set_out}
-use Rattle.q3_io.specs.Acts.{FileAct, Makes}
-use Rattle.q3_io.specs.declared.address.Address.{Address}
+use Rattle.q3_io.specs.Acts.{FileAct}
 use Rattle.q3_script.specs.declared.event.Event.{Event}
 use Rattle.q3_script.specs.declared.event.Event.TheVariants as events
 use Rattle.q3_server.specs.declared.server.SlotError.{SlotError}
 use Rattle.q3_server.specs.Server.{ServerState, add_client_at, slot_at}
-use Rattle.q3_client.specs.Client.{ClientState, Taken, new_client, take_at}
-use Rattle.q3_client.specs.declared.client.ClientTook.{ClientTook}
+use Rattle.q3_client.specs.Client.{new_client}
 use Rattle.q3_report.specs.declared.answer.Front.{Front}
 use Rattle.q3_report.specs.declared.answer.Front.TheVariants as fronts
 use Rattle.q3_report.specs.declared.answer.HandedIn.TheVariants as handed
 use Rattle.q3_report.specs.declared.answer.MoveRefused.TheVariants as refused
 use Rattle.q3_report.specs.declared.answer.TypeRefused.TheVariants as untyped
-use Rattle.q3_report.specs.declared.answer.RecordRefused.{RecordRefused}
-use Rattle.q3_report.specs.declared.answer.RecordRefused.TheVariants.{NoGame}
 use Rattle.q3_ends.specs.AtClient as at_client
 use Rattle.q3_ends.specs.AtServer.{server_line}
-use Rattle.q3_ends.specs.Recording.{RecordingState, RecordingStep, RecorderTook, begin_at, begin_new, extends, new_recording, note_taken, recorder_took, stop_at}
-use Rattle.q3_demo.specs.Recording.{closing}
 use Rattle.q3_world.specs.declared.made.Direction.{Direction}
 use Rattle.q3_world.specs.declared.made.Direction.TheVariants.{ToClient, ToServer}
 use Rattle.q3_world.specs.declared.places.Place.{Place}
-use Rattle.q3_world.specs.Ends.{Ends, client_takes, hand_server_of, joined, line_of, place_at, record_of, recording_at, stop_of, with_place}
+use Rattle.q3_world.specs.Ends.{Ends, client_takes, joined, line_of, place_at, recording_at, with_place}
 use Rattle.q3_world.specs.Kept.{Kept, SentBytes, arrive_at, deliver_at, kept_step}
-use Rattle.q3_world.specs.Files.{acts_of, line_acts, arrive_acts, begin_acts, deliver_acts, stop_acts, take_acts}
+use Rattle.q3_world.specs.Files.{acts_of, line_acts, arrive_acts, deliver_acts, take_acts}
 use Rattle.q3_world.proofs.Filing.{SameRecordings, same_handed, same_line, same_port, same_sent}
 use Rattle.q3_schedules.specs.Recorded.{bytes_for, is_stop, sent_for, sent_to}
-use Rattle.q3_schedules.proofs.NamedFiles.{SparesAll, spares_extended}
-use Rattle.q3_schedules.proofs.SlotsStay.{HaveSlots, Joins, joins, there, within}
+use Rattle.q3_schedules.proofs.SlotsStay.{HaveSlots, joins, within}
 
 -- ---- events that leave recordings, or of which a client takes bytes
 

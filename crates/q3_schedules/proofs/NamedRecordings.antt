@@ -1,11 +1,10 @@
 -- Recordings into the file of a name, and into others.
-use Rattle.std.proofs.Common.{◌≡◌, ◌≢◌, ℕ, List, [], ◌∷◌, ◌++◌, get_or, Option, Some, None, Result, Ok, Err, true, false, refl, sym, ap, subst, ◌∙◌, inl, inr}
+use Rattle.std.proofs.Common.{◌≡◌, ◌≢◌, ℕ, List, [], ◌∷◌, ◌++◌, Option, Some, None, Ok, Err, true, false, refl, sym, ap, subst, ◌∙◌, inl, inr}
 use Rattle.std.specs.Prelude.{◌⊎◌, if◌then◌else◌, Bool}
-use Rattle.std.proofs.lemmas.Bool.{cases_Bool, cases_eq, cond_both}
+use Rattle.std.proofs.lemmas.Bool.{cases_eq, cond_both}
 use Rattle.std.proofs.lemmas.List.{append-nil, get_or-set_other}
-use Rattle.q3_io.specs.Acts.{FileAct, Makes}
+use Rattle.q3_io.specs.Acts.{FileAct, Makes, after_acts}
 use Rattle.q3_io.specs.Told.{Told, contents_of}
-use Rattle.q3_io.specs.Acts.{after_acts}
 use Rattle.q3_client.specs.Client.{ClientState, Taken, take_at}
 use Rattle.q3_client.specs.declared.client.ClientTook.{ClientTook}
 use Rattle.q3_client.specs.declared.client.ClientTook.TheVariants.{Applied}
@@ -21,7 +20,7 @@ use Rattle.q3_world.specs.Ends.{Ends, client_takes, place_at, record_of, recordi
 use Rattle.q3_world.specs.Files.{begin_acts, stop_acts, take_acts}
 use Rattle.q3_world.proofs.Filing.{SameRecordings}
 use Rattle.q3_schedules.specs.Recorded.{noted_at, noted_of}
-use Rattle.q3_schedules.proofs.NamedFiles.{SparesAll, extended, spared, spares_extended}
+use Rattle.q3_schedules.proofs.NamedFiles.{SparesAll, extended, spares_extended}
 use Rattle.q3_schedules.proofs.SlotsStay.{there}
 
 -- a recording, if one goes on, is into another file
@@ -64,9 +63,10 @@ takes_one : (name : List ℕ) (client : ClientState) (taken : Taken) (recording 
     → StaysApart name recording (note_taken recording client taken).recording (note_taken recording client taken).acts
 takes_one name client taken None unnamed = (tt, tt)
 takes_one name client taken (Some going) unnamed =
-    let took = recorder_took going.stage client taken taken.answer in
-    (cond_both took.ended None (Some (record going { stage = took.stage })) (λ (r : Option RecordingState). Unnamed name r) (λ ended. tt) (λ goes. unnamed),
-      spares_extended name going.name took.bytes unnamed)
+    let took = recorder_took going.stage client taken taken.answer in (
+      cond_both took.ended None (Some (record going { stage = took.stage })) (λ (r : Option RecordingState). Unnamed name r) (λ ended. tt) (λ goes. unnamed),
+      spares_extended name going.name took.bytes unnamed,
+    )
 
 -- the recording of one client alone may change, and one into another file stays so
 pub record AtOne (name : List ℕ) (d : ℕ) (old new : Ends) (acts : List FileAct) : Type 0 where
@@ -209,7 +209,7 @@ stops_named name c stage ends (Some place) at goes =
     let going : place.recording ≡ Some (record { name = name; stage = stage }) = ap recording_at (sym at) ∙ goes.going in
     let now : Place = record place { recording = (stop_at place.recording).recording } in (
       gone_of name c (with_place ends c now) (apart_put name c ends now goes.apart)
-      (subst (Unnamed name) (sym (ap recording_at (there ends c place now at) ∙ ap (λ (r : Option RecordingState). (stop_at r).recording) going)) tt),
+          (subst (Unnamed name) (sym (ap recording_at (there ends c place now at) ∙ ap (λ (r : Option RecordingState). (stop_at r).recording) going)) tt),
       ap (λ (r : Option RecordingState). (stop_at r).acts) going,
     )
 

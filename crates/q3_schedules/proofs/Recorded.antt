@@ -1,6 +1,6 @@
 -- The file of a recording holds the messages that its client applied.
 use Rattle.std.proofs.Common.{◌≡◌, ◌≢◌, ℕ, suc, zero, List, [], ◌∷◌, ◌++◌, get_or, Option, Some, None, Result, Ok, Err, true, false, refl, sym, ap, subst, ◌∙◌, inl, inr, arith, append_assoc}
-use Rattle.std.specs.Prelude.{◌⊎◌, ◌==◌, if◌then◌else◌, Bool}
+use Rattle.std.specs.Prelude.{◌⊎◌, ◌==◌}
 use Rattle.std.specs.List.{AllByRecursion, flat_map}
 use Rattle.std.specs.Option.{is_some}
 use Rattle.std.proofs.lemmas.Bool.{cases_Bool, cases_eq}
@@ -9,7 +9,6 @@ use Rattle.std.proofs.lemmas.List.{append-nil}
 use Rattle.std.proofs.lemmas.List.Concat.{flat_map-cons}
 use Rattle.q3_io.specs.Acts.{FileAct, Makes, after_acts}
 use Rattle.q3_io.specs.Told.{Told, contents_of}
-use Rattle.q3_profile.specs.declared.profile.Profile.{Profile}
 use Rattle.q3_script.specs.declared.event.Event.{Event}
 use Rattle.q3_script.specs.declared.event.Event.TheVariants as events
 use Rattle.q3_report.specs.declared.answer.HandedIn.TheVariants as handed
@@ -20,17 +19,17 @@ use Rattle.q3_report.specs.Answers.{Answered, Given}
 use Rattle.q3_demo.specs.declared.recorder.Stage.{Stage}
 use Rattle.q3_demo.specs.declared.recorder.Stage.TheVariants.{Waits, Ended}
 use Rattle.q3_demo.specs.Recording.{Noted, Noting, closing, note_of, noted_from, recording}
-use Rattle.q3_ends.specs.Recording.{RecordingState, begin_at, extends, new_recording}
+use Rattle.q3_ends.specs.Recording.{extends}
 use Rattle.q3_world.specs.declared.places.Place.{Place}
-use Rattle.q3_world.specs.Ends.{Ends, client_takes, line_of, new_ends, place_at, record_of, recording_at, stop_of}
+use Rattle.q3_world.specs.Ends.{Ends, client_takes, line_of, place_at, record_of, recording_at, stop_of}
 use Rattle.q3_world.specs.Kept.{Kept, kept_after, kept_step, opening_kept}
 use Rattle.q3_world.specs.Files.{acts_from, acts_of, begin_acts, ending_acts, line_acts, stop_acts, take_acts}
 use Rattle.q3_world.specs.ByTags.{kept_then}
 use Rattle.q3_schedules.specs.Recorded.{MakesOther, RecordingIsItsMessages, applied_until, bytes_for, is_stop, noted_at}
 use Rattle.q3_schedules.proofs.NamedFiles.{SparesAll, acts_over, extended, made, spared, spares_both}
 use Rattle.q3_schedules.proofs.SlotsStay.{HaveSlots, have_slots, nobody_yet}
-use Rattle.q3_schedules.proofs.EventKinds.{Happens, Quiet, Takes, by_kind}
-use Rattle.q3_schedules.proofs.NamedRecordings.{Apart, AtOne, Goes, GoesOn, Gone, IsSoFar, Unnamed, at_same, begins_at, begins_named, begun_named, gone_at, goes_at, nobody, stops_at, stops_named, stops_one, takes_at, takes_named}
+use Rattle.q3_schedules.proofs.EventKinds.{Happens, by_kind}
+use Rattle.q3_schedules.proofs.NamedRecordings.{AtOne, Goes, GoesOn, Gone, IsSoFar, Unnamed, at_same, begins_at, begins_named, begun_named, gone_at, goes_at, nobody, stops_at, stops_named, stops_one, takes_at, takes_named}
 
 -- ---- an event
 
@@ -47,10 +46,10 @@ gone_on name kept have =
     by_kind (λ (event : Event). MakesOther name event → Gone name kept.ends → Gone name (kept_step kept event).kept.ends × SparesAll name (acts_of kept event)) kept have
     (λ c other gone. gone_at name c kept.ends (stop_of kept.ends c (place_at kept.ends c)).ends (stop_acts (place_at kept.ends c)) (stops_at name c kept.ends (place_at kept.ends c) refl) gone)
     (λ c n other gone.
-      gone_at name c kept.ends (record_of kept.ends c n (place_at kept.ends c)).ends (begin_acts (place_at kept.ends c) n) (begins_at name n c kept.ends (place_at kept.ends c) other refl) gone)
+    gone_at name c kept.ends (record_of kept.ends c n (place_at kept.ends c)).ends (begin_acts (place_at kept.ends c) n) (begins_at name n c kept.ends (place_at kept.ends c) other refl) gone)
     (λ event not happens other gone.
-      let at = one_at name kept.ends (kept_step kept event).kept.ends (acts_of kept event) (λ c. bytes_for kept event c) happens in
-      gone_at name at.0 kept.ends (kept_step kept event).kept.ends (acts_of kept event) at.1 gone)
+    let at = one_at name kept.ends (kept_step kept event).kept.ends (acts_of kept event) (λ c. bytes_for kept event c) happens in
+    gone_at name at.0 kept.ends (kept_step kept event).kept.ends (acts_of kept event) at.1 gone)
 
 -- what becomes of a recording: it has its end, or goes on
 record Stopped (name : List ℕ) (c : ℕ) (stage : Stage) (kept : Kept) (event : Event) : Type 0 where
@@ -310,9 +309,9 @@ recording_is_its_messages profile first rest c name told replay before behind an
     let acts = begin_acts (place_at kept.ends c) name in
     behind_all name (opening_kept profile) first (events.RecordTo c name ∷ rest) (Some (recording (applied_until next rest c)))
     (λ t.
-      over_files name t acts (acts_from next rest)
-      ∙ so_far_ends name next rest c Waits (after_acts t acts) [] (have_slots kept (events.RecordTo c name) start.0) behind (inl begun.0)
-      (ap (λ (a : List FileAct). contents_of (after_acts t a).files name) begun.1 ∙ made t name))
+    over_files name t acts (acts_from next rest)
+    ∙ so_far_ends name next rest c Waits (after_acts t acts) [] (have_slots kept (events.RecordTo c name) start.0) behind (inl begun.0)
+    (ap (λ (a : List FileAct). contents_of (after_acts t a).files name) begun.1 ∙ made t name))
     told
   where
     somebody : (found : Option Place) → found ≡ None → is_some found ≡ true → ⊥

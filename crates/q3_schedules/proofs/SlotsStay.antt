@@ -1,12 +1,11 @@
 -- A client that is at its place has its slot at the server: no slot is ever given up.
-use Rattle.std.proofs.Common.{◌≡◌, ◌≢◌, ℕ, ◌<◌, ◌≤◌, List, length, get_or, set, map, Option, Some, None, Result, Ok, Err, true, false, refl, sym, ap, subst, ◌∙◌, inl, inr}
+use Rattle.std.proofs.Common.{◌≡◌, ℕ, ◌<◌, ◌≤◌, List, length, get_or, set, map, Option, Some, None, Result, Ok, Err, true, refl, sym, subst, inl, inr}
 use Rattle.std.specs.Prelude.{◌⊎◌, ◌==◌, ◌-◌, nat_le, nat_lt, position, slice_get, option_map}
 use Rattle.std.specs.Option.{is_some}
 use Rattle.std.proofs.lemmas.Bool.{cases_Bool, cases_eq, cond_both, leb-false, ltb-false, ltb-true}
 use Rattle.std.proofs.lemmas.List.{get_or-replicate, get_or-set_other, get_or-set_same, length-replicate}
 use Rattle.std.proofs.Math.ListN.{get_or-eq_default, get_or-map}
 use Rattle.std.proofs.Math.Seq.{set_out}
-use Rattle.std.specs.Str.{bytes_eq}
 use Rattle.q3_io.specs.declared.address.Address.{Address}
 use Rattle.q3_chan.specs.declared.qport.NoQport.{NoQport}
 use Rattle.q3_chan.specs.declared.qport.NoQport.TheVariants as no
@@ -22,10 +21,10 @@ use Rattle.q3_slot.specs.Slots.{lacks_room, say_slot, tells}
 use Rattle.q3_slot.specs.Emitting.{emit_slot}
 use Rattle.q3_slot.specs.Taking.{take_slot}
 use Rattle.q3_server.specs.declared.server.SlotError.{SlotError}
-use Rattle.q3_server.specs.declared.server.SlotError.TheVariants.{Range, Taken}
+use Rattle.q3_server.specs.declared.server.SlotError.TheVariants.{Range}
 use Rattle.q3_server.specs.declared.server.ConfigRefused.{ConfigRefused}
 use Rattle.q3_server.specs.declared.server.ConfigRefused.TheVariants.{Own}
-use Rattle.q3_server.specs.Server.{ServerState, Handed, places, slot_at, with_slot, add_apart, add_to, add_client_at, on_map, new_map_at, is_same, own_string, change_unless, change_where, change_or, set_config_at, give, say_to, say_at, emit_from, emit_at}
+use Rattle.q3_server.specs.Server.{ServerState, Handed, places, slot_at, add_apart, add_to, add_client_at, on_map, new_map_at, is_same, own_string, change_unless, change_where, change_or, set_config_at, give, say_to, say_at, emit_from, emit_at}
 use Rattle.q3_server.specs.Taking as hears
 use Rattle.q3_server.specs.Taking.{take_by, take_from, take_headed}
 use Rattle.q3_script.specs.declared.event.Event.{Event}
@@ -45,8 +44,8 @@ use Rattle.q3_ends.specs.Recording.{asking, begin_at, new_recording, note_taken,
 use Rattle.q3_world.specs.declared.made.Direction.{Direction}
 use Rattle.q3_world.specs.declared.made.Direction.TheVariants.{ToClient, ToServer}
 use Rattle.q3_world.specs.declared.places.Place.{Place}
-use Rattle.q3_world.specs.Ends.{Ends, client_takes, hand_server_of, join, joined, line_of, new_ends, place_at, record_of, set_port_of, stop_of, to_client, with_place}
-use Rattle.q3_world.specs.Kept.{Kept, SentBytes, arrive_at, deliver_at, kept_send, kept_step, kept_after}
+use Rattle.q3_world.specs.Ends.{Ends, client_takes, hand_server_of, joined, line_of, new_ends, place_at, record_of, set_port_of, stop_of, to_client, with_place}
+use Rattle.q3_world.specs.Kept.{Kept, SentBytes, arrive_at, deliver_at, kept_send, kept_step}
 
 -- ---- lists of slots
 
