@@ -23,3 +23,8 @@ pub mod LinesUnder
 pub mod TakenLines
 pub mod AnswerLines
 pub mod CountedLines
+pub mod NamedFiles
+pub mod SlotsStay
+pub mod EventKinds
+pub mod NamedRecordings
+pub mod Recorded

@@ -1,2 +1,3 @@
 pub mod Schedules
+pub mod Recorded
 pub mod ReportLines

@@ -1,5 +1,6 @@
 //! Laws of every schedule, each the contract of a call that does nothing but cite the laws below it.
 
+ghost use Rattle.q3_schedules.specs.Recorded.{RecordingIsItsMessages};
 ghost use Rattle.q3_schedules.specs.ReportLines.{CountsAreLines, ReplayIsCounted};
 ghost use Rattle.q3_schedules.specs.Schedules.{AlwaysLegible, UnknownWasNotMade, CommandsArePrefixes, KeysAgree, ExecutedGoesOn, AcceptedWereBuilt, ShownWasBuilt, ShownIsNewest, AsksForAccepted, AskedUnderGame, OneGamePerMap, BasesWereAccepted, HeldIsAccepted, ViewsWereBuilt, AppliedWasBuilt, NewerIsAccepted, UsualNeverSkips, NewerIsRun, MovesWereIssued, EnteringIsNotRun, InOrderIsAccepted, ServedIsShown, StateIsOfGame, StringsFollow};
 
@@ -217,4 +218,10 @@ pub fn strings_follow()
 pub fn counts_are_lines()
     ensures answers { CountsAreLines }
     ensures replay { ReplayIsCounted }
+{}
+
+/// A file that exactly one line of a replay makes, which was answered so, holds in the end the recording of the messages that its client
+/// applied behind that line, up to the line that ends it: whatever bytes arrived, and whatever files there were.
+pub fn recording_is_its_messages()
+    ensures { RecordingIsItsMessages }
 {}

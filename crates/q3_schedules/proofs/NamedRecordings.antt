@@ -1,0 +1,257 @@
+-- Recordings into the file of a name, and into others.
+use Rattle.std.proofs.Common.{◌≡◌, ◌≢◌, ℕ, List, [], ◌∷◌, ◌++◌, Option, Some, None, Ok, Err, true, false, refl, sym, ap, subst, ◌∙◌, inl, inr}
+use Rattle.std.specs.Prelude.{◌⊎◌, if◌then◌else◌, Bool}
+use Rattle.std.proofs.lemmas.Bool.{cases_eq, cond_both}
+use Rattle.std.proofs.lemmas.List.{append-nil, get_or-set_other}
+use Rattle.q3_io.specs.Acts.{FileAct, Makes, after_acts}
+use Rattle.q3_io.specs.Told.{Told, contents_of}
+use Rattle.q3_client.specs.Client.{ClientState, Taken, take_at}
+use Rattle.q3_client.specs.declared.client.ClientTook.{ClientTook}
+use Rattle.q3_client.specs.declared.client.ClientTook.TheVariants.{Applied}
+use Rattle.q3_report.specs.declared.answer.Front.{Front}
+use Rattle.q3_report.specs.declared.answer.RecordRefused.{RecordRefused}
+use Rattle.q3_report.specs.declared.answer.RecordRefused.TheVariants.{NoGame}
+use Rattle.q3_demo.specs.declared.recorder.Stage.{Stage}
+use Rattle.q3_demo.specs.declared.recorder.Stage.TheVariants.{Waits, Runs, Ended}
+use Rattle.q3_demo.specs.Recording.{Noted, closing, noted_from}
+use Rattle.q3_ends.specs.Recording.{RecordingState, RecordingStep, RecorderTook, RecordingTook, begin_at, begin_new, extends, is_ended, new_recording, note_taken, recorder_took, stop_at}
+use Rattle.q3_world.specs.declared.places.Place.{Place}
+use Rattle.q3_world.specs.Ends.{Ends, client_takes, place_at, record_of, recording_at, stop_of, with_place}
+use Rattle.q3_world.specs.Files.{begin_acts, stop_acts, take_acts}
+use Rattle.q3_world.proofs.Filing.{SameRecordings}
+use Rattle.q3_schedules.specs.Recorded.{noted_at, noted_of}
+use Rattle.q3_schedules.proofs.NamedFiles.{SparesAll, extended, spares_extended}
+use Rattle.q3_schedules.proofs.SlotsStay.{there}
+
+-- a recording, if one goes on, is into another file
+abbrev pub Unnamed : List ℕ → Option RecordingState → Type 0
+Unnamed name None = Unit {0}
+Unnamed name (Some going) = going.name ≢ name
+
+-- no recording is into the file of a name; or none but that of one client; or that one is, and is so far
+abbrev pub Gone : List ℕ → Ends → Type 0
+Gone name ends = (d : ℕ) → Unnamed name (recording_at (place_at ends d))
+
+abbrev pub Apart : List ℕ → ℕ → Ends → Type 0
+Apart name c ends = (d : ℕ) → d ≢ c → Unnamed name (recording_at (place_at ends d))
+
+pub record Goes (name : List ℕ) (c : ℕ) (stage : Stage) (ends : Ends) : Type 0 where
+  pub going : recording_at (place_at ends c) ≡ Some (record { name = name; stage = stage })
+  pub apart : Apart name c ends
+
+-- ---- what is done at one place
+
+-- a recording into another file stays so, and nothing is done to the file
+abbrev pub StaysApart : List ℕ → Option RecordingState → Option RecordingState → List FileAct → Type 0
+StaysApart name before now acts = Unnamed name before → Unnamed name now × SparesAll name acts
+
+pub stops_one : (name : List ℕ) (recording : Option RecordingState) → StaysApart name recording (stop_at recording).recording (stop_at recording).acts
+stops_one name None unnamed = (tt, tt)
+stops_one name (Some going) unnamed = (tt, spares_extended name going.name (closing going.stage) unnamed)
+
+begins_one : (name n : List ℕ) (client : ClientState) (recording : Option RecordingState) → n ≢ name
+    → StaysApart name recording (begin_at client recording (new_recording n)).recording (begin_at client recording (new_recording n)).acts
+begins_one name n client recording ne =
+    cond_both client.state.has_game (begin_new recording (new_recording n)) (record { recording = recording; answer = Err NoGame; acts = [] })
+    (λ (step : RecordingStep RecordRefused). StaysApart name recording step.recording step.acts) (λ has. new recording) (λ not unnamed. (unnamed, tt))
+  where
+    new : (recording : Option RecordingState) → StaysApart name recording (begin_new recording (new_recording n)).recording (begin_new recording (new_recording n)).acts
+    new None unnamed = (ne, (ne, tt))
+    new (Some going) unnamed = (unnamed, tt)
+
+takes_one : (name : List ℕ) (client : ClientState) (taken : Taken) (recording : Option RecordingState)
+    → StaysApart name recording (note_taken recording client taken).recording (note_taken recording client taken).acts
+takes_one name client taken None unnamed = (tt, tt)
+takes_one name client taken (Some going) unnamed =
+    let took = recorder_took going.stage client taken taken.answer in (
+      cond_both took.ended None (Some (record going { stage = took.stage })) (λ (r : Option RecordingState). Unnamed name r) (λ ended. tt) (λ goes. unnamed),
+      spares_extended name going.name took.bytes unnamed,
+    )
+
+-- the recording of one client alone may change, and one into another file stays so
+pub record AtOne (name : List ℕ) (d : ℕ) (old new : Ends) (acts : List FileAct) : Type 0 where
+  pub others : (k : ℕ) → k ≢ d → recording_at (place_at new k) ≡ recording_at (place_at old k)
+  pub one : StaysApart name (recording_at (place_at old d)) (recording_at (place_at new d)) acts
+
+pub at_same : (name : List ℕ) (d : ℕ) (old new : Ends) → SameRecordings old new → AtOne name d old new []
+at_same name d old new same = record { others = λ k ne. same k; one = λ unnamed. (subst (Unnamed name) (sym (same d)) unnamed, tt) }
+
+at_put : (name : List ℕ) (d : ℕ) (ends : Ends) (place now : Place) (acts : List FileAct) → place_at ends d ≡ Some place → StaysApart name place.recording now.recording acts
+    → AtOne name d ends (with_place ends d now) acts
+at_put name d ends place now acts at stays = record {
+  others = λ k ne. rw (get_or-set_other ends.clients d k (Some now) None ne) refl;
+  one = λ unnamed.
+      let after = stays (subst (λ (found : Option Place). Unnamed name (recording_at found)) at unnamed) in
+      (subst (λ (found : Option Place). Unnamed name (recording_at found)) (sym (there ends d place now at)) after.0, after.1);
+}
+
+pub stops_at : (name : List ℕ) (d : ℕ) (ends : Ends) (found : Option Place) → place_at ends d ≡ found → AtOne name d ends (stop_of ends d found).ends (stop_acts found)
+stops_at name d ends None at = at_same name d ends ends (λ k. refl)
+stops_at name d ends (Some place) at =
+    at_put name d ends place (record place { recording = (stop_at place.recording).recording }) (stop_at place.recording).acts at (stops_one name place.recording)
+
+pub begins_at : (name n : List ℕ) (d : ℕ) (ends : Ends) (found : Option Place) → n ≢ name → place_at ends d ≡ found → AtOne name d ends (record_of ends d n found).ends (begin_acts found n)
+begins_at name n d ends None ne at = at_same name d ends ends (λ k. refl)
+begins_at name n d ends (Some place) ne at =
+    let begun = begin_at place.client place.recording (new_recording n) in
+    at_put name d ends place (record place { recording = begun.recording }) begun.acts at (begins_one name n place.client place.recording ne)
+
+pub takes_at : (name : List ℕ) (d : ℕ) (ends : Ends) (front : Front) (bytes : List ℕ) (found : Option Place) → place_at ends d ≡ found
+    → AtOne name d ends (client_takes ends d front bytes found).ends (take_acts found bytes)
+takes_at name d ends front bytes None at = at_same name d ends ends (λ k. refl)
+takes_at name d ends front bytes (Some place) at =
+    let taken = take_at place.client bytes in
+    let noted = note_taken place.recording place.client taken in
+    at_put name d ends place (record place { client = taken.client; recording = noted.recording }) noted.acts at (takes_one name place.client taken place.recording)
+
+-- ---- where the file has no recording, or another client's
+
+pub gone_at : (name : List ℕ) (d : ℕ) (old new : Ends) (acts : List FileAct) → AtOne name d old new acts → Gone name old → Gone name new × SparesAll name acts
+gone_at name d old new acts at gone = (
+  λ k. elim (cases_eq k d) [
+    | inl same ↦ subst (λ (j : ℕ). Unnamed name (recording_at (place_at new j))) (sym same) (at.one (gone d)).0
+    | inr not ↦ subst (Unnamed name) (sym (at.others k not)) (gone k)
+  ],
+  (at.one (gone d)).1,
+)
+
+apart_at : (name : List ℕ) (c d : ℕ) (old new : Ends) (acts : List FileAct) → AtOne name d old new acts → Apart name c old → Apart name c new
+apart_at name c d old new acts at apart = λ k ne. elim (cases_eq k d) [
+  | inl same ↦
+      subst (λ (j : ℕ). Unnamed name (recording_at (place_at new j))) (sym same)
+      (at.one (apart d (λ is. ne (same ∙ is)))).0
+  | inr not ↦ subst (Unnamed name) (sym (at.others k not)) (apart k ne)
+]
+
+pub goes_at : (name : List ℕ) (c d : ℕ) (stage : Stage) (old new : Ends) (acts : List FileAct) → d ≢ c → AtOne name d old new acts → Goes name c stage old
+    → Goes name c stage new × SparesAll name acts
+goes_at name c d stage old new acts ne at goes = (
+  record { going = at.others c (λ same. ne (sym same)) ∙ goes.going; apart = apart_at name c d old new acts at goes.apart },
+  (at.one (goes.apart d ne)).1,
+)
+
+-- ---- the client whose recording it is
+
+-- where its recording is now another, or none
+pub gone_of : (name : List ℕ) (c : ℕ) (ends : Ends) → Apart name c ends → Unnamed name (recording_at (place_at ends c)) → Gone name ends
+gone_of name c ends apart here = λ d. elim (cases_eq d c) [
+  | inl same ↦ subst (λ (j : ℕ). Unnamed name (recording_at (place_at ends j))) (sym same) here
+  | inr not ↦ apart d not
+]
+
+-- it goes on, or has ended by itself
+abbrev pub IsSoFar : List ℕ → ℕ → Stage → Ends → Type 0
+IsSoFar name c stage ends = Goes name c stage ends ⊎ ((stage ≡ Ended) × Gone name ends)
+
+apart_put : (name : List ℕ) (c : ℕ) (ends : Ends) (now : Place) → Apart name c ends → Apart name c (with_place ends c now)
+apart_put name c ends now apart = λ d ne. rw (get_or-set_other ends.clients c d (Some now) None ne) (apart d ne)
+
+put_so_far : (name : List ℕ) (c : ℕ) (stage : Stage) (ended : Bool) (ends : Ends) (place now : Place) → place_at ends c ≡ Some place → Apart name c ends
+    → now.recording ≡ (if ended then None else Some (record { name = name; stage = stage })) → (ended ≡ true → stage ≡ Ended) → IsSoFar name c stage (with_place ends c now)
+put_so_far name c stage true ends place now at apart is over =
+    inr (over refl, gone_of name c (with_place ends c now) (apart_put name c ends now apart) (subst (Unnamed name) (sym (ap recording_at (there ends c place now at) ∙ is)) tt))
+put_so_far name c stage false ends place now at apart is over =
+    inl (record { going = ap recording_at (there ends c place now at) ∙ is; apart = apart_put name c ends now apart })
+
+pub nobody : (going : RecordingState) (found : Option RecordingState) → found ≡ None → found ≡ Some going → ⊥
+nobody going None none some = absurd cc
+nobody going (Some other) none some = absurd cc
+
+-- what it takes is noted as the messages are that it applies
+record Notes (stage : Stage) (notes : List Noted) (took : RecorderTook) : Type 0 where
+  pub stages : took.stage ≡ (noted_from stage notes).stage
+  pub bytes : took.bytes ≡ (noted_from stage notes).bytes
+  pub over : took.ended ≡ true → took.stage ≡ Ended
+
+over_ended : (stage : Stage) → is_ended stage ≡ true → stage ≡ Ended
+over_ended Ended is = refl
+over_ended Waits is = absurd cc
+over_ended (Runs first) is = absurd cc
+
+notes_of : (stage : Stage) (client : ClientState) (taken : Taken) (answer : ClientTook) → Notes stage (noted_of client taken answer) (recorder_took stage client taken answer)
+unfolding noted_from
+notes_of stage client taken (Applied applied) = record {
+  stages = refl;
+  bytes = sym (append-nil (recorder_took stage client taken (Applied applied)).bytes);
+  over = over_ended (recorder_took stage client taken (Applied applied)).stage;
+}
+notes_of stage client taken other = record { stages = refl; bytes = refl; over = λ ended. absurd cc }
+
+-- the file gets what is noted, and the recording is so far
+pub record GoesOn (name : List ℕ) (c : ℕ) (stage : Stage) (notes : List Noted) (new : Ends) (acts : List FileAct) : Type 0 where
+  pub so_far : IsSoFar name c (noted_from stage notes).stage new
+  pub adds : (told : Told) (bytes : List ℕ) → contents_of told.files name ≡ Some bytes → contents_of (after_acts told acts).files name ≡ Some (bytes ++ (noted_from stage notes).bytes)
+
+pub takes_named : (name : List ℕ) (c : ℕ) (stage : Stage) (ends : Ends) (front : Front) (bytes : List ℕ) (found : Option Place) → place_at ends c ≡ found → Goes name c stage ends
+    → GoesOn name c stage (noted_at found (Some bytes)) (client_takes ends c front bytes found).ends (take_acts found bytes)
+takes_named name c stage ends front bytes None at goes = absurd (nobody (record { name = name; stage = stage }) (recording_at (place_at ends c)) (ap recording_at at) goes.going)
+takes_named name c stage ends front bytes (Some place) at goes =
+    let taken = take_at place.client bytes in
+    let notes = noted_of place.client taken taken.answer in
+    let took = recorder_took stage place.client taken taken.answer in
+    let facts = notes_of stage place.client taken taken.answer in
+    let going : place.recording ≡ Some (record { name = name; stage = stage }) = ap recording_at (sym at) ∙ goes.going in
+    let noted_is = ap (λ (r : Option RecordingState). note_taken r place.client taken) going in
+    let now : Place = record place { client = taken.client; recording = (note_taken place.recording place.client taken).recording } in
+    record {
+      so_far = subst (λ (s : Stage). IsSoFar name c s (with_place ends c now)) facts.stages
+          (put_so_far name c took.stage took.ended ends place now at goes.apart (ap (λ (n : RecordingTook). n.recording) noted_is) facts.over);
+      adds = λ told before is.
+          ap (λ (acts : List FileAct). contents_of (after_acts told acts).files name) (ap (λ (n : RecordingTook). n.acts) noted_is)
+          ∙ (extended told name before took.bytes is ∙ ap (λ (b : List ℕ). Some (before ++ b)) facts.bytes);
+    }
+
+-- it is stopped
+pub stops_named : (name : List ℕ) (c : ℕ) (stage : Stage) (ends : Ends) (found : Option Place) → place_at ends c ≡ found → Goes name c stage ends
+    → Gone name (stop_of ends c found).ends × (stop_acts found ≡ extends name (closing stage))
+stops_named name c stage ends None at goes = absurd (nobody (record { name = name; stage = stage }) (recording_at (place_at ends c)) (ap recording_at at) goes.going)
+stops_named name c stage ends (Some place) at goes =
+    let going : place.recording ≡ Some (record { name = name; stage = stage }) = ap recording_at (sym at) ∙ goes.going in
+    let now : Place = record place { recording = (stop_at place.recording).recording } in (
+      gone_of name c (with_place ends c now) (apart_put name c ends now goes.apart)
+          (subst (Unnamed name) (sym (ap recording_at (there ends c place now at) ∙ ap (λ (r : Option RecordingState). (stop_at r).recording) going)) tt),
+      ap (λ (r : Option RecordingState). (stop_at r).acts) going,
+    )
+
+-- a line that would begin another is refused
+pub begins_named : (name n : List ℕ) (c : ℕ) (stage : Stage) (ends : Ends) (found : Option Place) → place_at ends c ≡ found → Goes name c stage ends
+    → Goes name c stage (record_of ends c n found).ends × (begin_acts found n ≡ [])
+begins_named name n c stage ends None at goes = (goes, refl)
+begins_named name n c stage ends (Some place) at goes =
+    let going : place.recording ≡ Some (record { name = name; stage = stage }) = ap recording_at (sym at) ∙ goes.going in
+    let begun = begin_at place.client place.recording (new_recording n) in
+    let now : Place = record place { recording = begun.recording } in
+    let refused = already place.client place.recording (record { name = name; stage = stage }) going in (
+      record { going = ap recording_at (there ends c place now at) ∙ refused.0; apart = apart_put name c ends now goes.apart },
+      refused.1,
+    )
+  where
+    already : (client : ClientState) (recording : Option RecordingState) (going : RecordingState) → recording ≡ Some going
+        → ((begin_at client recording (new_recording n)).recording ≡ Some going) × ((begin_at client recording (new_recording n)).acts ≡ [])
+    already client recording going is =
+        cond_both client.state.has_game (begin_new recording (new_recording n)) (record { recording = recording; answer = Err NoGame; acts = [] })
+        (λ (step : RecordingStep RecordRefused). (step.recording ≡ Some going) × (step.acts ≡ [])) (λ has. rw is (refl, refl)) (λ not. (is, refl))
+
+-- it begins where the line is answered so
+pub begun_named : (name : List ℕ) (c : ℕ) (ends : Ends) (place : Place) → place_at ends c ≡ Some place → Gone name ends
+    → (begin_at place.client place.recording (new_recording name)).answer ≡ Ok tt
+    → Goes name c Waits (record_of ends c name (Some place)).ends × (begin_acts (Some place) name ≡ Makes name ∷ [])
+begun_named name c ends place at gone ok =
+    let begun = begin_at place.client place.recording (new_recording name) in
+    let now : Place = record place { recording = begun.recording } in
+    let is = begins place.client place.recording ok in (
+      record { going = ap recording_at (there ends c place now at) ∙ is.0; apart = apart_put name c ends now (λ d ne. gone d) },
+      is.1,
+    )
+  where
+    new : (recording : Option RecordingState) → (begin_new recording (new_recording name)).answer ≡ Ok tt
+        → ((begin_new recording (new_recording name)).recording ≡ Some (new_recording name)) × ((begin_new recording (new_recording name)).acts ≡ Makes name ∷ [])
+    new None ok = (refl, refl)
+    new (Some going) ok = absurd cc
+
+    begins : (client : ClientState) (recording : Option RecordingState) → (begin_at client recording (new_recording name)).answer ≡ Ok tt
+        → ((begin_at client recording (new_recording name)).recording ≡ Some (new_recording name)) × ((begin_at client recording (new_recording name)).acts ≡ Makes name ∷ [])
+    begins client recording =
+        cond_both client.state.has_game (begin_new recording (new_recording name)) (record { recording = recording; answer = Err NoGame; acts = [] })
+        (λ (step : RecordingStep RecordRefused). step.answer ≡ Ok tt → (step.recording ≡ Some (new_recording name)) × (step.acts ≡ Makes name ∷ []))
+        (λ has. new recording) (λ not ok. absurd cc)

@@ -1,0 +1,286 @@
+-- A client that is at its place has its slot at the server: no slot is ever given up.
+use Rattle.std.proofs.Common.{◌≡◌, ℕ, ◌<◌, ◌≤◌, List, length, get_or, set, map, Option, Some, None, Result, Ok, Err, true, refl, sym, subst, inl, inr}
+use Rattle.std.specs.Prelude.{◌⊎◌, ◌==◌, ◌-◌, nat_le, nat_lt, position, slice_get, option_map}
+use Rattle.std.specs.Option.{is_some}
+use Rattle.std.proofs.lemmas.Bool.{cases_Bool, cases_eq, cond_both, leb-false, ltb-false, ltb-true}
+use Rattle.std.proofs.lemmas.List.{get_or-replicate, get_or-set_other, get_or-set_same, length-replicate}
+use Rattle.std.proofs.Math.ListN.{get_or-eq_default, get_or-map}
+use Rattle.std.proofs.Math.Seq.{set_out}
+use Rattle.q3_io.specs.declared.address.Address.{Address}
+use Rattle.q3_chan.specs.declared.qport.NoQport.{NoQport}
+use Rattle.q3_chan.specs.declared.qport.NoQport.TheVariants as no
+use Rattle.q3_chan.specs.Senders.{qport_of}
+use Rattle.q3_profile.specs.declared.profile.Profile.{Profile}
+use Rattle.q3_map.specs.declared.map.NotLater.{NotLater}
+use Rattle.q3_map.specs.Map as of_map
+use Rattle.q3_config.specs.declared.error.ConfigError.{ConfigError}
+use Rattle.q3_config.specs.Strings.{admit_fault}
+use Rattle.q3_config.specs.Laws.{piece_texts}
+use Rattle.q3_slot.specs.Slot.{SlotState, is_of, new_slot, on_new_map, with_area, with_player}
+use Rattle.q3_slot.specs.Slots.{lacks_room, say_slot, tells}
+use Rattle.q3_slot.specs.Emitting.{emit_slot}
+use Rattle.q3_slot.specs.Taking.{take_slot}
+use Rattle.q3_server.specs.declared.server.SlotError.{SlotError}
+use Rattle.q3_server.specs.declared.server.SlotError.TheVariants.{Range}
+use Rattle.q3_server.specs.declared.server.ConfigRefused.{ConfigRefused}
+use Rattle.q3_server.specs.declared.server.ConfigRefused.TheVariants.{Own}
+use Rattle.q3_server.specs.Server.{ServerState, Handed, places, slot_at, add_apart, add_to, add_client_at, on_map, new_map_at, is_same, own_string, change_unless, change_where, change_or, set_config_at, give, say_to, say_at, emit_from, emit_at}
+use Rattle.q3_server.specs.Taking as hears
+use Rattle.q3_server.specs.Taking.{take_by, take_from, take_headed}
+use Rattle.q3_script.specs.declared.event.Event.{Event}
+use Rattle.q3_script.specs.declared.event.Event.TheVariants as events
+use Rattle.q3_client.specs.Client.{ClientState, new_client, take_at}
+use Rattle.q3_client.specs.Sending as speaks
+use Rattle.q3_report.specs.declared.answer.Front.{Front}
+use Rattle.q3_report.specs.declared.answer.Front.TheVariants as fronts
+use Rattle.q3_report.specs.declared.answer.HandedIn.{HandedIn}
+use Rattle.q3_report.specs.declared.answer.HandedIn.TheVariants as handed
+use Rattle.q3_report.specs.declared.answer.MoveRefused.TheVariants as refused
+use Rattle.q3_report.specs.declared.answer.TypeRefused.TheVariants as untyped
+use Rattle.q3_ends.specs.AtClient as at_client
+use Rattle.q3_ends.specs.AtClient.{ClientStep}
+use Rattle.q3_ends.specs.AtServer.{server_line}
+use Rattle.q3_ends.specs.Recording.{asking, begin_at, new_recording, note_taken, stop_at}
+use Rattle.q3_world.specs.declared.made.Direction.{Direction}
+use Rattle.q3_world.specs.declared.made.Direction.TheVariants.{ToClient, ToServer}
+use Rattle.q3_world.specs.declared.places.Place.{Place}
+use Rattle.q3_world.specs.Ends.{Ends, client_takes, hand_server_of, joined, line_of, new_ends, place_at, record_of, set_port_of, stop_of, to_client, with_place}
+use Rattle.q3_world.specs.Kept.{Kept, SentBytes, arrive_at, deliver_at, kept_send, kept_step}
+
+-- ---- lists of slots
+
+pub within : (count c : ℕ) → (c < count) ⊎ (count ≤ c)
+within count c = elim (cases_Bool (nat_lt c count)) [
+  | inl lt ↦ inl (ltb-true c count lt)
+  | inr ge ↦ inr (ltb-false c count ge)
+]
+
+put_stays : (slots : List (Option SlotState)) (c : ℕ) (slot : SlotState) (d : ℕ) → is_some (get_or slots d None) ≡ true → is_some (get_or (set slots c (Some slot)) d None) ≡ true
+put_stays slots c slot d is = elim (cases_eq d c) [
+  | inl same ↦ elim (within (length slots) c) [
+    | inl lt ↦ rw (same, get_or-set_same slots c (Some slot) None lt) refl
+    | inr ge ↦ rw (set_out slots c (Some slot) ge) is
+  ]
+  | inr not ↦ rw (get_or-set_other slots c d (Some slot) None not) is
+]
+
+some_mapped : (f : SlotState → SlotState) (found : Option SlotState) → is_some found ≡ true → is_some (option_map f found) ≡ true
+some_mapped f None is = absurd cc
+some_mapped f (Some slot) is = refl
+
+map_stays : (f : SlotState → SlotState) (slots : List (Option SlotState)) (d : ℕ) → is_some (get_or slots d None) ≡ true → is_some (get_or (map (option_map f) slots) d None) ≡ true
+map_stays f slots d is = subst (λ (found : Option SlotState). is_some found ≡ true) (sym (get_or-map (option_map f) slots d None)) (some_mapped f (get_or slots d None) is)
+
+-- ---- calls of the server
+
+abbrev pub SlotsStay : ServerState → ServerState → Type 0
+SlotsStay old new = (d : ℕ) → is_some (slot_at old d) ≡ true → is_some (slot_at new d) ≡ true
+
+gives : (server : ServerState) (c : ℕ) (change : SlotState → SlotState) (found : Option SlotState) → SlotsStay server (give server c change found).server
+gives server c change None = λ d is. is
+gives server c change (Some slot) = put_stays server.slots c (change slot)
+
+says : (server : ServerState) (c : ℕ) (text : List ℕ) (found : Option SlotState) → SlotsStay server (say_to server c text found).server
+says server c text None = λ d is. is
+says server c text (Some slot) =
+    let saying = say_slot slot text in
+    put_stays server.slots c saying.slot
+
+emits : (server : ServerState) (c : ℕ) (found : Option SlotState) → SlotsStay server (emit_from server c found).server
+emits server c None = λ d is. is
+emits server c (Some slot) =
+    let emission = emit_slot server.profile server.map server.frames c slot slot.sending.under_way in
+    put_stays server.slots c emission.slot
+
+emit_stays : (server : ServerState) (c : ℕ) → SlotsStay server (emit_at server c).server
+unfolding emit_at
+emit_stays server c = emits server c (slot_at server c)
+
+takes_by : (server : ServerState) (c : ℕ) (from : Address) (bytes : List ℕ) (found : Option SlotState) → SlotsStay server (take_by server c from bytes found).server
+takes_by server c from bytes None = λ d is. is
+takes_by server c from bytes (Some slot) =
+    let taken = take_slot server.profile server.map c from bytes slot in
+    put_stays server.slots c taken.slot
+
+takes_from : (server : ServerState) (from : Address) (bytes : List ℕ) (found : Option ℕ) → SlotsStay server (take_from server from bytes found).server
+takes_from server from bytes None = λ d is. is
+takes_from server from bytes (Some c) = takes_by server c from bytes (slot_at server c)
+
+takes_headed : (server : ServerState) (from : Address) (bytes : List ℕ) (head : Result ℕ NoQport) → SlotsStay server (take_headed server from bytes head).server
+takes_headed server from bytes (Ok qport) = takes_from server from bytes (hears.sender_of server from.host qport)
+takes_headed server from bytes (Err no.Runt) = λ d is. is
+takes_headed server from bytes (Err no.Connectionless) = λ d is. is
+
+take_stays : (server : ServerState) (from : Address) (bytes : List ℕ) → SlotsStay server (hears.take_at server from bytes).server
+unfolding hears.take_at
+take_stays server from bytes = takes_headed server from bytes (qport_of bytes)
+
+maps : (slots : List (Option SlotState)) (answer : Result (Unit {0}) NotLater) (d : ℕ) → is_some (get_or slots d None) ≡ true → is_some (get_or (on_map slots answer) d None) ≡ true
+maps slots (Ok x) d is = map_stays on_new_map slots d is
+maps slots (Err e) d is = is
+
+map_at_stays : (server : ServerState) (id feed : ℕ) → SlotsStay server (new_map_at server id feed).server
+map_at_stays server id feed = maps server.slots (of_map.new_map_at server.map id feed).answer
+
+changes_unless : (server : ServerState) (index : ℕ) (text : List ℕ) (found : Option ℕ) → SlotsStay server (change_unless server index text found).server
+changes_unless server index text (Some c) = λ d is. is
+changes_unless server index text None = map_stays (tells (piece_texts index text)) server.slots
+
+changes_where : (server : ServerState) (index : ℕ) (text : List ℕ) → SlotsStay server (change_where server index text).server
+changes_where server index text =
+    cond_both (is_same server.map index text) (record { server = server; answer = Ok tt }) (change_unless server index text (position (lacks_room (piece_texts index text)) server.slots))
+    (λ (handed : Handed ConfigRefused). SlotsStay server handed.server) (λ same d is. is) (λ other. changes_unless server index text (position (lacks_room (piece_texts index text)) server.slots))
+
+changes_or : (server : ServerState) (index : ℕ) (text : List ℕ) (fault : Option ConfigError) → SlotsStay server (change_or server index text fault).server
+changes_or server index text (Some fault) = λ d is. is
+changes_or server index text None = changes_where server index text
+
+config_stays : (server : ServerState) (index : ℕ) (text : List ℕ) → SlotsStay server (set_config_at server index text).server
+config_stays server index text =
+    cond_both (index == own_string) (record { server = server; answer = Err Own }) (change_or server index text (admit_fault server.map.strings index text))
+    (λ (handed : Handed ConfigRefused). SlotsStay server handed.server) (λ own d is. is) (λ other. changes_or server index text (admit_fault server.map.strings index text))
+
+-- a client joins where there was none, and is there then
+pub record Joins (server : ServerState) (c : ℕ) (handed : Handed SlotError) : Type 0 where
+  pub stays : SlotsStay server handed.server
+  pub free : handed.answer ≡ Ok tt → slot_at server c ≡ None
+  pub taken : handed.answer ≡ Ok tt → is_some (slot_at handed.server c) ≡ true
+
+joins_apart : (server : ServerState) (c : ℕ) (slot : SlotState) (twin : Option ℕ) → c < length server.slots → slot_at server c ≡ None → Joins server c (add_apart server c slot twin)
+joins_apart server c slot (Some twin) lt none = record { stays = λ d is. is; free = λ ok. none; taken = λ ok. absurd cc }
+joins_apart server c slot None lt none = record {
+  stays = put_stays server.slots c slot;
+  free = λ ok. none;
+  taken = λ ok. rw (get_or-set_same server.slots c (Some slot) None lt) refl;
+}
+
+joins_to : (server : ServerState) (c : ℕ) (slot : SlotState) (found : Option SlotState) → c < length server.slots → slot_at server c ≡ found → Joins server c (add_to server c slot found)
+joins_to server c slot (Some old) lt at = record { stays = λ d is. is; free = λ ok. absurd cc; taken = λ ok. absurd cc }
+joins_to server c slot None lt at = joins_apart server c slot (position (is_of slot.address.host slot.qport) server.slots) lt at
+
+pub joins : (server : ServerState) (c challenge qport : ℕ) (address : Address) → Joins server c (add_client_at server c challenge qport address)
+joins server c challenge qport address =
+    cond_both (nat_le (length server.slots) c) (record { server = server; answer = Err Range }) (add_to server c (new_slot challenge qport address) (slot_at server c))
+    (λ (handed : Handed SlotError). Joins server c handed) (λ out. record { stays = λ d is. is; free = λ ok. absurd cc; taken = λ ok. absurd cc })
+    (λ room. joins_to server c (new_slot challenge qport address) (slot_at server c) (leb-false (length server.slots) c room) refl)
+
+-- ---- both ends
+
+-- a client that is at its place has its slot at the server
+abbrev pub HaveSlots : Ends → Type 0
+HaveSlots ends = (d : ℕ) → is_some (place_at ends d) ≡ true → is_some (slot_at ends.server d) ≡ true
+
+by_server : (ends : Ends) (server : ServerState) → SlotsStay ends.server server → HaveSlots ends → HaveSlots (record ends { server = server })
+by_server ends server stays have = λ d is. stays d (have d is)
+
+-- what stands at a place where a client was
+pub there : (ends : Ends) (c : ℕ) (place now : Place) → place_at ends c ≡ Some place → place_at (with_place ends c now) c ≡ Some now
+there ends c place now at = elim (within (length ends.clients) c) [
+  | inl lt ↦ get_or-set_same ends.clients c (Some now) None lt
+  | inr ge ↦ absurd (nobody (place_at ends c) (get_or-eq_default ends.clients None ge) at)
+]
+  where
+    nobody : (found : Option Place) → found ≡ None → found ≡ Some place → ⊥
+    nobody None none some = absurd cc
+    nobody (Some other) none some = absurd cc
+
+puts : (ends : Ends) (c : ℕ) (place now : Place) → place_at ends c ≡ Some place → HaveSlots ends → HaveSlots (with_place ends c now)
+puts ends c place now at have = λ d is. elim (cases_eq d c) [
+  | inl same ↦ have d (rw (same, at) refl)
+  | inr not ↦ have d (subst (λ (found : Option Place). is_some found ≡ true) (get_or-set_other ends.clients c d (Some now) None not) is)
+]
+
+port_puts : (ends : Ends) (c port : ℕ) (found : Option Place) → place_at ends c ≡ found → HaveSlots ends → HaveSlots (set_port_of ends c port found).ends
+port_puts ends c port None at have = have
+port_puts ends c port (Some place) at have = puts ends c place (record place { address = record place.address { port = port } }) at have
+
+line_puts : (ends : Ends) (c : ℕ) (nobody : HandedIn) (line : ClientState → ClientStep) (found : Option Place) → place_at ends c ≡ found → HaveSlots ends
+    → HaveSlots (to_client ends c nobody line found).ends
+line_puts ends c nobody line None at have = have
+line_puts ends c nobody line (Some place) at have = puts ends c place (record place { client = (line place.client).client }) at have
+
+record_puts : (ends : Ends) (c : ℕ) (name : List ℕ) (found : Option Place) → place_at ends c ≡ found → HaveSlots ends → HaveSlots (record_of ends c name found).ends
+record_puts ends c name None at have = have
+record_puts ends c name (Some place) at have = puts ends c place (record place { recording = (begin_at place.client place.recording (new_recording name)).recording }) at have
+
+stop_puts : (ends : Ends) (c : ℕ) (found : Option Place) → place_at ends c ≡ found → HaveSlots ends → HaveSlots (stop_of ends c found).ends
+stop_puts ends c None at have = have
+stop_puts ends c (Some place) at have = puts ends c place (record place { recording = (stop_at place.recording).recording }) at have
+
+send_puts : (kept : Kept) (c : ℕ) (found : Option Place) → place_at kept.ends c ≡ found → HaveSlots kept.ends → HaveSlots (kept_send kept c found).kept.ends
+send_puts kept c None at have = have
+send_puts kept c (Some place) at have = puts kept.ends c place (record place { client = (speaks.emit_at (asking place.client place.recording)).client }) at have
+
+take_puts : (ends : Ends) (c : ℕ) (front : Front) (bytes : List ℕ) (found : Option Place) → place_at ends c ≡ found → HaveSlots ends → HaveSlots (client_takes ends c front bytes found).ends
+take_puts ends c front bytes None at have = have
+take_puts ends c front bytes (Some place) at have =
+    let taken = take_at place.client bytes in
+    puts ends c place (record place { client = taken.client; recording = (note_taken place.recording place.client taken).recording }) at have
+
+arrive_puts : (ends : Ends) (number : ℕ) (sent : SentBytes) (direction : Direction) → HaveSlots ends → HaveSlots (arrive_at ends number sent direction).ends
+arrive_puts ends number sent ToClient have = take_puts ends sent.client (fronts.Deliver number) sent.bytes (place_at ends sent.client) refl have
+arrive_puts ends number sent (ToServer from) have = by_server ends (hears.take_at ends.server from sent.bytes).server (take_stays ends.server from sent.bytes) have
+
+deliver_puts : (ends : Ends) (number : ℕ) (found : Option SentBytes) → HaveSlots ends → HaveSlots (deliver_at ends number found).ends
+deliver_puts ends number None have = have
+deliver_puts ends number (Some sent) have = arrive_puts ends number sent sent.direction have
+
+handed_puts : (ends : Ends) (c : ℕ) (bytes : List ℕ) (found : Option Place) → HaveSlots ends → HaveSlots (hand_server_of ends c bytes found).ends
+handed_puts ends c bytes None have = have
+handed_puts ends c bytes (Some place) have = by_server ends (hears.take_at ends.server place.address bytes).server (take_stays ends.server place.address bytes) have
+
+join_puts : (ends : Ends) (server : ServerState) (c : ℕ) (place : Place) (answer : Result (Unit {0}) SlotError) → SlotsStay ends.server server
+    → (answer ≡ Ok tt → is_some (slot_at server c) ≡ true) → HaveSlots ends → HaveSlots (joined (record ends { server = server }) c place answer).ends
+join_puts ends server c place (Ok x) stays taken have = λ d is. elim (cases_eq d c) [
+  | inl same ↦ rw same (taken refl)
+  | inr not ↦ stays d (have d (subst (λ (found : Option Place). is_some found ≡ true) (get_or-set_other ends.clients c d (Some place) None not) is))
+]
+join_puts ends server c place (Err e) stays taken have = by_server ends server stays have
+
+-- ---- every event
+
+pub have_slots : (kept : Kept) (event : Event) → HaveSlots kept.ends → HaveSlots (kept_step kept event).kept.ends
+unfolding kept_step line_of server_line
+have_slots kept (events.Client c challenge qport dup address) have =
+    let added = add_client_at kept.ends.server c challenge qport address in
+    let facts = joins kept.ends.server c challenge qport address in
+    join_puts kept.ends added.server c (record { client = new_client kept.profile challenge qport dup; address = address; recording = None }) added.answer facts.stays facts.taken have
+have_slots kept (events.Port c port) have = port_puts kept.ends c port (place_at kept.ends c) refl have
+have_slots kept (events.Map id feed) have = by_server kept.ends (new_map_at kept.ends.server id feed).server (map_at_stays kept.ends.server id feed) have
+have_slots kept (events.Config index text) have = by_server kept.ends (set_config_at kept.ends.server index text).server (config_stays kept.ends.server index text) have
+have_slots kept (events.Baseline state) have = have
+have_slots kept (events.Entity state) have = have
+have_slots kept (events.Remove number) have = have
+have_slots kept (events.Time time) have = have
+have_slots kept (events.Player c player) have =
+    let change : SlotState → SlotState = λ slot. with_player kept.ends.server.profile slot player in
+    by_server kept.ends (give kept.ends.server c change (slot_at kept.ends.server c)).server (gives kept.ends.server c change (slot_at kept.ends.server c)) have
+have_slots kept (events.Area c area) have =
+    let change : SlotState → SlotState = λ slot. with_area slot area.items in
+    by_server kept.ends (give kept.ends.server c change (slot_at kept.ends.server c)).server (gives kept.ends.server c change (slot_at kept.ends.server c)) have
+have_slots kept (events.Say c text) have = by_server kept.ends (say_at kept.ends.server c text).server (says kept.ends.server c text (slot_at kept.ends.server c)) have
+have_slots kept (events.TypeText c text) have =
+    line_puts kept.ends c (handed.TypeText c (Err untyped.NoClient)) (λ client. at_client.type_text client c text) (place_at kept.ends c) refl have
+have_slots kept (events.Move c one) have =
+    line_puts kept.ends c (handed.Move c (Err refused.NoClient)) (λ client. at_client.add_move client c one) (place_at kept.ends c) refl have
+have_slots kept (events.Serve c) have = by_server kept.ends (emit_at kept.ends.server c).server (emit_stays kept.ends.server c) have
+have_slots kept (events.Send c) have = send_puts kept c (place_at kept.ends c) refl have
+have_slots kept (events.Deliver number) have = deliver_puts kept.ends number (slice_get kept.datagrams (number - 1)) have
+have_slots kept (events.RecordTo c name) have = record_puts kept.ends c name (place_at kept.ends c) refl have
+have_slots kept (events.Stop c) have = stop_puts kept.ends c (place_at kept.ends c) refl have
+have_slots kept (events.Show c) have = have
+have_slots kept (events.Bytes number) have = have
+have_slots kept (events.Toclient c bytes) have = take_puts kept.ends c (fronts.Toclient c) bytes (place_at kept.ends c) refl have
+have_slots kept (events.Toserver c bytes) have = handed_puts kept.ends c bytes (place_at kept.ends c) have
+have_slots kept (events.At ms) have = have
+have_slots kept (events.End ms) have = have
+
+-- in the beginning nobody is anywhere
+pub nobody_yet : (profile : Profile) (c : ℕ) → place_at (new_ends profile) c ≡ None
+nobody_yet profile c = elim (within (length (new_ends profile).clients) c) [
+  | inl lt ↦ get_or-replicate places c empty empty (subst (λ (count : ℕ). c < count) (length-replicate places empty) lt)
+  | inr ge ↦ get_or-eq_default (new_ends profile).clients None ge
+]
+  where
+    empty : Option Place
+    empty = None
