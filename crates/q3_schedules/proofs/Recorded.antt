@@ -299,7 +299,7 @@ begun_at name c ends (Some place) at gone is = begun_named name c ends place at 
 
 pub recording_is_its_messages : RecordingIsItsMessages
 unfolding kept_step line_of acts_of line_acts acts_from
-recording_is_its_messages profile first rest c name told replay before behind answer =
+recording_is_its_messages profile first rest c name told before behind answer =
     let kept = kept_then profile first in
     let empty : HaveSlots (opening_kept profile).ends = λ d is. absurd (somebody (place_at (opening_kept profile).ends d) (nobody_yet profile d) is) in
     let start = before_all name (opening_kept profile) first before empty

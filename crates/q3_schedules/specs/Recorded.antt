@@ -7,7 +7,6 @@ use Rattle.q3_window.specs.Outgoing.{issued_of}
 use Rattle.q3_profile.specs.declared.profile.Profile.{Profile}
 use Rattle.q3_script.specs.declared.event.Event.{Event}
 use Rattle.q3_script.specs.declared.event.Event.TheVariants as events
-use Rattle.q3_script.specs.Grammar.{IsReplayEvent}
 use Rattle.q3_client.specs.declared.client.ClientTook.{ClientTook}
 use Rattle.q3_client.specs.declared.client.ClientTook.TheVariants.{Applied}
 use Rattle.q3_client.specs.Client.{ClientState, Taken, take_at}
@@ -72,7 +71,7 @@ MakesOther name other = Unit {0}
 -- the file that exactly one line of a replay makes, which is answered so, holds in the end the recording of the messages that the client
 -- applied behind that line, whatever bytes arrive, and whatever files there were
 abbrev pub RecordingIsItsMessages : Type 0
-RecordingIsItsMessages = (profile : Profile) (first rest : List Event) (c : ℕ) (name : List ℕ) (told : Told) → AllByRecursion IsReplayEvent (first ++ events.RecordTo c name ∷ rest)
+RecordingIsItsMessages = (profile : Profile) (first rest : List Event) (c : ℕ) (name : List ℕ) (told : Told)
     → AllByRecursion (MakesOther name) first → AllByRecursion (MakesOther name) rest
     → (kept_step (kept_then profile first) (events.RecordTo c name)).answer ≡ Given (handed.Record c (Ok tt))
     → contents_of (after_acts told (acts_from (opening_kept profile) (first ++ events.RecordTo c name ∷ rest))).files name

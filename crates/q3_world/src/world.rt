@@ -33,7 +33,8 @@ use std::alloc::Global;
 use std::marker::Model;
 
 /// A replay of a schedule: a copy of the profile, a server and each client that was added, every datagram that was made, and
-/// what a client, and the server, executed and ran last, in boxes, and counts of the lines that were printed.
+/// what a client, and the server, executed and ran last, in boxes, counts of the lines that were printed, and of each place the
+/// number of the file that its client records into.
 #[derive(Drop)]
 pub struct World {
     alloc: Global,

@@ -135,7 +135,7 @@ abbrev pub Reports : Option Command → Outside → Option Written → Option Wr
 Reports command told old now wired =
     (verdict : Verdict) × IsVerdict told command verdict × (verdict.ending ≡ Ok tt) × HandsOn old now verdict.text × (wired ≡ wire_by told.wire verdict.at verdict.turns)
 
--- a write of the files failed, in a command that makes some
+-- a write of the files failed, in a command that may write some
 abbrev pub FilesFail : Option Command → Outside → ℕ → ℕ → Type 0
 FilesFail command told before after =
     (verdict : Verdict) × IsVerdict told command verdict × Comes verdict.stops.writes × (before ≤ after) × Rose before after

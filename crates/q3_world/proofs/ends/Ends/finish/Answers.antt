@@ -24,8 +24,7 @@ pub loop-c-preserved : goal.loop-c-preserved
 loop-c-preserved g c =
     let lt : c.loop-c.c < length c.args.self.now.clients = omega (arith, c.stands.ensures, c.loop-c-test.true) in
     let at = HaveEnds-there c.loop-c.c c.args.self.now c.loop-c.self lt c.loop-c.invariant.0 in
-    let writes = c.in_ok-end_at.ensures.files in
-    (
+    let writes = c.in_ok-end_at.ensures.files in (
       subst (HaveEnds (c.loop-c.c + 1) c.args.self.now) (sym c.end_at.ensures.ends) (HaveEnds-more c.loop-c.c c.args.self.now c.loop-c.self lt c.loop-c.invariant.0),
       ends_more c.args.self.now c.loop-c.c lt c.loop-c.invariant.1
           (subst (λ (found : Option Place). WritesFiles (g.F.Files.told c.loop-c.files) (g.F.Files.told c.end_at.new.files) (g.F.Files.given c.loop-c.files) (g.F.Files.given c.end_at.new.files) (g.F.Files.faults c.loop-c.files) (g.F.Files.faults c.end_at.new.files) (g.F.Files.write_faults c.loop-c.files) (g.F.Files.write_faults c.end_at.new.files) (stop_acts found) (Ok c.in_ok-end_at.field-0)) at writes),
