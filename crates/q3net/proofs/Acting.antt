@@ -1,5 +1,5 @@
 -- Acts on files, one after the other, and what they leave.
-use Rattle.std.proofs.Common.{◌≡◌, ℕ, ◌+◌, ◌<◌, ◌≤◌, List, [], ◌∷◌, ◌++◌, length, get_or, drop, Option, Some, None, Result, Ok, Err, refl, sym, ap, subst, ◌∙◌, append_assoc, inl, inr}
+use Rattle.std.proofs.Common.{◌≡◌, ◌≢◌, ℕ, ◌+◌, ◌<◌, ◌≤◌, List, [], ◌∷◌, ◌++◌, length, get_or, drop, Option, Some, None, Result, Ok, Err, IsErr, refl, sym, ap, subst, ◌∙◌, append_assoc, inl, inr}
 use Rattle.std.proofs.lemmas.List.{append-nil, drop_more, drop_all}
 use Rattle.q3_script.specs.declared.event.Event.{Event}
 use Rattle.q3_io.specs.declared.sink.Failed.{Failed}
@@ -219,30 +219,38 @@ HasActed-more start now after told mid behind events k event is lt had does step
   acted = both_on told mid behind had.done (acts_of now event) (Ok tt) had.acted does;
 }
 
+-- some acts behind others are some
+some_behind : (first acts : List FileAct) → acts ≢ [] → first ++ acts ≢ []
+some_behind [] acts some none = some none
+some_behind (act ∷ first) acts some none = absurd cc
+
 -- the k-th event failed
 pub HasActed-early : (start now : Kept) (told mid behind : Option Told) (events : List Event) (k : ℕ) (event : Event) (e : StepError) (last : List FileAct)
     → event ≡ get_or events k event → k < length events → HasActed start now told mid events k → ActsOn mid behind (acts_by (Err e) (acts_of now event)) (by_files (Err e))
-    → DoesFirst told behind (acts_from start events) last (Err e)
-HasActed-early start now told mid behind events k event errors.NoMemory last is lt had does = (
+    → (IsErr (by_files (Err e)) → acts_by (Err e) (acts_of now event) ≢ []) → DoesFirst told behind (acts_from start events) last (Err e)
+HasActed-early start now told mid behind events k event errors.NoMemory last is lt had does some = (
   had.done ++ [],
   acts_from now (drop k events),
   had.whole ∙ ap (λ (acts : List FileAct). acts ++ acts_from now (drop k events)) (sym (append-nil had.done)),
   both_on told mid behind had.done [] (Ok tt) had.acted does,
   tt,
+  λ failed. some_behind had.done [] (some failed),
 )
-HasActed-early start now told mid behind events k event errors.WriteFault last is lt had does = (
+HasActed-early start now told mid behind events k event errors.WriteFault last is lt had does some = (
   had.done ++ acts_of now event,
   acts_from (kept_step now event).kept (drop (k + 1) events),
   more_whole start now told mid events k event is lt had,
   both_on told mid behind had.done (acts_of now event) (Ok tt) had.acted does,
   tt,
+  λ failed. some_behind had.done (acts_of now event) (some failed),
 )
-HasActed-early start now told mid behind events k event errors.FileFault last is lt had does = (
+HasActed-early start now told mid behind events k event errors.FileFault last is lt had does some = (
   had.done ++ acts_of now event,
   acts_from (kept_step now event).kept (drop (k + 1) events),
   more_whole start now told mid events k event is lt had,
   both_on told mid behind had.done (acts_of now event) (Err (record {})) had.acted does,
   tt,
+  λ failed. some_behind had.done (acts_of now event) (some failed),
 )
 
 -- every event was done
@@ -254,6 +262,7 @@ HasActed-all start now told behind events k le had = (
   had.whole ∙ ap (λ (acts : List FileAct). had.done ++ acts) (ap (acts_from now) (drop_all k events le) ∙ acts-none now),
   had.acted,
   refl,
+  λ failed. absurd cc,
 )
 
 -- and then the ends of the recordings that go on

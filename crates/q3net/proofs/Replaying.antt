@@ -1,5 +1,5 @@
 -- How a replay ends.
-use Rattle.std.proofs.Common.{◌≡◌, ℕ, List, [], ◌∷◌, ◌++◌, map, length, take, drop, Option, Some, None, Result, Ok, Err, refl, sym, ap, subst, ◌∙◌, inl, inr}
+use Rattle.std.proofs.Common.{◌≡◌, ◌≢◌, ℕ, List, [], ◌∷◌, ◌++◌, map, length, take, drop, Option, Some, None, Result, Ok, Err, IsErr, refl, sym, ap, subst, ◌∙◌, inl, inr}
 use Rattle.std.proofs.lemmas.List.{append-nil}
 use Rattle.q3_profile.specs.declared.profile.Profile.{Profile}
 use Rattle.q3_bits.specs.ResultBind.{◌>>=◌}
@@ -26,8 +26,8 @@ use Rattle.q3net.specs.declared.fault.Fault.TheVariants as faults
 use Rattle.q3net.specs.Command.{Command, Replay}
 use Rattle.q3net.specs.Faults.{Gets, IsOutside, step_fault, ReadCause, WriteCause, FileCause}
 use Rattle.q3net.specs.Input.{IsFront, Holds, looked_up, created, LeavesFirst, Touches, LooksUpTold, LooksUpFirst, Gives}
-use Rattle.q3net.specs.Verdict.{Verdict, Outside, of_files, IsVerdict, Schedule, profile_in, events_in, replayed, recorded, replay_done, names_by, GetsFrom}
-use Rattle.q3net.specs.Run.{Comes, AddsLines, DoesFirst, Executes, LeavesFiles}
+use Rattle.q3net.specs.Verdict.{Verdict, Outside, of_files, IsVerdict, Schedule, profile_in, events_in, replayed, recorded, writes_by, replay_done, names_by, GetsFrom}
+use Rattle.q3net.specs.Run.{Comes, ComesBehind, AddsLines, DoesFirst, Executes, LeavesFiles}
 use Rattle.q3net.proofs.Acting.{none_on, first_more, all_left, first_left, acted_all}
 use Rattle.q3net.proofs.Loading.{held}
 use Rattle.q3net.proofs.Looking.{schedules, got_ok, gave, gave_first, leaves_then, first_then, came_outside, profile_names}
@@ -148,21 +148,26 @@ memory_ended follow told profile script by events old read =
 
 -- ---- its events
 
+-- a file fails only where something is done to files
+writes_some : (acts : List FileAct) (printed text : List ℕ) → acts ≢ [] → IsFront printed text → ComesBehind (writes_by acts) printed text
+writes_some [] printed text some front = absurd (some refl)
+writes_some (act ∷ acts) printed text some front = front
+
 -- so many answers are a front of all
 first_lines : (all : List Answered) (k : ℕ) → IsFront (all_lines (take k all)) (all_lines all)
 first_lines all k = (all_lines (drop k all), sym (lines-all all k))
 
 pub steps_ended : (told : Option Told) (profile script : List ℕ) (by : Profile) (events : List Event) (old now : Option Written) (e : StepError)
-    → BothRead told profile script by events → AddsLines (answers by (opening by) events) old now (Err e)
+    → BothRead told profile script by events → AddsLines (answers by (opening by) events) old now (Err e) → (IsErr (by_files (Err e)) → acts_from (opening_kept by) events ≢ [])
     → Executes (Some (Replay profile script)) (of_files told) old now (Err (step_fault e))
 unfolding report
-steps_ended told profile script by events old now step.NoMemory read adds =
+steps_ended told profile script by events old now step.NoMemory read adds some =
     let all = answers by (opening by) events in
     (verdict_by profile script by events, verdict_of told profile script by events read, inl (all_lines (take adds.0 all), inr (faults.NoMemory, refl, first_lines all adds.0), adds.1))
-steps_ended told profile script by events old now step.FileFault read adds =
+steps_ended told profile script by events old now step.FileFault read adds some =
     let all = answers by (opening by) events in
-    (verdict_by profile script by events, verdict_of told profile script by events read, inl (all_lines (take adds.0 all), inr (faults.FileWrite, refl, first_lines all adds.0), adds.1))
-steps_ended told profile script by events old now step.WriteFault read adds =
+    (verdict_by profile script by events, verdict_of told profile script by events read, inl (all_lines (take adds.0 all), inr (faults.FileWrite, refl, writes_some (acts_from (opening_kept by) events) (all_lines (take adds.0 all)) (all_lines all) (some refl) (first_lines all adds.0)), adds.1))
+steps_ended told profile script by events old now step.WriteFault read adds some =
     (verdict_by profile script by events, verdict_of told profile script by events read, inr (refl, adds))
 
 pub steps_done : (told : Option Told) (profile script : List ℕ) (by : Profile) (events : List Event) (old now : Option Written)
@@ -174,11 +179,11 @@ steps_done told profile script by events old now read adds =
 
 -- what comes behind them couldn't be written
 pub finish_failed : (told : Option Told) (profile script : List ℕ) (by : Profile) (events : List Event) (old now : Option Written)
-    → BothRead told profile script by events → AddsLines (answers by (opening by) events) old now (Ok tt)
+    → BothRead told profile script by events → AddsLines (answers by (opening by) events) old now (Ok tt) → acts_from (opening_kept by) events ≢ []
     → Executes (Some (Replay profile script)) (of_files told) old now (Err faults.FileWrite)
 unfolding report
-finish_failed told profile script by events old now read adds =
-    (verdict_by profile script by events, verdict_of told profile script by events read, inl (report by events, inr (faults.FileWrite, refl, ([], append-nil (report by events))), adds))
+finish_failed told profile script by events old now read adds some =
+    (verdict_by profile script by events, verdict_of told profile script by events read, inl (report by events, inr (faults.FileWrite, refl, writes_some (acts_from (opening_kept by) events) (report by events) (report by events) some ([], append-nil (report by events))), adds))
 
 -- ---- what it leaves of the files
 
@@ -259,6 +264,25 @@ opens profile kept stands =
     ap (λ (by : Profile). kept_of by kept.ends kept.datagrams) stands.by
     ∙ (ap (λ (ends : Ends). kept_of profile ends kept.datagrams) stands.ends
     ∙ ap (λ (datagrams : List SentBytes). kept_of profile (new_ends profile) datagrams) stands.datagrams)
+
+-- where a step failed at a file, or what comes behind them, something was to be done to files
+none_first : (first second : List FileAct) → first ++ second ≡ [] → first ≡ []
+none_first [] second none = refl
+none_first (act ∷ first) second none = absurd cc
+
+none_last : (first second : List FileAct) → first ++ second ≡ [] → second ≡ []
+none_last [] second none = none
+none_last (act ∷ first) second none = absurd cc
+
+pub steps_some : (looked now : Option Told) (by : Profile) (events : List Event) (kept : Kept) (last : List FileAct) (result : Result (Unit {0}) StepError) → StandsFor by kept (opening by)
+    → DoesFirst looked now (acts_from kept events) last result → IsErr (by_files result) → acts_from (opening_kept by) events ≢ []
+steps_some looked now by events kept last result stands does failed none =
+    does.5 failed (none_first does.0 does.1 (sym does.2 ∙ (ap (λ (k : Kept). acts_from k events) (opens by kept stands) ∙ none)))
+
+pub ends_some : (looked now : Option Told) (by : Profile) (events : List Event) (kept : Kept) (last : List FileAct) → StandsFor by kept (opening by)
+    → DoesFirst looked now (acts_from kept events) last (Ok tt) → last ≢ [] → acts_from (opening_kept by) events ≢ []
+ends_some looked now by events kept last stands does some none =
+    some (sym does.4 ∙ none_last does.0 does.1 (sym does.2 ∙ (ap (λ (k : Kept). acts_from k events) (opens by kept stands) ∙ none)))
 
 step_outside : (e : StepError) → IsOutside (step_fault e)
 step_outside step.NoMemory = tt

@@ -1,5 +1,5 @@
 -- How a run goes: as its verdict says, or something from outside ends it early.
-use Rattle.std.specs.Prelude.{◌≡◌, ◌⊎◌, ℕ, ◌≤◌, true, false, List, [], ◌∷◌, ◌++◌, map, take, Option, Some, None, OnOk, Result, Ok, Err}
+use Rattle.std.specs.Prelude.{◌≡◌, ◌≢◌, ◌⊎◌, ℕ, ◌≤◌, true, false, List, [], ◌∷◌, ◌++◌, map, take, Option, Some, None, OnOk, Result, Ok, Err, IsErr}
 use Rattle.std.specs.List.{flat_map}
 use Rattle.q3_io.specs.Faults.{Rose}
 use Rattle.q3_io.specs.declared.address.Address.{Address}
@@ -135,7 +135,7 @@ abbrev pub Reports : Option Command → Outside → Option Written → Option Wr
 Reports command told old now wired =
     (verdict : Verdict) × IsVerdict told command verdict × (verdict.ending ≡ Ok tt) × HandsOn old now verdict.text × (wired ≡ wire_by told.wire verdict.at verdict.turns)
 
--- a write of the files failed, in a command that may write some
+-- a write of the files failed, in a command that does something to them
 abbrev pub FilesFail : Option Command → Outside → ℕ → ℕ → Type 0
 FilesFail command told before after =
     (verdict : Verdict) × IsVerdict told command verdict × Comes verdict.stops.writes × (before ≤ after) × Rose before after
@@ -186,7 +186,8 @@ AddsLines all old now (Err step.NoMemory) = (k : ℕ) × Wrote old now (flat_map
 AddsLines all old now (Err step.FileFault) = (k : ℕ) × Wrote old now (flat_map lines_of (take k all)) true
 AddsLines all old now (Err step.WriteFault) = Wrote old now (flat_map lines_of all) false
 
--- what the first of these acts did, all of them where what comes behind the events is left
+-- what the first of these acts did, of which there are some where one failed, and all of them where what comes behind the events is left
 abbrev pub DoesFirst : Option Told → Option Told → List FileAct → List FileAct → Result (Unit {0}) StepError → Type 0
 DoesFirst told now acts last result =
     (done : List FileAct) × (rest : List FileAct) × (acts ≡ done ++ rest) × ActsOn told now done (by_files result) × OnOk result (rest ≡ last)
+    × (IsErr (by_files result) → done ≢ [])

@@ -78,9 +78,13 @@ goes_on_wire = record { memory = First; reads = First; writes = Nowhere; wire = 
 abbrev pub goes_on_reading : Stops
 goes_on_reading = record { memory = First; reads = Anywhere; writes = Nowhere; wire = Nowhere }
 
--- and what reads all that it reads before its first line, and then writes files
-abbrev pub goes_on_writing : Stops
-goes_on_writing = record { memory = Anywhere; reads = First; writes = Anywhere; wire = Nowhere }
+-- and what reads all that it reads before its first line, and then writes files, if it does something to them
+abbrev pub writes_by : List FileAct → Place
+writes_by [] = Nowhere
+writes_by (act ∷ acts) = Anywhere
+
+abbrev pub goes_on_writing : List FileAct → Stops
+goes_on_writing acts = record reads_first { writes = writes_by acts }
 
 -- of a command that does nothing to files: it looks up these names, and prints a text, and behind it may come a cause
 abbrev pub printing : Stops → List (List ℕ) → List ℕ → Result (Unit {0}) Fault → Verdict
@@ -122,7 +126,7 @@ recorded replay = acts_from (opening_kept replay.by) replay.events
 -- what it prints is its report, and it records; of none, by a cause
 abbrev pub replay_done : List (List ℕ) → Result Schedule Fault → Verdict
 replay_done names (Ok replay) =
-    record (printing goes_on_writing names (report replay.by replay.events) (Ok tt)) {
+    record (printing (goes_on_writing (recorded replay)) names (report replay.by replay.events) (Ok tt)) {
       named = map looked_up names ++ created (recorded replay);
       acts = recorded replay;
     }

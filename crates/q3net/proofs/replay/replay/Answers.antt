@@ -1,11 +1,11 @@
-use Rattle.std.proofs.Common.{ℕ, List, Ok, Err, subst, ◌∙◌, arith}
+use Rattle.std.proofs.Common.{ℕ, List, Ok, Err, refl, subst, ◌∙◌, arith}
 use Rattle.std.proofs.lemmas.Result.{err_from_is_err_and}
 use Rattle.q3_script.specs.declared.event.Event.{Event}
 use Rattle.q3_world.specs.World.{opening, answers}
 use Rattle.q3_io.specs.Faults.{HasCause}
 use Rattle.q3_world.specs.Files.{acts_from, ending_acts, by_files}
 use Rattle.q3net.specs.Run.{AddsLines, DoesFirst}
-use Rattle.q3net.proofs.Replaying.{profile_ended, events_ended, both_read, memory_ended, steps_ended, steps_done, finish_failed, profile_gives, script_gives, both_looked, memory_left, steps_left, finish_left, all_done, nothing_sent, step_read_cause, step_write_cause, step_file_cause}
+use Rattle.q3net.proofs.Replaying.{profile_ended, events_ended, both_read, memory_ended, steps_ended, steps_done, finish_failed, profile_gives, script_gives, both_looked, memory_left, steps_some, ends_some, steps_left, finish_left, all_done, nothing_sent, step_read_cause, step_write_cause, step_file_cause}
 use Rattle.q3net.proofs.replay.replay.Goals as goal
 
 pub returns-in_err-profile-clause-executes : goal.returns-in_err-profile-clause-executes
@@ -49,7 +49,10 @@ returns-in_err-step_all-clause-executes g c =
     c.in_ok-profile.ensures.gets c.in_ok-profile.ensures.gives c.in_ok-events.ensures.gets in
     rw (p.1, p.2) (steps_ended (g.F.Files.told c.args.files.now) c.args.profile.now c.args.script.now c.in_ok-profile.profile c.in_ok-events.events.items (g.O.Sink.written c.args.out.now)
     (g.O.Sink.written c.step_all.new.out) c.in_err-step_all.field-0.0 read (subst (λ (events : List Event). AddsLines (answers c.in_ok-profile.profile (opening c.in_ok-profile.profile) events) (g.O.Sink.written c.args.out.now) (g.O.Sink.written c.step_all.new.out) (Err c.in_err-step_all.field-0.0))
-    c.deref.ensures.value (c.in_err-step_all.ensures.adds c.in_ok-profile.profile (opening c.in_ok-profile.profile) c.in_ok-world.ensures.stands)))
+    c.deref.ensures.value (c.in_err-step_all.ensures.adds c.in_ok-profile.profile (opening c.in_ok-profile.profile) c.in_ok-world.ensures.stands))
+    (steps_some (g.F.Files.told c.load_events.new.files) (g.F.Files.told c.step_all.new.files) c.in_ok-profile.profile c.in_ok-events.events.items c.in_ok-world.world.kept (ending_acts c.step_all.new.world.kept.ends)
+    (Err c.in_err-step_all.field-0.0) c.in_ok-world.ensures.stands
+    (subst (λ (events : List Event). DoesFirst (g.F.Files.told c.load_events.new.files) (g.F.Files.told c.step_all.new.files) (acts_from c.in_ok-world.world.kept events) (ending_acts c.step_all.new.world.kept.ends) (Err c.in_err-step_all.field-0.0)) c.deref.ensures.value c.in_err-step_all.ensures.files)))
 
 pub returns-clause-executes : goal.returns-clause-executes
 returns-clause-executes g c =
@@ -64,6 +67,9 @@ returns-in_default-clause-executes g c =
     c.in_ok-profile.ensures.gets c.in_ok-profile.ensures.gives c.in_ok-events.ensures.gets in
     finish_failed (g.F.Files.told c.args.files.now) c.args.profile.now c.args.script.now c.in_ok-profile.profile c.in_ok-events.events.items (g.O.Sink.written c.args.out.now)
     (g.O.Sink.written c.step_all.new.out) read (rw c.deref.ensures.value at (c.in_ok-step_all.ensures.adds c.in_ok-profile.profile (opening c.in_ok-profile.profile) c.in_ok-world.ensures.stands))
+    (ends_some (g.F.Files.told c.load_events.new.files) (g.F.Files.told c.step_all.new.files) c.in_ok-profile.profile c.in_ok-events.events.items c.in_ok-world.world.kept (ending_acts c.step_all.new.world.kept.ends) c.in_ok-world.ensures.stands
+    (subst (λ (events : List Event). DoesFirst (g.F.Files.told c.load_events.new.files) (g.F.Files.told c.step_all.new.files) (acts_from c.in_ok-world.world.kept events) (ending_acts c.step_all.new.world.kept.ends) (Ok tt)) c.deref.ensures.value c.in_ok-step_all.ensures.files)
+    (c.in_default.ensures.files.some refl))
 
 pub returns-in_err-world-clause-gives : goal.returns-in_err-world-clause-gives
 returns-in_err-world-clause-gives g c =

@@ -16,7 +16,7 @@ pub returns-in_err-step-clause-files : goal.returns-in_err-step-clause-files
 returns-in_err-step-clause-files g c =
     let p = err_from_is_err_and c.from_residual.result c.from_residual.ensures.1 in
     rw (p.1, p.2) (HasActed-early c.args.world.now.kept c.loop-event.world.kept (g.F.Files.told c.args.files.now) (g.F.Files.told c.loop-event.files) (g.F.Files.told c.step.new.files) c.args.events.now c.loop-event.event-index c.event-item.result
-    c.in_err-step.field-0.0 (ending_acts c.step.new.self.kept.ends) c.event-item.is c.loop-event-test.true c.loop-event.invariant.3 c.in_err-step.ensures.files.acts_on)
+    c.in_err-step.field-0.0 (ending_acts c.step.new.self.kept.ends) c.event-item.is c.loop-event-test.true c.loop-event.invariant.3 c.in_err-step.ensures.files.acts_on c.in_err-step.ensures.files.some)
 
 pub returns-in_err-step-clause-file_cause : goal.returns-in_err-step-clause-file_cause
 returns-in_err-step-clause-file_cause g c =
