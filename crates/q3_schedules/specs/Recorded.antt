@@ -52,7 +52,7 @@ noted_at (Some place) (Some bytes) =
     noted_of place.client taken taken.answer
 noted_at place bytes = []
 
--- the messages that a client applies with these events, up to the line that ends its recording
+-- the messages that a client applies with these events, up to the first `stop` of it
 abbrev pub is_stop : ℕ → Event → Bool
 is_stop c (events.Stop d) = d == c
 is_stop c other = false
@@ -63,13 +63,13 @@ applied_until kept (event ∷ events) c =
     if is_stop c event then []
     else noted_at (place_at kept.ends c) (bytes_for kept event c) ++ applied_until (kept_step kept event).kept events c
 
--- an event that makes no file of a name
+-- an event that is no `record` line of a name
 abbrev pub MakesOther : List ℕ → Event → Type 0
 MakesOther name (events.RecordTo c other) = other ≢ name
 MakesOther name other = Unit {0}
 
--- the file that exactly one line of a replay makes, which is answered so, holds in the end the recording of the messages that the client
--- applied behind that line, whatever bytes arrive, and whatever files there were
+-- the file that exactly one `record` line of a replay names, which is answered `ok`, holds in the end the recording of the messages that the
+-- client applied behind that line, whatever bytes arrive, and whatever files there were
 abbrev pub RecordingIsItsMessages : Type 0
 RecordingIsItsMessages = (profile : Profile) (first rest : List Event) (c : ℕ) (name : List ℕ) (told : Told)
     → AllByRecursion (MakesOther name) first → AllByRecursion (MakesOther name) rest

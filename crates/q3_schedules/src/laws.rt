@@ -220,8 +220,8 @@ pub fn counts_are_lines()
     ensures replay { ReplayIsCounted }
 {}
 
-/// A file that exactly one line of a replay makes, which was answered so, holds in the end the recording of the messages that its client
-/// applied behind that line, up to the line that ends it: whatever bytes arrived, and whatever files there were.
+/// A file that exactly one `record` line of a replay names, which was answered `ok`, holds in the end the recording of the messages that its
+/// client applied behind that line, up to its first `stop`: whatever bytes arrived, and whatever files there were.
 pub fn recording_is_its_messages()
     ensures { RecordingIsItsMessages }
 {}
