@@ -189,20 +189,10 @@ emission_is (emitted.Snapshot n base bytes) datagram =
 
 sending_is : (said : Sent) (datagram : ℕ) → Making (sent_text said datagram) (made_sent said)
 sending_is (sent.Dropped cause) datagram = record { rest = codes "dropped"; words = codes "dropped" ∷ []; made = false; spelled = (whole (codes " dropped") refl).spelled; cut = refl; named = λ first next other. other; is = refl }
-sending_is (sent.Fragment n) datagram =
-    let is = then_number (codes " fragment ") n (codes " datagram " ++ (decimal datagram ++ codes "\n")) refl (slot_number (codes " datagram ") datagram refl) in
-    record {
-      rest = codes "fragment " ++ (decimal n ++ (codes " datagram " ++ (decimal datagram ++ [])));
-      words = codes "fragment" ∷ decimal n ∷ codes "datagram" ∷ decimal datagram ∷ [];
-      made = true;
-      spelled = is.spelled;
-      cut = rw (next_word (decimal n) (codes "datagram " ++ (decimal datagram ++ [])) (number_word n), last_word (decimal datagram) (number_word datagram)) refl;
-      named = λ first next other. refl;
-      is = refl;
-    }
-sending_is sent.SequenceEnd datagram = record { rest = codes "sequenceend"; words = codes "sequenceend" ∷ []; made = false; spelled = (whole (codes " sequenceend") refl).spelled; cut = refl; named = λ first next other. other; is = refl }
-sending_is sent.Unclear datagram = record { rest = codes "unclear"; words = codes "unclear" ∷ []; made = false; spelled = (whole (codes " unclear") refl).spelled; cut = refl; named = λ first next other. other; is = refl }
-sending_is sent.Overlong datagram = record { rest = codes "overlong"; words = codes "overlong" ∷ []; made = false; spelled = (whole (codes " overlong") refl).spelled; cut = refl; named = λ first next other. other; is = refl }
+sending_is (sent.Fragment n) datagram = emission_is (emitted.Fragment n) datagram
+sending_is sent.SequenceEnd datagram = emission_is emitted.SequenceEnd datagram
+sending_is sent.Unclear datagram = emission_is emitted.Unclear datagram
+sending_is sent.Overlong datagram = emission_is emitted.Overlong datagram
 sending_is (sent.Message n bytes) datagram =
     let is = then_number (codes " message ") n (codes " bytes " ++ (decimal bytes ++ (codes " datagram " ++ (decimal datagram ++ codes "\n")))) refl
     (then_number (codes " bytes ") bytes (codes " datagram " ++ (decimal datagram ++ codes "\n")) refl (slot_number (codes " datagram ") datagram refl)) in

@@ -18,7 +18,7 @@ use Rattle.q3_clstate.specs.declared.applied.Applied.{Applied as AppliedSo}
 use Rattle.q3_chan.specs.declared.gatherer.Gathered.{Gathered}
 use Rattle.q3_chan.specs.declared.gatherer.Gathered.TheVariants as gathered
 use Rattle.q3_chan.specs.declared.gatherer.Gathered.TheVariants.{Whole as CameWhole}
-use Rattle.q3_chan.specs.Gathering.{Took as GatheredSo, gathered as gathered_of}
+use Rattle.q3_chan.specs.Gathering.{Gathering, Took as GatheredSo, gathered as gathered_of}
 use Rattle.q3_chan.specs.Tags.{tagged, IsQuiet}
 use Rattle.q3_chan.specs.Laws.{TaggedDoes}
 use Rattle.q3_clstate.specs.declared.applied.SnapOutcome.{SnapOutcome}
@@ -198,12 +198,11 @@ pub tag_of : (found : Option Tag) (sent : SentBytes) → option_map bytes_of fou
 tag_of None sent e = absurd cc
 tag_of (Some tag) sent e = (tag, refl, cc)
 
--- what a client makes of a piece that brings its message whole, by its tag
-came_whole : TaggedDoes → (profile : Profile) (whole : Whole) (tag : Tag) (client : ClientState) (n count : ℕ)
-    → (tagged client.gathering tag.number (built_bytes profile (named whole.histories tag)) tag.index).answer ≡ CameWhole n count
-    → (n ≡ tag.number) × (client.gathering.taken < tag.number)
-came_whole does_so profile whole tag client n count e =
-    let does = does_so client.gathering tag.number (built_bytes profile (named whole.histories tag)) tag.index in
+-- what comes whole with a piece of a message is that message, and it is newer
+pub came_whole : TaggedDoes → (gathering : Gathering) (number : ℕ) (message : List ℕ) (index n count : ℕ) → (tagged gathering number message index).answer ≡ CameWhole n count
+    → (n ≡ number) × (gathering.taken < number)
+came_whole does_so gathering number message index n count e =
+    let does = does_so gathering number message index in
     elim does.either [
       | inl waits ↦ absurd (subst IsQuiet e waits.quiet)
       | inr came ↦ (whole_is (sym e ∙ came.answer), came.newer)
@@ -347,7 +346,7 @@ newer_is_accepted law below profile all number n count sent client is are at way
     ap (λ (t : GatheredSo). t.answer) (sym (tag_is profile whole tag.0 place cited sent_is there.1 holds))
     ∙ (ap (λ (s : SentBytes). (gathered_of place.client.gathering s.bytes).answer) tag.2
     ∙ (ap (λ (e : ClientState). (gathered_of e.gathering sent.bytes).answer) there.2 ∙ came)) in
-    let whole_is = came_whole below.does profile whole tag.0 place.client n count answer in
+    let whole_is = came_whole below.does place.client.gathering tag.0.number (built_bytes profile (named whole.histories tag.0)) tag.0.index n count answer in
     let out = outcome profile whole tag.0.client tag.0.number had.0 place built cited had.1 whole_is.1 (names profile whole tag.0 had.0 place cited sent_is had.1) in
     let so : ℕ → ℕ → Type 0 = λ c k.
     ClientTookSo (kept_step kept (events.Deliver number)).answer number c (Applied (applied_now profile (history_at whole.histories c) k (built_at (history_at whole.histories c).built k)))

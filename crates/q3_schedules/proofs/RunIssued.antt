@@ -1,5 +1,5 @@
 -- What the server runs of a client.
-use Rattle.std.proofs.Common.{◌≡◌, ℕ, ◌-◌, ◌<◌, List, Option, Some, None, refl, sym, ap, subst, ◌∙◌, inl, inr, Ok, Bool, true, false}
+use Rattle.std.proofs.Common.{◌≡◌, ℕ, ◌-◌, ◌<◌, List, Option, Some, None, refl, sym, ap, subst, ◌∙◌, Ok, Bool, true, false}
 use Rattle.std.specs.Prelude.{slice_get, if◌then◌else◌, ◌||◌}
 use Rattle.std.proofs.lemmas.Option.{slice_get-map}
 use Rattle.q3_profile.specs.declared.profile.Profile.{Profile}
@@ -8,8 +8,7 @@ use Rattle.q3_script.specs.declared.event.Event.TheVariants as events
 use Rattle.q3_chan.specs.declared.gatherer.Gathered.{Gathered}
 use Rattle.q3_chan.specs.declared.gatherer.Gathered.TheVariants.{Whole as CameWhole}
 use Rattle.q3_chan.specs.Gathering.{Took as GatheredSo, gathered as gathered_of}
-use Rattle.q3_chan.specs.Tags.{tagged, IsQuiet}
-use Rattle.q3_chan.specs.Laws.{TaggedDoes}
+use Rattle.q3_chan.specs.Tags.{tagged}
 use Rattle.q3_window.specs.Incoming.{fresh_of, gap_in}
 use Rattle.q3_slot.specs.declared.taking.ServerTook.TheVariants as answer
 use Rattle.q3_report.specs.declared.answer.Front.TheVariants as fronts
@@ -32,7 +31,7 @@ use Rattle.q3_world.proofs.Holding.{Holds, has_slot, Has}
 use Rattle.q3_world.proofs.Arriving.{is_sent, is_of_client, said_tag_is, runs_whole, said_hears, IsOf}
 use Rattle.q3_world.proofs.OnePlace.{set_there}
 use Rattle.q3_world.proofs.Agree.{seen, Cited}
-use Rattle.q3_schedules.proofs.EverySchedule.{tag_of}
+use Rattle.q3_schedules.proofs.EverySchedule.{tag_of, came_whole}
 use Rattle.q3_world.proofs.ByTags.{cited_of}
 use Rattle.q3_map.specs.Map.{MapState, is_other}
 use Rattle.q3_clmsg.specs.Values.{Message}
@@ -98,20 +97,6 @@ server_said : (profile : Profile) (whole : Whole) (number : ℕ) (tag : Tag) (fr
     → (step profile whole (events.Deliver number)).whole.ends.server ≡ with_slot whole.ends.server tag.client (slot_takes profile whole tag from slot).slot
 unfolding step line_of
 server_said profile whole number tag from slot own at way found = rw (own, at, way, found) refl
-
--- the message that came whole is the one that the tag names
-heard_whole : TaggedDoes → (profile : Profile) (whole : Whole) (tag : Tag) (slot : SlotState) (n count : ℕ)
-    → (tagged slot.gathering tag.number (said_bytes profile (said_under whole.histories tag)) tag.index).answer ≡ CameWhole n count
-    → (n ≡ tag.number) × (slot.gathering.taken < tag.number)
-heard_whole does_so profile whole tag slot n count e =
-    let does = does_so slot.gathering tag.number (said_bytes profile (said_under whole.histories tag)) tag.index in
-    elim does.either [
-      | inl waits ↦ absurd (subst IsQuiet e waits.quiet)
-      | inr came ↦ (whole_is (sym e ∙ came.answer), came.newer)
-    ]
-  where
-    whole_is : {count' number' : ℕ} → CameWhole n count ≡ CameWhole number' count' → n ≡ number'
-    whole_is same = cc
 
 -- what becomes of a message that came whole, by the map and by what is noted of its client
 abbrev RunsSo : MapState → Answered → Option SlotState → ℕ → ℕ → ℕ → SlotState → History → Type 0
@@ -184,7 +169,7 @@ newer_is_run law below profile all number n count sent from slot is are at way f
     let whole_is : took.answer ≡ CameWhole n count =
     ap (λ (t : GatheredSo). t.answer) (sym (said_tag_is profile whole tag.0 from slot cited sent_is slot_is holds))
     ∙ (ap (λ (s : SentBytes). (gathered_of slot.gathering s.bytes).answer) tag.2 ∙ came) in
-    let brings = heard_whole below.does profile whole tag.0 slot n count whole_is in
+    let brings = came_whole below.does slot.gathering tag.0.number (said_bytes profile (said_under whole.histories tag.0)) tag.0.index n count whole_is in
     let number_is = brings.0 in
     let had = has_slot profile whole tag.0.client slot sent_is.0 slot_is holds in
     let by_bytes = delivers_same profile kept whole number cited stands in
