@@ -1,13 +1,13 @@
 -- What calls do to files, as acts.
 use Rattle.std.proofs.Common.{true, false, ◌≡◌, ℕ, ◌<◌, ◌≤◌, List, [], ◌∷◌, ◌++◌, length, Option, Some, None, Result, Ok, Err, refl, sym, ap, subst, ◌∙◌, append_assoc, inl, inr, arith}
-use Rattle.std.specs.Prelude.{slice_index_or, get_or}
+use Rattle.std.specs.Prelude.{get_or}
 use Rattle.std.specs.Option.{is_some}
 use Rattle.std.proofs.lemmas.List.{get_or_append_left}
 use Rattle.std.proofs.Math.Seq.{get_or-append_seam}
 use Rattle.q3_io.specs.declared.sink.Failed.{Failed}
 use Rattle.q3_io.specs.Acts.{FileAct, Makes, Extends, ActsOn, BreaksOff, after_act, after_acts}
 use Rattle.q3_io.specs.Faults.{HasCause}
-use Rattle.q3_io.specs.Told.{Told, Appends, Create, Creates, IsGiven, name_of, after_named}
+use Rattle.q3_io.specs.Told.{Told, Create, Creates, IsGiven, name_of, after_named}
 use Rattle.q3_demo.specs.Recorder.{AppendsBytes, done}
 use Rattle.std.proofs.lemmas.Bool.{cond_both}
 use Rattle.q3_client.specs.Client.{ClientState}

@@ -1,5 +1,5 @@
 -- What a recording has of what its client took.
-use Rattle.std.proofs.Common.{◌≡◌, ℕ, List, [], false, refl, subst}
+use Rattle.std.proofs.Common.{◌≡◌, ℕ, [], false, refl, subst}
 use Rattle.q3_clstate.specs.declared.applied.Applied.{Applied as AppliedSo}
 use Rattle.q3_clstate.specs.State.{AppliedState}
 use Rattle.q3_clstate.specs.Standing.{IsApplied}

@@ -9,7 +9,7 @@ use Rattle.q3_client.specs.declared.client.ClientTook.{ClientTook}
 use Rattle.q3_client.specs.declared.client.ClientTook.TheVariants.{Applied}
 use Rattle.q3_client.specs.Client.{ClientState, Taken}
 use Rattle.q3_demo.specs.declared.recorder.Stage.{Stage}
-use Rattle.q3_demo.specs.declared.recorder.Stage.TheVariants.{Waits, Runs, Ended}
+use Rattle.q3_demo.specs.declared.recorder.Stage.TheVariants.{Waits, Ended}
 use Rattle.q3_demo.specs.Recorder.{is_waiting}
 use Rattle.q3_demo.specs.Recording.{Noting, composed, game_bits, note_at, closing}
 use Rattle.q3_report.specs.declared.answer.RecordRefused.{RecordRefused}

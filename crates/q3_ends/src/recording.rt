@@ -22,7 +22,7 @@ use q3_demo::laws::applied_may_be_noted;
 use q3_demo::{Noted, Recorder};
 use q3_io::{Failed, Files};
 use q3_report::{RecordRefused, StopRefused};
-use q3_script::Name;
+use q3_words::Name;
 use std::alloc::Global;
 use std::marker::Model;
 
@@ -46,9 +46,11 @@ impl Recording {
     pub fn new(alloc: Global, name: &Name) -> Result<Recording, NoMemory>
         ensures { IfOk result (λ made. made ≡ new_recording name.now) }
     {
-        let name = name.copy(alloc)?;
         let recorder = Recorder::new(alloc)?;
-        Ok(Recording { name, recorder })
+        Ok(Recording {
+            name: name.copy(),
+            recorder,
+        })
     }
 
     /// Its client takes bytes, and what it made of them is noted.

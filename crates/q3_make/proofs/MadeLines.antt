@@ -25,7 +25,7 @@ use Rattle.q3_text.specs.Decimals.{is_digit}
 use Rattle.q3_text.proofs.Numerals.{own}
 use Rattle.q3_script.specs.declared.event.Event.{Event}
 use Rattle.q3_script.specs.declared.event.Event.TheVariants.{Client, Map, Entity, Remove, Baseline, Player, Time, Config, Say, TypeText, Move, Serve, Send, Deliver, Show}
-use Rattle.q3_script.specs.Addresses.{host_of}
+use Rattle.q3_words.specs.Addresses.{host_of}
 use Rattle.q3_script.specs.Grammar.{IsReplayEvent}
 use Rattle.q3_make.specs.Printed.{number_text, event_text, event_line}
 use Rattle.q3_make.specs.Generated.{draw, entity_with, player_with, walking, still, joins, time_at, entity_line, player_line, move_line, deliver_line, config_line, line_of, drawn_line}

@@ -27,11 +27,14 @@ use Rattle.q3_text.proofs.Translation.{stays}
 use Rattle.q3_script.specs.declared.event.Event.{Event}
 use Rattle.q3_script.specs.declared.event.Event.TheVariants.{Client, Port, Map, Entity, Remove, Baseline, Player, Area, Time, Config, Say, TypeText, Move, Serve, Send, Deliver, RecordTo, Stop, Show, Bytes, Toclient, Toserver, At, End}
 use Rattle.q3_script.specs.declared.cause.ScriptKind.TheVariants.{Replay}
-use Rattle.q3_script.specs.Names.{IsName}
-use Rattle.q3_script.specs.Words.{words_of}
+use Rattle.q3_words.specs.Names.{IsName}
+use Rattle.q3_words.specs.Words.{words_of}
 use Rattle.q3_io.specs.Print.{hex_word}
 use Rattle.q3_script.specs.Script.{longest_script, most_events, lines_of, is_passed_over}
-use Rattle.q3_script.specs.Grammar.{IsReplayEvent, field_words, SpellsAddress, SpellsEntity, SpellsPlayer, SpellsText, HasWords, SpellsEvent, SpellEvents, SpellsScript}
+use Rattle.q3_words.specs.Fields.{field_words, SpellsEntity, SpellsPlayer}
+use Rattle.q3_words.specs.Addresses.{SpellsAddress}
+use Rattle.q3_words.specs.Quotes.{SpellsText}
+use Rattle.q3_script.specs.Grammar.{IsReplayEvent, HasWords, SpellsEvent, SpellEvents, SpellsScript}
 use Rattle.q3_make.specs.Printed.{event_text, script_text}
 use Rattle.q3_make.proofs.PrintedWords.{without, IsWord, word_and, decimal_word, AreLineWords, words_and, Prints, only, before, row, name_is_word, hex_text_is_word, quoted_prints, fields_are_words, HasFields, fields_of}
 

@@ -17,12 +17,11 @@ use Rattle.q3_player.specs.Arrays.{changes_from}
 use Rattle.q3_player.proofs.Maps.{changes-rise, with_changes-changes}
 use Rattle.q3_text.proofs.Cuts.{lacks}
 use Rattle.q3_text.proofs.Numerals.{lacks-decimal}
-use Rattle.q3_script.specs.Words.{words_of}
+use Rattle.q3_words.specs.Words.{words_of}
 use Rattle.q3_io.specs.Print.{hex_word}
-use Rattle.q3_script.specs.Fields.{values_of}
-use Rattle.q3_script.specs.Quotes.{is_printed}
-use Rattle.q3_script.specs.Grammar.{field_words, AreFields}
-use Rattle.q3_script.proofs.Digits.{first_pass-at}
+use Rattle.q3_words.specs.Fields.{values_of, field_words, AreFields}
+use Rattle.q3_words.specs.Quotes.{is_printed}
+use Rattle.q3_words.proofs.Digits.{first_pass-at}
 
 -- ---- bytes that a text lacks
 

@@ -10,7 +10,7 @@ use Rattle.q3_entity.specs.Entities.{zero_entity}
 use Rattle.q3_entity.specs.declared.state.EntityState.{EntityState}
 use Rattle.q3_player.specs.State.{zero_player}
 use Rattle.q3_player.specs.declared.state.PlayerState.{PlayerState}
-use Rattle.q3_script.specs.Addresses.{host_of}
+use Rattle.q3_words.specs.Addresses.{host_of}
 use Rattle.q3_script.specs.Grammar.{IsReplayEvent}
 use Rattle.q3_script.specs.Script.{longest_script}
 use Rattle.q3_make.specs.Printed.{script_text}

@@ -1,9 +1,8 @@
 -- The parts of a turn: a line that is done, and a receive.
-use Rattle.std.proofs.Common.{◌≡◌, ℕ, ◌+◌, ◌-◌, ◌<◌, ◌≤◌, Bool, true, false, if◌then◌else◌, List, [], ◌∷◌, ◌++◌, length, take, drop, min, Option, Some, None, option_map, is_some, Result, Ok, Err, ◌⊎◌, inl, inr, refl, sym, ap, ap₂, subst, ◌∙◌, true≢false, arith}
+use Rattle.std.proofs.Common.{◌≡◌, ℕ, ◌+◌, ◌-◌, ◌<◌, ◌≤◌, Bool, true, false, if◌then◌else◌, List, [], ◌∷◌, length, take, drop, min, Option, Some, None, option_map, is_some, Result, Ok, Err, ◌⊎◌, inl, inr, refl, sym, ap, ap₂, subst, ◌∙◌, true≢false, arith}
 use Rattle.std.proofs.lemmas.List.{append-nil, drop-drop, take_all, length-take}
 use Rattle.std.proofs.lemmas.Bool.{cases_lt}
 use Rattle.q3_io.specs.declared.address.Address.{Address}
-use Rattle.q3_io.specs.declared.sink.Failed.{Failed}
 use Rattle.q3_io.specs.Readings.{Reads}
 use Rattle.q3_io.specs.Traffic.{Parcel, Traffic, next_of, after_receive, Binds, Receives, Fills}
 use Rattle.q3_io.specs.Written.{Written, Wrote}
@@ -11,9 +10,9 @@ use Rattle.q3_io.specs.Laws.{TextsFollow}
 use Rattle.q3_script.specs.declared.event.Event.{Event}
 use Rattle.q3_report.specs.AnswerLines.{lines_of}
 use Rattle.q3_node.specs.declared.error.NodeError.{NodeError}
-use Rattle.q3_node.specs.declared.error.NodeError.TheVariants.{WireFault, WriteFault}
+use Rattle.q3_node.specs.declared.error.NodeError.TheVariants.{WriteFault}
 use Rattle.q3_node.specs.declared.turns.Course.{Course}
-use Rattle.q3_node.specs.Node.{Rules, Node, Turn, Turned, receive_room, cut_to_room, time_behind, is_end, start_at, made_with, due, line_turn, receive_turn, turn_of, turn_at, answer_text, text_of}
+use Rattle.q3_node.specs.Node.{Rules, Turn, Turned, receive_room, cut_to_room, time_behind, is_end, start_at, made_with, due, line_turn, receive_turn, turn_of, answer_text, text_of}
 use Rattle.q3_node.specs.Running.{at_bound, Leaves, wire_behind, sent_on, DoesLine, Finds, DoesTurn, TakesTurn, node_of}
 
 -- ---- what one turn leaves

@@ -1,7 +1,6 @@
 -- A node comes to its line `end` where the clock reaches its time.
-use Rattle.std.proofs.Common.{◌≡◌, ℕ, zero, suc, ◌+◌, ◌-◌, ◌<◌, ◌≤◌, Bool, true, false, if◌then◌else◌, cond, List, [], ◌∷◌, length, drop, take, Option, Some, None, refl, sym, ap, subst, ◌∙◌, inl, inr, arith, ◌||◌}
+use Rattle.std.proofs.Common.{◌≡◌, ℕ, zero, suc, ◌+◌, ◌-◌, ◌<◌, ◌≤◌, true, false, cond, List, [], ◌∷◌, length, drop, take, Option, Some, None, refl, sym, ap, subst, inl, inr, arith}
 use Rattle.std.specs.Prelude.{◌⊎◌, nat_le, not}
-use Rattle.std.specs.List.{count_by, list_any}
 use Rattle.std.proofs.lemmas.Bool.{cases_Bool}
 use Rattle.std.proofs.lemmas.List.Sums.{sum_by-append}
 use Rattle.std.proofs.lemmas.Bool.Decides.{nat_tests}
@@ -12,7 +11,7 @@ use Rattle.q3_script.specs.declared.event.Event.TheVariants.{Client, Port, Map, 
 use Rattle.q3_script.specs.Grammar.{TimesRise, EndsLast}
 use Rattle.q3_node.specs.Node.{Rules, Node, Turn, Turned, due_at, time_behind, is_end, start_at, due, line_turn, receive_turn, turn_of, turn_at, turns_of, arrivals_after, did_end}
 use Rattle.q3_node.specs.Running.{readings_behind}
-use Rattle.q3_node.specs.Laws.{end_time, clock_at, lines_done, EndIsDone}
+use Rattle.q3_node.specs.Laws.{end_time, lines_done, EndIsDone}
 
 -- ---- lines and their times
 

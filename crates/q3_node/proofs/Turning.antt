@@ -1,5 +1,5 @@
 -- A node goes on turn by turn, and how it ends.
-use Rattle.std.proofs.Common.{◌≡◌, ℕ, zero, suc, ◌+◌, ◌-◌, ◌<◌, ◌≤◌, Bool, true, false, if◌then◌else◌, cond, List, [], ◌∷◌, ◌++◌, length, drop, Option, Some, None, Ok, Err, refl, sym, ap, ap₂, subst, ◌∙◌, append_assoc, arith, ◌||◌}
+use Rattle.std.proofs.Common.{◌≡◌, ℕ, zero, suc, ◌+◌, ◌-◌, ◌<◌, ◌≤◌, Bool, true, false, if◌then◌else◌, cond, List, [], ◌∷◌, ◌++◌, length, drop, Option, Some, None, Ok, Err, refl, sym, ap, ap₂, subst, ◌∙◌, append_assoc, arith}
 use Rattle.std.specs.List.{flat_map, list_any, count_by}
 use Rattle.std.specs.Option.{option_to_list}
 use Rattle.std.proofs.lemmas.List.{append-nil, drop-drop, length-append}
@@ -8,13 +8,13 @@ use Rattle.std.proofs.lemmas.List.Folds.{list_any-append}
 use Rattle.std.proofs.lemmas.Grind.{flat_map-append}
 use Rattle.q3_io.specs.Readings.{Reads, reading_of, readings_after}
 use Rattle.q3_io.specs.Traffic.{Parcel, Traffic, next_of}
-use Rattle.q3_io.specs.Written.{Written, Wrote, NothingWaits}
+use Rattle.q3_io.specs.Written.{Written, NothingWaits}
 use Rattle.q3_io.specs.Laws.{TextsFollow}
 use Rattle.q3_script.specs.declared.event.Event.{Event}
 use Rattle.q3_node.specs.declared.error.NodeError.{NodeError}
 use Rattle.q3_node.specs.declared.error.NodeError.TheVariants.{NoMemory, WireFault, WriteFault, Turns}
-use Rattle.q3_node.specs.Node.{Rules, Node, Turn, uses_wire, Turned, due, start_at, turn_of, turn_at, most_turns, turns_of, arrivals_after, did_end, answer_text, text_of, parcels_of}
-use Rattle.q3_node.specs.Running.{ToArrive, ToRead, wire_behind, traffic_behind, Leaves, readings_behind, clock_behind, Passes, Ran, RanNode, StaysFlushed, Finds, DoesTurn, TakesTurn}
+use Rattle.q3_node.specs.Node.{Rules, Node, Turn, uses_wire, Turned, due, start_at, turn_of, turn_at, most_turns, turns_of, arrivals_after, did_end, answer_text, parcels_of}
+use Rattle.q3_node.specs.Running.{ToArrive, ToRead, wire_behind, traffic_behind, Leaves, readings_behind, clock_behind, Ran, RanNode, StaysFlushed, Finds, TakesTurn}
 
 -- ---- what is still to come, before a turn
 

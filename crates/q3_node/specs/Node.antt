@@ -10,22 +10,28 @@ use Rattle.q3_script.specs.declared.event.Event.{Event}
 use Rattle.q3_script.specs.declared.event.Event.TheVariants.{At, End}
 use Rattle.q3_report.specs.Answers.{Answered}
 use Rattle.q3_report.specs.AnswerLines.{lines_of}
+use Rattle.q3_io.specs.Acts.{FileAct}
+use Rattle.q3_ends.specs.Recording.{RecordingState}
 
--- what an end does at a line: the end behind it, its answer, if it gives one, and the datagram that it sends, if it makes one
+-- what an end does at a line: the end behind it, its answer, if it gives one, the datagram that it sends, if it makes one, and what it does
+-- to files
 pub record LineDone (S : Type 0) : Type 0 where
   pub end : S
   pub answer : Option Answered
   pub sends : Option Parcel
+  pub acts : List FileAct
 
 -- and what it makes of an arrival
 pub record Arrived (S : Type 0) : Type 0 where
   pub end : S
   pub answer : Answered
+  pub acts : List FileAct
 
--- an end's rules: what it does at a line, where a datagram that it makes has this number, and at an arrival
+-- an end's rules: what it does at a line, where a datagram that it makes has this number, and at an arrival; and its recording, if one goes on
 pub record Rules (S : Type 0) : Type 0 where
   pub line : S → Event → ℕ → LineDone S
   pub arrives : S → Parcel → Arrived S
+  pub recording : S → Option RecordingState
 
 -- an end; the lines that are still to come, and the time that those before them said; the first reading of the clock, if one was taken;
 -- and how many datagrams were made
@@ -40,10 +46,11 @@ pub record Node (S : Type 0) : Type 0 where
 abbrev pub new_node : {S : Type 0} → S → List Event → Node S
 new_node end events = record { end = end; left = events; time = 0; start = None; made = 0 }
 
--- a turn: its answer, if it gives one, and what it sends, if anything; whether it received; and whether it did `end`
+-- a turn: its answer, if it gives one, what it sends, if anything, and what it does to files; whether it received; and whether it did `end`
 pub record Turn : Type 0 where
   pub answer : Option Answered
   pub sends : Option Parcel
+  pub acts : List FileAct
   pub received : Bool
   pub ended : Bool
 
@@ -102,15 +109,18 @@ line_turn rules node event =
     let done = rules.line node.end event (node.made + 1) in
     record {
       node = record node { end = done.end; left = drop 1 node.left; time = time_behind node.time event; made = made_with node.made done.sends };
-      turn = record { answer = done.answer; sends = done.sends; received = false; ended = is_end event };
+      turn = record { answer = done.answer; sends = done.sends; acts = done.acts; received = false; ended = is_end event };
     }
 
 -- a receive finds this, and an arrival is taken
 abbrev pub receive_turn : {S : Type 0} → Rules S → Node S → Option Parcel → Turned S
-receive_turn rules node None = record { node = node; turn = record { answer = None; sends = None; received = true; ended = false } }
+receive_turn rules node None = record { node = node; turn = record { answer = None; sends = None; acts = []; received = true; ended = false } }
 receive_turn rules node (Some parcel) =
     let arrived = rules.arrives node.end (cut_to_room parcel) in
-    record { node = record node { end = arrived.end }; turn = record { answer = Some arrived.answer; sends = None; received = true; ended = false } }
+    record {
+      node = record node { end = arrived.end };
+      turn = record { answer = Some arrived.answer; sends = None; acts = arrived.acts; received = true; ended = false };
+    }
 
 -- the next line, if it is due at this time
 abbrev pub due : ℕ → ℕ → List Event → Option Event
@@ -161,3 +171,7 @@ text_of turns = flat_map (λ (turn : Turn). answer_text turn.answer) turns
 -- and what they send, in this order
 abbrev pub parcels_of : List Turn → List Parcel
 parcels_of turns = flat_map (λ (turn : Turn). option_to_list turn.sends) turns
+
+-- and what they do to files
+abbrev pub acts_of : List Turn → List FileAct
+acts_of turns = flat_map (λ (turn : Turn). turn.acts) turns

@@ -1,6 +1,6 @@
 //! A server's loop, and a client's.
 
-ghost use Rattle.std.specs.Prelude.{◌≡◌, ◌≤◌, Bool, true, false, length, All, Some, IsErrOf, IfErr, is_ok};
+ghost use Rattle.std.specs.Prelude.{◌≡◌, ◌≤◌, false, length, All, Some, IsErrOf, IfErr, is_ok};
 ghost use Rattle.q3_profile.specs.Profile.{IsProfile};
 ghost use Rattle.q3_script.specs.declared.cause.ScriptKind.TheVariants as kinds;
 ghost use Rattle.q3_script.specs.Grammar.{IsEventOf, IsInRange, IsOneClient};

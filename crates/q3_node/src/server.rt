@@ -3,7 +3,6 @@
 ghost use Rattle.std.specs.Prelude.{◌≡◌, IfOk};
 ghost use Rattle.q3_profile.specs.Profile.{IsProfile};
 ghost use Rattle.q3_server.specs.Server.{places, new_server};
-ghost use Rattle.q3_node.specs.Node.{LineDone};
 ghost use Rattle.q3_node.specs.Running.{DoesLine, WireCause, WriteCause};
 ghost use Rattle.q3_node.specs.AtServer.{server_rules, serve};
 

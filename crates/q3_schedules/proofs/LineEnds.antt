@@ -10,7 +10,6 @@ use Rattle.q3_entity.specs.declared.error.EntityError.{EntityError}
 use Rattle.q3_entity.specs.declared.error.EntityError.TheVariants as entities
 use Rattle.q3_clmsg.specs.declared.error.ClientIllegible.{ClientIllegible}
 use Rattle.q3_clmsg.specs.declared.error.ClientIllegible.TheVariants as heard
-use Rattle.q3_clmsg.specs.Report.{spaced, move_words, move_text}
 use Rattle.q3_clmsg.specs.Report as client_words
 use Rattle.q3_svmsg.specs.declared.error.Illegible.{Illegible as ServerIllegible}
 use Rattle.q3_svmsg.specs.declared.error.Illegible.TheVariants as causes

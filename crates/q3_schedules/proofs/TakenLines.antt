@@ -4,7 +4,7 @@ use Rattle.std.specs.Prelude.{slice_index_or}
 use Rattle.std.specs.List.{list_all, flat_map}
 use Rattle.q3_text.specs.declared.text.Command.{Command}
 use Rattle.q3_window.specs.Report.{commands_text}
-use Rattle.q3_clmsg.specs.Report.{spaced, move_words, move_text}
+use Rattle.q3_clmsg.specs.Report.{move_text}
 use Rattle.q3_clmsg.specs.Report as client_words
 use Rattle.q3_svmsg.specs.Report as server_words
 use Rattle.q3_clstate.specs.State.{AppliedState}
@@ -14,13 +14,13 @@ use Rattle.q3_slot.specs.declared.taking.ServerTook.{ServerTook}
 use Rattle.q3_slot.specs.declared.taking.ServerTook.TheVariants as took
 use Rattle.q3_client.specs.declared.client.ClientTook.{ClientTook}
 use Rattle.q3_client.specs.declared.client.ClientTook.TheVariants.{Dropped, Runt, Connectionless, Old, OutOfOrder, BadFragment, Partial, Illegible, Applied as ClientApplied}
-use Rattle.q3_lines.specs.ServerLines.{Run, slot_error_text, not_later_text, late_text, no_client_text, config_refused_text, say_error_text, emitted_text, serve_text, slot_text, server_text, run_text, entered_text, owed_text}
+use Rattle.q3_lines.specs.ServerLines.{Run, server_text, run_text, entered_text, owed_text}
 use Rattle.q3_lines.specs.ServerLines as server_lines
 use Rattle.q3_lines.specs.ClientLines as client_lines
-use Rattle.q3_lines.specs.ClientLines.{took_text, client_text, window_full_text, move_error_text, sent_text, send_text}
+use Rattle.q3_lines.specs.ClientLines.{took_text, client_text}
 use Rattle.q3_report.specs.Answers.{Taking, ByClient, ByServer}
 use Rattle.q3_report.specs.AnswerLines.{ended_text, taking_text}
-use Rattle.q3_script.specs.Words.{words_of}
+use Rattle.q3_words.specs.Words.{words_of}
 use Rattle.q3_world.specs.declared.counts.Counts.{Counts}
 use Rattle.q3_world.specs.Counts.{no_counts, one_event, accepted_in, skipped_in, lines_of_client, lines_of_server, lines_of_taking}
 use Rattle.q3_schedules.specs.ReportLines.{is_under, taken_by}

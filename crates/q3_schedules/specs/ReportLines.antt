@@ -4,7 +4,7 @@ use Rattle.std.specs.List.{slice_split, count_by, starts_with, flat_map}
 use Rattle.std.specs.Str.{bytes_eq}
 use Rattle.q3_profile.specs.declared.profile.Profile.{Profile}
 use Rattle.q3_script.specs.declared.event.Event.{Event}
-use Rattle.q3_script.specs.Words.{words_of}
+use Rattle.q3_words.specs.Words.{words_of}
 use Rattle.q3_report.specs.Answers.{Answered}
 use Rattle.q3_report.specs.AnswerLines.{lines_of}
 use Rattle.q3_world.specs.declared.counts.Counts.{Counts}

@@ -3,9 +3,9 @@ use Rattle.std.proofs.Common.{◌≡◌, ℕ, ◌+◌, ◌<◌, true, false, Lis
 use Rattle.std.specs.Result.{result_map_both}
 use Rattle.std.proofs.lemmas.List.{append-nil, drop_more, drop_all, length_push}
 use Rattle.q3_script.specs.declared.event.Event.{Event}
-use Rattle.q3_script.specs.declared.cause.LineCause.{LineCause}
+use Rattle.q3_words.specs.declared.cause.LineCause.{LineCause}
 use Rattle.q3_bits.specs.ResultBind.{◌>>=◌}
-use Rattle.q3_script.specs.declared.cause.LineCause.TheVariants.{Order}
+use Rattle.q3_words.specs.declared.cause.LineCause.TheVariants.{Order}
 use Rattle.q3_script.specs.declared.cause.ScriptKind.{ScriptKind}
 use Rattle.q3_script.specs.Script.{BadLine, Course, is_passed_over, event_at, course_behind, is_complete, events_from}
 

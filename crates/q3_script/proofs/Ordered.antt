@@ -7,13 +7,13 @@ use Rattle.std.proofs.lemmas.Bool.Decides.{Decides-eqb}
 use Rattle.q3_io.specs.declared.address.Address.{Address}
 use Rattle.q3_script.specs.declared.event.Event.{Event}
 use Rattle.q3_script.specs.declared.event.Event.TheVariants.{Client, Port, Map, Entity, Remove, Baseline, Player, Area, Time, Config, Say, TypeText, Move, Serve, Send, Deliver, RecordTo, Stop, Show, Bytes, Toclient, Toserver, At, End}
-use Rattle.q3_script.specs.declared.cause.LineCause.{LineCause}
-use Rattle.q3_script.specs.declared.cause.LineCause.TheVariants.{Order}
+use Rattle.q3_words.specs.declared.cause.LineCause.{LineCause}
+use Rattle.q3_words.specs.declared.cause.LineCause.TheVariants.{Order}
 use Rattle.q3_script.specs.declared.cause.ScriptKind.{ScriptKind}
 use Rattle.q3_script.specs.declared.cause.ScriptKind.TheVariants as kinds
 use Rattle.q3_script.specs.Script.{Course, no_course, timed, node_behind, is_of, first_behind, client_behind, course_behind, is_complete}
 use Rattle.q3_script.specs.Grammar.{TimesRise, EndsLast, IsOfClient, IsOneClient, AreOrdered}
-use Rattle.q3_script.proofs.NumberWords.{ok_is}
+use Rattle.q3_words.proofs.NumberWords.{ok_is}
 
 -- from a course on, each event may stand where it does, and the script may end behind the last
 abbrev pub Goes : ScriptKind → Course → List Event → Type 0

@@ -10,13 +10,13 @@ use Rattle.q3_text.proofs.Translation.{texts}
 use Rattle.q3_script.specs.declared.event.Event.{Event}
 use Rattle.q3_script.specs.declared.event.Event.TheVariants.{Config, Say, TypeText}
 use Rattle.q3_bits.specs.ResultBind.{◌>>=◌, bind_ok}
-use Rattle.q3_script.specs.Quotes.{bytes_word, text_word}
-use Rattle.q3_script.specs.Lines.{last_client, most_config, number_word, client_word, config_at, config_line, command_at, say_line, type_line}
-use Rattle.q3_script.specs.Grammar.{SpellsBytes, SpellsText}
+use Rattle.q3_words.specs.Quotes.{bytes_word, text_word, most_config, SpellsBytes, SpellsText}
+use Rattle.q3_words.specs.Numbers.{last_client, number_word, client_word}
+use Rattle.q3_script.specs.Lines.{config_at, config_line, command_at, say_line, type_line}
 use Rattle.q3_script.proofs.SpelledLines.{IsLine}
-use Rattle.q3_script.proofs.Spaces.{words_at_space, AreLeft, IsOfLine, second_of_line}
-use Rattle.q3_script.proofs.NumberWords.{ok_is, number_word-spelled, number_word-again}
-use Rattle.q3_script.proofs.Unquoted.{bytes_word-spelled, bytes_word-again, text_word-spelled, text_word-again}
+use Rattle.q3_words.proofs.Spaces.{words_at_space, AreLeft, IsOfLine, second_of_line}
+use Rattle.q3_words.proofs.NumberWords.{ok_is, number_word-spelled, number_word-again}
+use Rattle.q3_words.proofs.Unquoted.{bytes_word-spelled, bytes_word-again, text_word-spelled, text_word-again}
 
 -- a command's text, and whose it is
 record WasCommand (words : List (List ℕ)) (c : ℕ) (text : List ℕ) : Type 0 where

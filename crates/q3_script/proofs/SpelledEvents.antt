@@ -22,25 +22,26 @@ use Rattle.q3_player.specs.declared.state.PlayerState.{PlayerState}
 use Rattle.q3_io.specs.declared.address.Address.{Address}
 use Rattle.q3_script.specs.declared.event.Event.{Event}
 use Rattle.q3_script.specs.declared.event.Event.TheVariants.{Client, Port, Map, Entity, Remove, Baseline, Player, Area, Time, Config, Say, TypeText, Move, Serve, Send, Deliver, RecordTo, Stop, Show, Bytes, Toclient, Toserver, At, End}
-use Rattle.q3_script.specs.declared.cause.LineCause.{LineCause}
-use Rattle.q3_script.specs.declared.cause.LineCause.TheVariants as causes
+use Rattle.q3_words.specs.declared.cause.LineCause.{LineCause}
+use Rattle.q3_words.specs.declared.cause.LineCause.TheVariants as causes
 use Rattle.q3_script.specs.declared.cause.ScriptKind.{ScriptKind}
 use Rattle.q3_script.specs.declared.cause.ScriptKind.TheVariants as kinds
 use Rattle.q3_bits.specs.ResultBind.{◌>>=◌, bind_ok}
-use Rattle.q3_script.specs.Words.{words_of, words_left}
-use Rattle.q3_script.specs.Addresses.{address_at}
-use Rattle.q3_script.specs.Hex.{most_handed, area_at, handed_at}
-use Rattle.q3_script.specs.Names.{name_at}
-use Rattle.q3_script.specs.Fields.{values_of, player_of, entity_at, player_at}
-use Rattle.q3_script.specs.Lines.{last_client, last_entity, last_datagram, last_time, number_word, entity_word, client_word, client_line, port_line, map_line, entity_line, remove_line, baseline_line, player_line, area_line, time_line, config_line, say_line, type_line, move_line, serve_line, send_line, deliver_line, record_line, stop_line, show_line, bytes_line, hand_at, toclient_line, toserver_line, at_line, end_line, Table, line_in, lines_taken, line_at}
-use Rattle.q3_script.specs.Grammar.{AreFields, SpellsAddress, SpellsHex, SpellsEntity, SpellsPlayer, SpellsEvent, IsInRange, IsEventOf, HasWords}
+use Rattle.q3_words.specs.Words.{words_of, words_left}
+use Rattle.q3_words.specs.Addresses.{address_at, SpellsAddress}
+use Rattle.q3_words.specs.Hex.{most_handed, area_at, handed_at, SpellsHex}
+use Rattle.q3_words.specs.Names.{name_at}
+use Rattle.q3_words.specs.Fields.{values_of, player_of, entity_at, player_at, AreFields, SpellsEntity, SpellsPlayer}
+use Rattle.q3_words.specs.Numbers.{last_client, last_entity, number_word, entity_word, client_word}
+use Rattle.q3_script.specs.Lines.{last_datagram, last_time, client_line, port_line, map_line, entity_line, remove_line, baseline_line, player_line, area_line, time_line, config_line, say_line, type_line, move_line, serve_line, send_line, deliver_line, record_line, stop_line, show_line, bytes_line, hand_at, toclient_line, toserver_line, at_line, end_line, Table, line_in, lines_taken, line_at}
+use Rattle.q3_script.specs.Grammar.{SpellsEvent, IsInRange, IsEventOf, HasWords}
 use Rattle.q3_script.proofs.SpelledLines.{IsLine}
-use Rattle.q3_script.proofs.Spaces.{is_space, words_at_space, AreLeft}
-use Rattle.q3_script.proofs.NumberWords.{done, ok_is, ok_or-ok, number_word-spelled, number_word-again}
-use Rattle.q3_script.proofs.Addresses.{address_at-spelled, address_at-again}
-use Rattle.q3_script.proofs.FieldWords.{entity_at-spelled, entity_at-again, player_at-spelled, player_at-again}
-use Rattle.q3_script.proofs.NameWords.{name_at-is, name_at-again}
-use Rattle.q3_script.proofs.HexWords.{hex_within-spelled, hex_within-again, area_at-spelled, area_at-again}
+use Rattle.q3_words.proofs.Spaces.{is_space, words_at_space, AreLeft}
+use Rattle.q3_words.proofs.NumberWords.{done, ok_is, ok_or-ok, number_word-spelled, number_word-again}
+use Rattle.q3_words.proofs.Addresses.{address_at-spelled, address_at-again}
+use Rattle.q3_words.proofs.FieldWords.{entity_at-spelled, entity_at-again, player_at-spelled, player_at-again}
+use Rattle.q3_words.proofs.NameWords.{name_at-is, name_at-again}
+use Rattle.q3_words.proofs.HexWords.{hex_within-spelled, hex_within-again, area_at-spelled, area_at-again}
 use Rattle.q3_script.proofs.SpelledCommands.{config_line-spelled, config_at-again, command_at-again, say_line-spelled, type_line-spelled}
 use Rattle.q3_script.proofs.SpelledMoves.{move_line-spelled, move_line-again}
 
@@ -409,7 +410,7 @@ found (line ∷ lines) word others event each left e =
 each_line : (kind : ScriptKind) → EachIsSpelled (lines_taken kind)
 each_line kinds.Replay = (of_any (codes "client") client_line client_line-spelled, (of_any (codes "port") port_line port_line-spelled, (of_any (codes "toclient") toclient_line toclient_line-spelled, (of_any (codes "toserver") toserver_line toserver_line-spelled, (of_any (codes "map") map_line map_line-spelled, (of_any (codes "entity") entity_line entity_line-spelled, (of_any (codes "remove") remove_line remove_line-spelled, (of_any (codes "baseline") baseline_line baseline_line-spelled, (of_any (codes "player") player_line player_line-spelled, (of_any (codes "area") area_line area_line-spelled, (of_any (codes "time") time_line time_line-spelled, (config_line-spelled, (say_line-spelled, (type_line-spelled, (of_any (codes "move") move_line move_line-spelled, (of_any (codes "serve") serve_line serve_line-spelled, (of_any (codes "send") send_line send_line-spelled, (of_any (codes "deliver") deliver_line deliver_line-spelled, (of_any (codes "record") record_line record_line-spelled, (of_any (codes "stop") stop_line stop_line-spelled, (of_any (codes "show") show_line show_line-spelled, (of_any (codes "bytes") bytes_line bytes_line-spelled, tt))))))))))))))))))))))
 each_line kinds.Serve = (of_any (codes "client") client_line client_line-spelled, (of_any (codes "map") map_line map_line-spelled, (of_any (codes "entity") entity_line entity_line-spelled, (of_any (codes "remove") remove_line remove_line-spelled, (of_any (codes "baseline") baseline_line baseline_line-spelled, (of_any (codes "player") player_line player_line-spelled, (of_any (codes "area") area_line area_line-spelled, (of_any (codes "time") time_line time_line-spelled, (config_line-spelled, (say_line-spelled, (of_any (codes "serve") serve_line serve_line-spelled, (of_any (codes "at") at_line at_line-spelled, (of_any (codes "end") end_line end_line-spelled, tt)))))))))))))
-each_line kinds.Join = (of_any (codes "client") client_line client_line-spelled, (type_line-spelled, (of_any (codes "move") move_line move_line-spelled, (of_any (codes "send") send_line send_line-spelled, (of_any (codes "show") show_line show_line-spelled, (of_any (codes "at") at_line at_line-spelled, (of_any (codes "end") end_line end_line-spelled, tt)))))))
+each_line kinds.Join = (of_any (codes "client") client_line client_line-spelled, (type_line-spelled, (of_any (codes "move") move_line move_line-spelled, (of_any (codes "send") send_line send_line-spelled, (of_any (codes "record") record_line record_line-spelled, (of_any (codes "stop") stop_line stop_line-spelled, (of_any (codes "show") show_line show_line-spelled, (of_any (codes "at") at_line at_line-spelled, (of_any (codes "end") end_line end_line-spelled, tt)))))))))
 
 -- what is read of words behind a first one was spelled so
 others_spelled : (kind : ScriptKind) (word : List ℕ) (others : List (List ℕ)) (event : Event) → AreLeft others → line_at kind (word ∷ others) ≡ Ok event → IsLine (word ∷ others) event
@@ -583,8 +584,8 @@ sorted kinds.Join (Move c one) = inl (record { is = λ r. r; was = λ r. r; read
 sorted kinds.Join (Serve c) = inr (record { never = λ r. r; refuses = λ others. refl })
 sorted kinds.Join (Send c) = inl (record { is = λ r. r; was = λ r. r; reads = λ others. refl })
 sorted kinds.Join (Deliver datagram) = inr (record { never = λ r. r; refuses = λ others. refl })
-sorted kinds.Join (RecordTo c name) = inr (record { never = λ r. r; refuses = λ others. refl })
-sorted kinds.Join (Stop c) = inr (record { never = λ r. r; refuses = λ others. refl })
+sorted kinds.Join (RecordTo c name) = inl (record { is = λ r. r; was = λ r. r; reads = λ others. refl })
+sorted kinds.Join (Stop c) = inl (record { is = λ r. r; was = λ r. r; reads = λ others. refl })
 sorted kinds.Join (Show c) = inl (record { is = λ r. r; was = λ r. r; reads = λ others. refl })
 sorted kinds.Join (Bytes datagram) = inr (record { never = λ r. r; refuses = λ others. refl })
 sorted kinds.Join (Toclient c bytes) = inr (record { never = λ r. r; refuses = λ others. refl })

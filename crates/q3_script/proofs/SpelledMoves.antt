@@ -9,9 +9,11 @@ use Rattle.q3_clmsg.specs.Moves.{IsSignedByte, IsHeldMove}
 use Rattle.q3_clmsg.specs.Report.{move_words}
 use Rattle.q3_script.specs.declared.event.Event.{Event}
 use Rattle.q3_script.specs.declared.event.Event.TheVariants.{Move}
-use Rattle.q3_script.specs.Lines.{last_client, number_word, client_word, signed_byte_word, angles_at, steps_at, move_with, move_line}
+use Rattle.q3_words.specs.Numbers.{last_client, number_word, client_word}
+use Rattle.q3_script.specs.Lines.{signed_byte_word, angles_at, steps_at, move_with, move_line}
 use Rattle.q3_script.proofs.SpelledLines.{IsLine}
-use Rattle.q3_script.proofs.NumberWords.{ok_is, number_word-spelled, number_word-again, SpellsSignedByte, signed_byte_word-spelled, signed_byte_word-again}
+use Rattle.q3_words.proofs.NumberWords.{ok_is, number_word-spelled, number_word-again}
+use Rattle.q3_script.proofs.SignedWords.{SpellsSignedByte, signed_byte_word-spelled, signed_byte_word-again}
 
 -- a number below 2^16
 abbrev IsAngle : ℕ → Type 0

@@ -6,16 +6,16 @@ use Rattle.std.specs.List.{AllByRecursion}
 use Rattle.std.proofs.lemmas.Bool.{cases_Bool, leb-false, ltb-false, lt-leb, le-ltb}
 use Rattle.std.proofs.lemmas.List.Elements.{All-from_recursion}
 use Rattle.q3_script.specs.declared.event.Event.{Event}
-use Rattle.q3_script.specs.declared.cause.LineCause.{LineCause}
-use Rattle.q3_script.specs.declared.cause.LineCause.TheVariants.{Large, Many, Order}
+use Rattle.q3_words.specs.declared.cause.LineCause.{LineCause}
+use Rattle.q3_words.specs.declared.cause.LineCause.TheVariants.{Large, Many, Order}
 use Rattle.q3_script.specs.declared.cause.ScriptKind.{ScriptKind}
 use Rattle.q3_script.specs.declared.cause.ScriptError.{ScriptError}
 use Rattle.q3_bits.specs.ResultBind.{◌>>=◌, bind_ok}
-use Rattle.q3_script.specs.Words.{words_of}
+use Rattle.q3_words.specs.Words.{words_of}
 use Rattle.q3_script.specs.Lines.{line_at}
 use Rattle.q3_script.specs.Script.{longest_script, most_events, lines_of, line_behind, is_passed_over, BadLine, Course, no_course, event_at, course_behind, is_complete, in_line, events_from, script_at, with_items, Reads}
 use Rattle.q3_script.specs.Grammar.{SpellEvents, SpellsScript, IsEventOf}
-use Rattle.q3_script.proofs.NumberWords.{ok_is}
+use Rattle.q3_words.proofs.NumberWords.{ok_is}
 use Rattle.q3_script.proofs.SpelledEvents.{line_at-spelled, line_at-again}
 use Rattle.q3_script.proofs.Ordered.{Goes, guard_ok, guard_else, goes_ordered, ordered_goes}
 

@@ -2,15 +2,16 @@
 use Rattle.std.proofs.Common.{◌≡◌, ℕ, List, [], ◌∷◌, Ok, refl}
 use Rattle.std.specs.Option.{ok_or}
 use Rattle.q3_script.specs.declared.event.Event.TheVariants.{Client, Port, Map, Entity, Remove, Baseline, Player, Area, Time, Move, Serve, Send, Deliver, RecordTo, Stop, Show, Bytes, At, End}
-use Rattle.q3_script.specs.declared.cause.LineCause.TheVariants.{Address, Count, Name, Number}
+use Rattle.q3_words.specs.declared.cause.LineCause.TheVariants.{Address, Count, Name, Number}
 use Rattle.q3_bits.specs.ResultBind.{◌>>=◌}
-use Rattle.q3_script.specs.Words.{next_of, three_of, only_of, text_from}
-use Rattle.q3_script.specs.Addresses.{address_at}
-use Rattle.q3_script.specs.Hex.{area_at, handed_at}
-use Rattle.q3_script.specs.Names.{name_at}
-use Rattle.q3_script.specs.Quotes.{bytes_word, text_word}
-use Rattle.q3_script.specs.Fields.{entity_at, player_at}
-use Rattle.q3_script.specs.Lines.{last_datagram, last_time, last_entity, most_config, number_word, entity_word, client_word, angles_at, steps_at, move_with, client_line, port_line, map_line, entity_line, remove_line, baseline_line, player_line, area_line, time_line, config_at, command_at, move_line, serve_line, send_line, deliver_line, record_line, stop_line, show_line, bytes_line, hand_at, at_line, end_line}
+use Rattle.q3_words.specs.Words.{next_of, three_of, only_of, text_from}
+use Rattle.q3_words.specs.Addresses.{address_at}
+use Rattle.q3_words.specs.Hex.{area_at, handed_at}
+use Rattle.q3_words.specs.Names.{name_at}
+use Rattle.q3_words.specs.Quotes.{bytes_word, text_word, most_config}
+use Rattle.q3_words.specs.Fields.{entity_at, player_at}
+use Rattle.q3_words.specs.Numbers.{last_entity, number_word, entity_word, client_word}
+use Rattle.q3_script.specs.Lines.{last_datagram, last_time, angles_at, steps_at, move_with, client_line, port_line, map_line, entity_line, remove_line, baseline_line, player_line, area_line, time_line, config_at, command_at, move_line, serve_line, send_line, deliver_line, record_line, stop_line, show_line, bytes_line, hand_at, at_line, end_line}
 
 -- a client: four words and the last, then each of them
 pub client_steps : (words : List (List ℕ)) → client_line words ≡ (ok_or (next_of words) Count >>= λ c. ok_or (next_of c.1) Count >>= λ challenge. ok_or (next_of challenge.1) Count >>= λ qport. ok_or (next_of qport.1) Count >>= λ dup. ok_or (only_of dup.1) Count >>= λ address.

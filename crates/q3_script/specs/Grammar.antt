@@ -1,28 +1,23 @@
 -- The grammar of a script: which words spell which event, and which lines which events.
-use Rattle.std.specs.Prelude.{◌≡◌, ℕ, ◌^◌, ◌<◌, ◌≤◌, Bool, true, false, List, [], ◌∷◌, ◌++◌, length, map, codes, decimal, All, Ok}
+use Rattle.std.specs.Prelude.{◌≡◌, ℕ, ◌^◌, ◌<◌, ◌≤◌, Bool, true, false, List, [], ◌∷◌, length, map, codes, decimal, All}
 use Rattle.std.specs.List.{AllByRecursion}
-use Rattle.q3_fields.specs.Places.{Change, AreRising}
 use Rattle.q3_fields.specs.States.{AreWords}
 use Rattle.q3_clmsg.specs.Moves.{IsHeldMove}
 use Rattle.q3_clmsg.specs.Report.{move_words}
-use Rattle.q3_entity.specs.declared.state.EntityState.{EntityState}
 use Rattle.q3_player.specs.State.{IsState}
-use Rattle.q3_player.specs.declared.state.PlayerState.{PlayerState}
-use Rattle.q3_io.specs.Print.{indexed_text}
-use Rattle.q3_io.specs.Quoted.{quoted}
-use Rattle.q3_io.specs.declared.address.Address.{Address}
-use Rattle.q3_text.specs.Texts.{IsText, text_of}
+use Rattle.q3_text.specs.Texts.{IsText}
 use Rattle.q3_script.specs.declared.event.Event.{Event}
 use Rattle.q3_script.specs.declared.event.Event.TheVariants.{Client, Port, Map, Entity, Remove, Baseline, Player, Area, Time, Config, Say, TypeText, Move, Serve, Send, Deliver, RecordTo, Stop, Show, Bytes, Toclient, Toserver, At, End}
 use Rattle.q3_script.specs.declared.cause.ScriptKind.{ScriptKind}
 use Rattle.q3_script.specs.declared.cause.ScriptKind.TheVariants as kinds
-use Rattle.q3_script.specs.Words.{words_of}
-use Rattle.q3_script.specs.Addresses.{host_of}
-use Rattle.q3_io.specs.Print.{hex_word}
-use Rattle.q3_script.specs.Hex.{most_area, most_handed}
-use Rattle.q3_script.specs.Names.{IsName}
-use Rattle.q3_script.specs.Fields.{values_of, player_of}
-use Rattle.q3_script.specs.Lines.{last_client, last_entity, last_datagram, last_time, most_config}
+use Rattle.q3_words.specs.Words.{words_of}
+use Rattle.q3_words.specs.Addresses.{SpellsAddress}
+use Rattle.q3_words.specs.Hex.{most_area, most_handed, SpellsHex}
+use Rattle.q3_words.specs.Names.{IsName}
+use Rattle.q3_words.specs.Fields.{SpellsEntity, SpellsPlayer}
+use Rattle.q3_words.specs.Numbers.{last_client, last_entity}
+use Rattle.q3_words.specs.Quotes.{most_config, SpellsBytes, SpellsText}
+use Rattle.q3_script.specs.Lines.{last_datagram, last_time}
 use Rattle.q3_script.specs.Script.{is_passed_over, lines_of, longest_script, most_events}
 
 -- an event whose numbers and bytes are within their ranges
@@ -74,7 +69,7 @@ IsServeEvent (Toclient c bytes) = ⊥
 IsServeEvent (Toserver c bytes) = ⊥
 IsServeEvent event = IsInRange event
 
--- an event that a client's script may have: that it joins, a command, a move, a datagram, a snapshot to be shown, and a time
+-- an event that a client's script may have: that it joins, a command, a move, a datagram, a recording, a snapshot to be shown, and a time
 abbrev pub IsJoinEvent : Event → Type 0
 IsJoinEvent (Port c port) = ⊥
 IsJoinEvent (Map id feed) = ⊥
@@ -88,8 +83,6 @@ IsJoinEvent (Config index text) = ⊥
 IsJoinEvent (Say c text) = ⊥
 IsJoinEvent (Serve c) = ⊥
 IsJoinEvent (Deliver datagram) = ⊥
-IsJoinEvent (RecordTo c name) = ⊥
-IsJoinEvent (Stop c) = ⊥
 IsJoinEvent (Bytes datagram) = ⊥
 IsJoinEvent (Toclient c bytes) = ⊥
 IsJoinEvent (Toserver c bytes) = ⊥
@@ -100,68 +93,6 @@ abbrev pub IsEventOf : ScriptKind → Event → Type 0
 IsEventOf kinds.Replay event = IsReplayEvent event
 IsEventOf kinds.Serve event = IsServeEvent event
 IsEventOf kinds.Join event = IsJoinEvent event
-
--- an address: four numbers with dots between them, a colon and a port
-pub record SpellsAddress (word : List ℕ) (address : Address) : Type 0 where
-  pub a : ℕ
-  pub b : ℕ
-  pub c : ℕ
-  pub d : ℕ
-  pub bytes : (a < 256) × (b < 256) × (c < 256) × (d < 256)
-  pub host : address.host ≡ host_of a b c d
-  pub whole : word ≡ decimal a ++ codes "." ++ decimal b ++ codes "." ++ decimal c ++ codes "." ++ decimal d ++ codes ":" ++ decimal address.port
-
--- a word for each field: its index and its value, behind the letter of its array
-abbrev pub field_words : List ℕ → List Change → List (List ℕ)
-field_words letter fields = map (λ field. indexed_text letter field.0 field.1) fields
-
--- the indexes rise, from least on, and stay below a limit; the values have 32 bits
-abbrev pub AreFields : ℕ → ℕ → List Change → Type 0
-AreFields limit least fields = AreRising limit least fields × All (λ field. field.1 < 2 ^ 32) fields
-
--- bytes in hex
-abbrev pub SpellsHex : List ℕ → List ℕ → Type 0
-SpellsHex word bytes = word ≡ hex_word bytes
-
--- an entity, but for its number: fields
-pub record SpellsEntity (words : List (List ℕ)) (entity : EntityState) : Type 0 where
-  pub fields : List Change
-  pub are_fields : AreFields 64 0 fields
-  pub whole : words ≡ field_words [] fields
-  pub state : entity.words ≡ values_of 64 fields
-
--- a player: fields, and behind them those of each array
-pub record SpellsPlayer (words : List (List ℕ)) (player : PlayerState) : Type 0 where
-  pub fields : List Change
-  pub stats : List Change
-  pub persistant : List Change
-  pub ammo : List Change
-  pub powerups : List Change
-  pub are_fields : AreFields 64 0 fields
-  pub are_stats : AreFields 16 0 stats
-  pub are_persistant : AreFields 16 0 persistant
-  pub are_ammo : AreFields 16 0 ammo
-  pub are_powerups : AreFields 16 0 powerups
-  pub whole :
-      words
-      ≡ field_words [] fields
-      ++ field_words (codes "s") stats
-      ++ field_words (codes "p") persistant
-      ++ field_words (codes "a") ammo
-      ++ field_words (codes "u") powerups
-  pub state : player ≡ player_of fields stats persistant ammo powerups
-
--- the words of bytes in quotes, none of them 0
-pub record SpellsBytes (words : List (List ℕ)) (bytes : List ℕ) : Type 0 where
-  pub are_bytes : All (λ byte. (0 < byte) × (byte < 256)) bytes
-  pub whole : words ≡ words_of (quoted bytes)
-
--- the words of bytes in quotes, none of them 0, which become a text
-pub record SpellsText (words : List (List ℕ)) (text : List ℕ) : Type 0 where
-  pub bytes : List ℕ
-  pub are_bytes : All (λ byte. (0 < byte) × (byte < 256)) bytes
-  pub becomes : text_of bytes ≡ Ok text
-  pub whole : words ≡ words_of (quoted bytes)
 
 -- the words that an event is spelled by
 abbrev pub HasWords : List (List ℕ) → Event → Type 0

@@ -1,9 +1,3 @@
-pub mod Words
-pub mod Addresses
-pub mod Hex
-pub mod Names
-pub mod Quotes
-pub mod Fields
 pub mod Lines
 pub mod Script
 pub mod Grammar

@@ -1,5 +1,5 @@
 -- The event that a line of a script spells, or the first cause for which it is refused.
-use Rattle.std.specs.Prelude.{ℕ, ℤ, pos, neg_ℤ, List, [], ◌∷◌, codes, Option, option_map, Result, Ok, Err}
+use Rattle.std.specs.Prelude.{ℕ, ℤ, pos, neg_ℤ, Option, option_map, List, [], ◌∷◌, codes, Result, Ok, Err}
 use Rattle.std.specs.Option.{ok_or, option_map_or}
 use Rattle.std.specs.List.{join_with_byte}
 use Rattle.std.specs.Map.{lookup}
@@ -7,18 +7,19 @@ use Rattle.std.specs.Str.{bytes_eq}
 use Rattle.q3_clmsg.specs.declared.moves.Move.{Move as MoveValue}
 use Rattle.q3_script.specs.declared.event.Event.{Event}
 use Rattle.q3_script.specs.declared.event.Event.TheVariants.{Client, Port, Map, Entity, Remove, Baseline, Player, Area, Time, Config, Say, TypeText, Move, Serve, Send, Deliver, RecordTo, Stop, Show, Bytes, Toclient, Toserver, At, End}
-use Rattle.q3_script.specs.declared.cause.LineCause.{LineCause}
-use Rattle.q3_script.specs.declared.cause.LineCause.TheVariants as causes
+use Rattle.q3_words.specs.declared.cause.LineCause.{LineCause}
+use Rattle.q3_words.specs.declared.cause.LineCause.TheVariants as causes
 use Rattle.q3_script.specs.declared.cause.ScriptKind.{ScriptKind}
 use Rattle.q3_script.specs.declared.cause.ScriptKind.TheVariants as kinds
-use Rattle.q3_bits.specs.ResultBind.{◌>>=◌}
+use Rattle.q3_words.specs.Numbers.{last_entity, number_word, entity_word, client_word}
+use Rattle.q3_words.specs.Words.{behind}
 use Rattle.q3_text.specs.Decimals.{number_at}
-use Rattle.q3_script.specs.Words.{behind}
-use Rattle.q3_script.specs.Addresses.{address_at}
-use Rattle.q3_script.specs.Hex.{area_at, handed_at}
-use Rattle.q3_script.specs.Names.{name_at}
-use Rattle.q3_script.specs.Quotes.{bytes_word, text_word}
-use Rattle.q3_script.specs.Fields.{entity_at, player_at}
+use Rattle.q3_words.specs.Addresses.{address_at}
+use Rattle.q3_words.specs.Hex.{area_at, handed_at}
+use Rattle.q3_words.specs.Names.{name_at}
+use Rattle.q3_words.specs.Quotes.{most_config, bytes_word, text_word}
+use Rattle.q3_words.specs.Fields.{entity_at, player_at}
+use Rattle.q3_bits.specs.ResultBind.{◌>>=◌}
 
 -- the greatest number of a datagram that a line can name
 abbrev pub last_datagram : ℕ
@@ -27,40 +28,6 @@ last_datagram = 65536
 -- the latest time of a node's script, in milliseconds
 abbrev pub last_time : ℕ
 last_time = 3600000
-
--- the greatest number of an entity
-abbrev pub last_entity : ℕ
-last_entity = 1022
-
--- the greatest number of a client
-abbrev pub last_client : ℕ
-last_client = 15
-
--- the most bytes of the text of a config string in a script
-abbrev pub most_config : ℕ
-most_config = 9000
-
--- a word that is a number from low to high
-abbrev pub number_word : ℕ → ℕ → List ℕ → Result ℕ LineCause
-number_word low high word = ok_or (number_at low high word) causes.Number
-
--- the number of an entity
-abbrev pub entity_word : List ℕ → Result ℕ LineCause
-entity_word word = number_word 0 last_entity word
-
--- the number of a client
-abbrev pub client_word : List ℕ → Result ℕ LineCause
-client_word word = number_word 0 last_client word
-
--- a number from -128 to 127, with a `-` in front where it is below 0
-unfoldable pub signed_byte_at : List ℕ → Option ℤ
-signed_byte_at word =
-    option_map_or (λ digits. option_map (λ size. neg_ℤ (pos size)) (number_at 1 128 digits))
-    (behind (codes "-") word) (option_map pos (number_at 0 127 word))
-
--- how fast a player walks or rises
-abbrev pub signed_byte_word : List ℕ → Result ℤ LineCause
-signed_byte_word word = ok_or (signed_byte_at word) causes.Number
 
 unfoldable pub client_line : List (List ℕ) → Result Event LineCause
 client_line (c ∷ challenge ∷ qport ∷ dup ∷ address ∷ []) = do
@@ -156,6 +123,16 @@ unfoldable pub type_line : List (List ℕ) → Result Event LineCause
 type_line words = do
   command ← command_at words
   Ok (TypeText command.0 command.1)
+
+-- a number from -128 to 127, with a `-` in front where it is below 0
+unfoldable pub signed_byte_at : List ℕ → Option ℤ
+signed_byte_at word =
+    option_map_or (λ digits. option_map (λ size. neg_ℤ (pos size)) (number_at 1 128 digits))
+    (behind (codes "-") word) (option_map pos (number_at 0 127 word))
+
+-- how fast a player walks or rises
+abbrev pub signed_byte_word : List ℕ → Result ℤ LineCause
+signed_byte_word word = ok_or (signed_byte_at word) causes.Number
 
 -- three angles
 abbrev pub angles_at : List ℕ → List ℕ → List ℕ → Result (List ℕ) LineCause
@@ -334,6 +311,8 @@ join_lines =
     ∷ (codes "type", type_line)
     ∷ (codes "move", move_line)
     ∷ (codes "send", send_line)
+    ∷ (codes "record", record_line)
+    ∷ (codes "stop", stop_line)
     ∷ (codes "show", show_line)
     ∷ (codes "at", at_line)
     ∷ (codes "end", end_line)

@@ -5,15 +5,15 @@ use Rattle.std.specs.List.{slice_split, ends_with}
 use Rattle.std.specs.Global.{Vec}
 use Rattle.q3_script.specs.declared.event.Event.{Event}
 use Rattle.q3_script.specs.declared.event.Event.TheVariants as events
-use Rattle.q3_script.specs.declared.cause.LineCause.{LineCause}
-use Rattle.q3_script.specs.declared.cause.LineCause.TheVariants.{Large, Many, Order}
+use Rattle.q3_words.specs.declared.cause.LineCause.{LineCause}
+use Rattle.q3_words.specs.declared.cause.LineCause.TheVariants.{Large, Many, Order}
 use Rattle.q3_script.specs.declared.cause.ScriptKind.{ScriptKind}
 use Rattle.q3_script.specs.declared.cause.ScriptKind.TheVariants.{Replay, Serve, Join}
 use Rattle.q3_script.specs.declared.cause.ScriptError.{ScriptError}
 use Rattle.q3_script.specs.declared.cause.ScriptError.TheVariants as errors
-use Rattle.q3_bits.specs.ResultBind.{◌>>=◌}
-use Rattle.q3_script.specs.Words.{words_of}
+use Rattle.q3_words.specs.Words.{words_of}
 use Rattle.q3_script.specs.Lines.{line_at}
+use Rattle.q3_bits.specs.ResultBind.{◌>>=◌}
 
 -- the longest script in bytes, and how many events it may have
 abbrev pub longest_script : ℕ

@@ -1,11 +1,12 @@
 //! The course of a script: what its lines so far say of the next.
 
-ghost use Rattle.std.specs.Prelude.{◌≡◌, option_map};
+ghost use Rattle.std.specs.Prelude.{◌≡◌};
 ghost use Rattle.std.specs.Result.{result_map_both};
 ghost use Rattle.q3_script.specs.Script.{no_course, timed, node_behind, is_of, first_behind, client_behind, course_behind, is_complete};
 
-use crate::cause::{LineCause, ScriptKind};
+use crate::cause::ScriptKind;
 use crate::event::Event;
+use q3_words::LineCause;
 use std::marker::Model;
 
 /// What the lines so far say of the next: the least time that it may have, whether `end` stood among them, and the client that

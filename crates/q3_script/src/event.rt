@@ -1,13 +1,12 @@
 //! The events of a script.
 
-use crate::bytes::Bytes;
-use crate::name::Name;
 use arrayvec::ArrayVec;
 use q3_clmsg::Move;
 use q3_entity::EntityState;
 use q3_io::Address;
 use q3_player::PlayerState;
 use q3_text::Text;
+use q3_words::{Bytes, Name};
 
 /// What one line of a script says: one call of one end, or something that the game hands in.
 /// `c` is the number of a client, 0 to 15.

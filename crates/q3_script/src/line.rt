@@ -1,22 +1,19 @@
 //! Reads one line of a script, by the lines that its kind has.
 
 ghost use Rattle.std.specs.Prelude.{◌≡◌, ◌∷◌, IfOk};
-ghost use Rattle.q3_script.specs.Words.{words_of, words_left};
+ghost use Rattle.q3_words.specs.Words.{words_of, words_left};
 ghost use Rattle.q3_script.specs.Lines.{client_line, port_line, map_line, entity_line, remove_line, baseline_line, player_line, area_line, time_line, config_at, config_line, command_at, say_line, type_line, serve_line, send_line, deliver_line, record_line, stop_line, show_line, bytes_line, hand_at, toclient_line, toserver_line, at_line, end_line, turn_lines, line_in, line_at};
 
-use crate::address::read_address;
-use crate::area::{area_bytes, handed_bytes};
-use crate::bytes::Bytes;
-use crate::cause::{LineCause, ScriptKind};
+use crate::cause::ScriptKind;
 use crate::event::Event;
-use crate::fields::{entity_state, player_state};
 use crate::moves::move_line;
-use crate::name::Name;
-use crate::numbers::{client_word, entity_word, number_word};
-use crate::quotes::{config_bytes, text_word};
-use crate::words::{first_word, is, next_word, only_word, text_left};
 use q3_bits::NoMemory;
 use q3_text::Text;
+use q3_words::words::{first_word, is, next_word, only_word, text_left};
+use q3_words::{
+    Bytes, LineCause, Name, area_bytes, client_word, config_bytes, entity_state, entity_word,
+    handed_bytes, number_word, player_state, read_address, text_word,
+};
 use std::alloc::Global;
 
 /// The latest time of a node's script, in milliseconds.
@@ -218,26 +215,16 @@ fn deliver(left: &[u8]) -> Result<Event, LineCause>
     })
 }
 
-/// A `record` line. Such lines are few: apart, their code doesn't slow down the others.
 #[tactic(auto, using(crate::proofs::Steps::record_steps))]
-#[inline(never)]
-fn record_to(alloc: Global, left: &[u8]) -> Result<Result<Event, LineCause>, NoMemory>
-    ensures { IfOk result (λ answer. answer ≡ record_line (words_left left.now)) }
+fn record_to(left: &[u8]) -> Result<Event, LineCause>
+    ensures { result ≡ record_line (words_left left.now) }
 {
-    let Some((c, left)) = next_word(left) else {
-        return Ok(Err(LineCause::Count));
-    };
-    let Some(word) = only_word(left) else {
-        return Ok(Err(LineCause::Count));
-    };
-    let c = match client_word(c) {
-        Ok(c) => c,
-        Err(cause) => return Ok(Err(cause)),
-    };
-    match Name::of(alloc, word)? {
-        Some(name) => Ok(Ok(Event::RecordTo { c, name })),
-        None => Ok(Err(LineCause::Name)),
-    }
+    let (c, left) = next_word(left).ok_or(LineCause::Count)?;
+    let word = only_word(left).ok_or(LineCause::Count)?;
+    Ok(Event::RecordTo {
+        c: client_word(c)?,
+        name: Name::of(word).ok_or(LineCause::Name)?,
+    })
 }
 
 #[tactic(auto, using(crate::proofs::Steps::stop_steps))]
@@ -335,26 +322,26 @@ fn end(left: &[u8]) -> Result<Event, LineCause>
     })
 }
 
-/// The event of a replay's line by which an end does something or is looked at. `Err` is want of memory.
-fn turn_line(alloc: Global, word: &[u8], left: &[u8]) -> Result<Result<Event, LineCause>, NoMemory>
-    ensures { IfOk result (λ answer. answer ≡ line_in turn_lines word.now (words_left left.now)) }
+/// The event of a replay's line by which an end does something or is looked at.
+fn turn_line(word: &[u8], left: &[u8]) -> Result<Event, LineCause>
+    ensures { result ≡ line_in turn_lines word.now (words_left left.now) }
 {
     if is(word, b"serve") {
-        Ok(serve(left))
+        serve(left)
     } else if is(word, b"send") {
-        Ok(send(left))
+        send(left)
     } else if is(word, b"deliver") {
-        Ok(deliver(left))
+        deliver(left)
     } else if is(word, b"record") {
-        record_to(alloc, left)
+        record_to(left)
     } else if is(word, b"stop") {
-        Ok(stop(left))
+        stop(left)
     } else if is(word, b"show") {
-        Ok(show(left))
+        show(left)
     } else if is(word, b"bytes") {
-        Ok(bytes(left))
+        bytes(left)
     } else {
-        Ok(Err(LineCause::Word))
+        Err(LineCause::Word)
     }
 }
 
@@ -398,7 +385,7 @@ fn replay_line(
     } else if is(word, b"move") {
         Ok(move_line(left))
     } else {
-        turn_line(alloc, word, left)
+        Ok(turn_line(word, left))
     }
 }
 
@@ -453,6 +440,10 @@ fn join_line(word: &[u8], left: &[u8]) -> Result<Event, LineCause>
         move_line(left)
     } else if is(word, b"send") {
         send(left)
+    } else if is(word, b"record") {
+        record_to(left)
+    } else if is(word, b"stop") {
+        stop(left)
     } else if is(word, b"show") {
         show(left)
     } else if is(word, b"at") {

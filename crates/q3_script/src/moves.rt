@@ -1,14 +1,34 @@
 //! A client's move in a line.
 
-ghost use Rattle.std.specs.Prelude.{◌≡◌};
-ghost use Rattle.q3_script.specs.Words.{words_left};
-ghost use Rattle.q3_script.specs.Lines.{number_word, angles_at, steps_at, move_with, move_line};
+ghost use Rattle.std.specs.Prelude.{◌≡◌, ◌≤◌, pos, neg_ℤ};
+ghost use Rattle.q3_words.specs.Words.{words_left};
+ghost use Rattle.q3_words.specs.Numbers.{number_word};
+ghost use Rattle.q3_script.specs.Lines.{signed_byte_word, angles_at, steps_at, move_with, move_line};
 
-use crate::cause::LineCause;
 use crate::event::Event;
-use crate::numbers::{client_word, number_word, signed_byte};
-use crate::words::{next_three, only_word};
 use q3_clmsg::Move;
+use q3_words::words::{behind, next_three, only_word};
+use q3_words::{LineCause, client_word, number_word};
+
+/// The number so far below 0.
+fn negative(size: u32) -> i8
+    requires { size ≤ 128 }
+    ensures { result ≡ neg_ℤ (pos size) }
+{
+    (size as u8).wrapping_neg().cast_signed()
+}
+
+/// The number of a step: -128 to 127, with a `-` in front where it is below 0.
+#[tactic(auto, unfolding(crate::specs::Lines::signed_byte_at))]
+fn signed_byte(word: &[u8]) -> Result<i8, LineCause>
+    ensures { result ≡ signed_byte_word word.now }
+{
+    if let Some(digits) = behind(b"-", word) {
+        let size = number_word(digits, 1, 128)?;
+        return Ok(negative(size));
+    }
+    Ok(number_word(word, 0, 127)? as i8)
+}
 
 /// A number of 16 bits: an angle, or the buttons.
 fn short(word: &[u8]) -> Result<u16, LineCause>

@@ -5,11 +5,12 @@ ghost use Rattle.q3_script.specs.declared.event.Event.{Event as EventValue};
 ghost use Rattle.q3_script.specs.Script.{longest_script, lines_of, is_passed_over, event_at, no_course, line_behind, events_from, script_at, with_items, Reads};
 ghost use Rattle.q3_script.specs.Grammar.{IsEventOf, SpellsScript};
 
-use crate::cause::{LineCause, ScriptError, ScriptKind};
+use crate::cause::{ScriptError, ScriptKind};
 use crate::course::Course;
 use crate::event::Event;
 use crate::line::read_line;
 use q3_bits::NoMemory;
+use q3_words::LineCause;
 use std::alloc::Global;
 
 /// The longest script, in bytes.

@@ -6,7 +6,6 @@ use Rattle.std.proofs.lemmas.Option.{slice_get_cases}
 use Rattle.std.proofs.Math.ListN.{get_or-eq_default}
 use Rattle.std.proofs.Math.Seq.{set_out}
 use Rattle.std.proofs.lemmas.List.{get_or_default, get_or-set_other, get_or-set_same}
-use Rattle.q3_io.specs.Acts.{FileAct}
 use Rattle.q3_io.specs.Told.{Told}
 use Rattle.q3_profile.specs.declared.profile.Profile.{Profile}
 use Rattle.q3_io.specs.declared.address.Address.{Address}
@@ -23,7 +22,7 @@ use Rattle.q3_clmsg.specs.declared.moves.Move.{Move}
 use Rattle.q3_ends.specs.AtServer.{ServerStep, server_line}
 use Rattle.q3_world.specs.Kept.{Kept, SentBytes, deliver_at, kept_send}
 use Rattle.q3_server.specs.Server.{ServerState, add_client_at, places}
-use Rattle.q3_ends.specs.Recording.{RecordingState, asking, HasFile, StandsForName, WritesFiles, stop_at}
+use Rattle.q3_ends.specs.Recording.{RecordingState, asking, HasFile, StandsForName, stop_at}
 use Rattle.q3_ends.proofs.Files.{writes_nothing}
 use Rattle.q3_world.specs.declared.places.Place.{Place}
 use Rattle.q3_world.specs.declared.told.StepError.{StepError}

@@ -10,7 +10,7 @@ use Rattle.q3_io.specs.Acts.{FileAct}
 use Rattle.q3_io.specs.Told.{Told}
 use Rattle.q3_server.specs.Server.{places}
 use Rattle.q3_ends.specs.Recording.{HasFile, WritesFiles}
-use Rattle.q3_ends.proofs.Files.{writes_both, writes_more, writes_nothing}
+use Rattle.q3_ends.proofs.Files.{writes_both, writes_more}
 use Rattle.q3_world.specs.declared.places.Place.{Place}
 use Rattle.q3_world.specs.Ends.{Ends, place_at, recording_at}
 use Rattle.q3_world.specs.Files.{AreNumbered, ended, ending_acts, stop_acts, without}

@@ -1,5 +1,5 @@
 -- A line by bytes of what is kept is one of the whole world, once a line handed other bytes to an end.
-use Rattle.std.proofs.Common.{Bool, List, None, Option, Some, [], ap, refl, sym, true, ◌∙◌, ◌-◌, ◌∷◌, ◌≡◌, ℕ}
+use Rattle.std.proofs.Common.{List, None, Option, Some, [], refl, sym, true, ◌-◌, ◌∷◌, ◌≡◌, ℕ}
 use Rattle.std.specs.Prelude.{map, slice_get}
 use Rattle.std.specs.Option.{option_map}
 use Rattle.std.proofs.lemmas.List.{length-map, map-append}

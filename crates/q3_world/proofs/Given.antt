@@ -12,7 +12,6 @@ use Rattle.q3_map.specs.Map.{MapState}
 use Rattle.q3_built.specs.Built.{Built, IsHeld, IsArea}
 use Rattle.q3_slot.specs.Slot.{SlotState, with_player, with_area}
 use Rattle.q3_server.specs.Server.{places, slot_at, with_slot}
-use Rattle.q3_client.specs.Client.{ClientState}
 use Rattle.q3_client.specs.Moves.{issue, most_moves}
 use Rattle.q3_client.specs.Sending.{Said}
 use Rattle.q3_world.specs.declared.places.Place.{Place}

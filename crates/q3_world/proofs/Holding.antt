@@ -22,7 +22,7 @@ use Rattle.q3_world.specs.World.{Tag, History, Whole, no_history, history_at, wi
 use Rattle.q3_server.specs.Standing.{IsMap}
 use Rattle.q3_server.specs.Laws.{MapStays}
 use Rattle.q3_world.specs.StandsFor.{IsChecked, AreEnds, IsClient, IsWay, IsSent, KeepsFrames, Facts, AreJoined, IsJoined, AllJoined}
-use Rattle.q3_world.proofs.OnePlace.{set_there, OnlyAt-set, OnlyAt-same, DifferAt, each_at}
+use Rattle.q3_world.proofs.OnePlace.{set_there, OnlyAt-set, DifferAt, each_at}
 use Rattle.q3_world.proofs.Growth.{HistoryGrows, HistoryGrows-joined, Grow-at, AllSent, all_sent_grow, each_more}
 use Rattle.q3_world.proofs.Bases.{KeepsFrames-same}
 use Rattle.q3_world.proofs.Found.{AllFound, found_changed, found_joined}

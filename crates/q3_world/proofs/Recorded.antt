@@ -1,5 +1,5 @@
 -- What a client records, and whether it asks for whole snapshots: what holds stays.
-use Rattle.std.proofs.Common.{None, Option, Some, List, refl, subst, ap, ◌<◌, ◌≡◌, ℕ}
+use Rattle.std.proofs.Common.{None, Option, Some, List, refl, subst, ◌<◌, ◌≡◌, ℕ}
 use Rattle.std.specs.Prelude.{Bool}
 use Rattle.std.proofs.lemmas.List.{set-set}
 use Rattle.q3_profile.specs.declared.profile.Profile.{Profile}
@@ -15,7 +15,7 @@ use Rattle.q3_ends.specs.Recording.{RecordingState, asking}
 use Rattle.q3_world.specs.declared.places.Place.{Place}
 use Rattle.q3_world.specs.Ends.{place_at, with_place, record_of, record_to, stop_of, stop}
 use Rattle.q3_world.specs.World.{History, Tag, Whole, history_at, no_history}
-use Rattle.q3_world.specs.StandsFor.{AreEnds, AreJoined, IsClient, IsJoined, KeepsClient, TakesBuilt}
+use Rattle.q3_world.specs.StandsFor.{IsClient, IsJoined, KeepsClient, TakesBuilt}
 use Rattle.q3_world.proofs.Holding.{Holds, Holds-at, with_client_of}
 use Rattle.q3_world.proofs.OnePlace.{OnlyAt-same, OnlyAt-set, set_there}
 

@@ -1,5 +1,5 @@
 -- What events do to files: those of recordings are made, and what clients apply is written to them.
-use Rattle.std.specs.Prelude.{◌≡◌, ℕ, ◌-◌, ◌<◌, List, [], ◌∷◌, ◌++◌, map, Option, Some, None, option_map, Result, Ok, Err, slice_get, slice_index}
+use Rattle.std.specs.Prelude.{ℕ, ◌-◌, ◌<◌, List, [], ◌∷◌, ◌++◌, map, Option, Some, None, option_map, Result, Ok, Err, slice_get, slice_index}
 use Rattle.std.specs.List.{flat_map}
 use Rattle.q3_io.specs.declared.sink.Failed.{Failed}
 use Rattle.q3_io.specs.Acts.{FileAct}

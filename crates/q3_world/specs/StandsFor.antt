@@ -37,7 +37,7 @@ use Rattle.q3_world.specs.declared.made.Direction.{Direction}
 use Rattle.q3_world.specs.declared.made.Direction.TheVariants.{ToClient, ToServer}
 use Rattle.q3_world.specs.declared.places.Place.{Place}
 use Rattle.q3_world.specs.Ends.{place_at}
-use Rattle.q3_world.specs.Kept.{SentBytes, Kept}
+use Rattle.q3_world.specs.Kept.{Kept}
 use Rattle.q3_world.specs.World.{Tag, History, Whole, no_history, history_at, built_at, said_at, bytes_of}
 use Rattle.q3_world.specs.Moves.{TimesRise, AreConsecutive}
 use Rattle.q3_world.specs.Games.{accepted_since, standing_of, AreSince, AreMapped}

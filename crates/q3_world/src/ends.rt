@@ -75,7 +75,8 @@ impl Ends {
 
     /// What a line does that hands something in, hands bytes to an end, or shows a client; and its answer is told. Both lists may hold
     /// anything before. `NoMemory` comes at `client` and `record` alone, and changes nothing.
-    /// `FileFault` comes where what a recording adds can't be written, with nothing told, and `WriteFault` where the lines can't be.
+    /// `FileFault` comes where a recording's file can't be made, or what it adds can't be written, with nothing told, and `WriteFault`
+    /// where the lines can't be.
     #[tactic(auto, unfolding(crate::specs::Ends::line_of, crate::specs::Files::line_acts, q3_ends::specs::AtServer::server_line))]
     pub fn line<F: Files, O: Sink>(
         &mut self,

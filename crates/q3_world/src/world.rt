@@ -8,7 +8,6 @@ ghost use Rattle.q3_io.specs.Written.{NothingWaits};
 ghost use Rattle.q3_server.specs.Server.{places, emit_at};
 ghost use Rattle.q3_report.specs.AnswerLines.{lines_of};
 ghost use Rattle.q3_report.specs.Answers.{Bytes};
-ghost use Rattle.q3_report.specs.Tellings.{answered_of};
 ghost use Rattle.q3_world.specs.Counts.{no_counts, counted};
 ghost use Rattle.q3_world.specs.Ends.{place_at, step_in, line_of};
 ghost use Rattle.q3_world.specs.Kept.{most_datagrams, opening_kept, deliver_at, kept_bytes, kept_ends, kept_serve, kept_send, kept_step};

@@ -1,6 +1,6 @@
 -- How a demo's play ends.
-use Rattle.std.proofs.Common.{◌≡◌, ℕ, zero, suc, Bool, true, false, List, [], ◌∷◌, ◌++◌, take, drop, length, Option, Some, None, Result, Ok, Err, refl, sym, ap, subst, ◌∙◌, inl, inr}
-use Rattle.std.specs.Prelude.{◌⊎◌, IsSome, ok_or, unwrap_or}
+use Rattle.std.proofs.Common.{◌≡◌, ℕ, List, [], ◌∷◌, ◌++◌, take, drop, Option, Some, None, Result, Ok, Err, refl, sym, ap, subst, ◌∙◌, inl, inr}
+use Rattle.std.specs.Prelude.{IsSome, ok_or, unwrap_or}
 use Rattle.std.specs.List.{concat}
 use Rattle.std.specs.Result.{result_map_both}
 use Rattle.std.proofs.lemmas.List.{take-append-drop}
@@ -10,7 +10,6 @@ use Rattle.q3_io.specs.Laws.{TextsFollow}
 use Rattle.q3_io.specs.Acts.{after_acts}
 use Rattle.q3_io.specs.Told.{Told, contents_of, contents_at, LooksUp, Lookup, after_named, after_given}
 use Rattle.q3_io.specs.Written.{Written}
-use Rattle.q3_io.specs.declared.sink.Failed.{Failed}
 use Rattle.q3_profile.specs.declared.profile.Profile.{Profile}
 use Rattle.q3_demo.specs.declared.error.DemoError.{DemoError}
 use Rattle.q3_demo.specs.declared.error.DemoError.TheVariants as demo
@@ -19,9 +18,9 @@ use Rattle.q3_demo.specs.Running.{HasFrom, OnlyAsks, Plays, ReadCause as DemoRea
 use Rattle.q3net.specs.declared.fault.Fault.{Fault}
 use Rattle.q3net.specs.declared.fault.Fault.TheVariants as faults
 use Rattle.q3net.specs.Command.{Command, Play}
-use Rattle.q3net.specs.Faults.{Gets, demo_fault, ReadCause, WriteCause}
-use Rattle.q3net.specs.Input.{Holds, Finds, looked_up, Leaves, LeavesTold, Touches, Gives}
-use Rattle.q3net.specs.Verdict.{Verdict, of_files, IsVerdict, names_by, profile_in, played, demo_played, GetsFrom}
+use Rattle.q3net.specs.Faults.{demo_fault, ReadCause, WriteCause}
+use Rattle.q3net.specs.Input.{Holds, Finds, looked_up, LeavesTold, Touches, Gives}
+use Rattle.q3net.specs.Verdict.{of_files, IsVerdict, names_by, profile_in, played, demo_played, GetsFrom}
 use Rattle.q3net.specs.Run.{Comes, Executes, LeavesFiles}
 use Rattle.q3net.proofs.Loading.{held}
 use Rattle.q3net.proofs.Looking.{got_ok, gave, leaves_then, first_then, profile_names}

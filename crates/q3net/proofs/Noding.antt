@@ -1,6 +1,5 @@
 -- How a node ends: a server, or a client, over a wire.
-use Rattle.std.proofs.Common.{◌≡◌, ℕ, ◌<◌, Bool, true, false, List, [], ◌∷◌, ◌++◌, Option, Some, None, Result, Ok, Err, refl, sym, ap, subst, ◌∙◌, append_assoc, inl, inr, arith}
-use Rattle.std.specs.Prelude.{◌⊎◌}
+use Rattle.std.proofs.Common.{◌≡◌, ℕ, Bool, true, false, List, [], ◌∷◌, ◌++◌, Option, Some, None, Result, Ok, Err, refl, sym, ap, subst, ◌∙◌, append_assoc, inl, inr, arith}
 use Rattle.std.specs.List.{flat_map}
 use Rattle.std.proofs.lemmas.Grind.{flat_map-append}
 use Rattle.q3_bits.specs.ResultBind.{◌>>=◌}
@@ -8,7 +7,7 @@ use Rattle.q3_io.specs.declared.address.Address.{Address}
 use Rattle.q3_io.specs.Laws.{TextsFollow}
 use Rattle.q3_io.specs.Told.{Told}
 use Rattle.q3_io.specs.Traffic.{Parcel, Traffic}
-use Rattle.q3_io.specs.Written.{Written, Wrote}
+use Rattle.q3_io.specs.Written.{Written}
 use Rattle.q3_profile.specs.declared.profile.Profile.{Profile}
 use Rattle.q3_script.specs.declared.event.Event.{Event}
 use Rattle.q3_script.specs.declared.event.Event.TheVariants as events
@@ -25,12 +24,12 @@ use Rattle.q3_node.specs.Running.{ToArrive, ToRead, at_bound, WireFails, Ran, Ra
 use Rattle.q3net.specs.declared.fault.Fault.{Fault}
 use Rattle.q3net.specs.declared.fault.Fault.TheVariants as faults
 use Rattle.q3net.specs.Command.{Command, Serve, Join}
-use Rattle.q3net.specs.Faults.{Gets, IsOutside, node_fault, ReadCause, WriteCause, FileCause, WireCause}
+use Rattle.q3net.specs.Faults.{Gets, IsOutside, node_fault, ReadCause, WriteCause, WireCause}
 use Rattle.q3net.specs.Input.{IsFront, Holds, looked_up, Touches, Gives}
 use Rattle.q3net.specs.Verdict.{Verdict, Outside, IsVerdict, names_by, profile_in, events_in, ending_of, noded, served, client_turns, joined, GetsFrom}
 use Rattle.q3net.specs.Run.{ComesBehind, place_of, StopsIn, ExecutesWired, LeavesFiles, MayBind}
 use Rattle.q3net.proofs.Loading.{held}
-use Rattle.q3net.proofs.Looking.{got_ok, gave, leaves_then, first_then, gave_first, profile_names}
+use Rattle.q3net.proofs.Looking.{got_ok, gave, leaves_then, first_then, profile_names}
 use Rattle.q3net.proofs.Replaying.{same_held}
 use Rattle.q3net.proofs.Outside.{profile_of_input, events_of_input}
 use Rattle.q3net.proofs.Refusing.{OfInput}

@@ -1,5 +1,5 @@
 -- What an input decides, and that a demo is refused by what it holds alone.
-use Rattle.std.proofs.Common.{◌≡◌, ℕ, zero, suc, ◌+◌, List, drop, length, Option, Some, None, Result, Ok, Err, inl, inr}
+use Rattle.std.proofs.Common.{ℕ, zero, suc, ◌+◌, List, drop, length, Option, Some, None, Result, Ok, Err, inl, inr}
 use Rattle.std.specs.Prelude.{nat_lt, nat_le, ◌==◌, ◌||◌}
 use Rattle.std.proofs.lemmas.Bool.{cases_Bool}
 use Rattle.std.specs.Result.{result_map_both}
@@ -12,7 +12,7 @@ use Rattle.q3_demo.specs.declared.error.DemoError.TheVariants as demo
 use Rattle.q3_demo.specs.declared.record.Piece.{Piece}
 use Rattle.q3_demo.specs.declared.record.Piece.TheVariants as piece
 use Rattle.q3_demo.specs.Records.{head_bytes, number_of, length_of, end_mark, longest_record, number_end, most_bytes, piece_of}
-use Rattle.q3_demo.specs.Playing.{Played, Play, Stepped, unplayed, next_piece, message_of, played_on, play_piece, step, most_records, ends, at_most, told_first, play_step, play_from, play_of}
+use Rattle.q3_demo.specs.Playing.{Played, Play, Stepped, unplayed, next_piece, message_of, played_on, play_piece, step, most_records, at_most, play_step, play_from, play_of}
 use Rattle.q3net.specs.declared.fault.Fault.{Fault}
 use Rattle.q3net.specs.declared.fault.Fault.TheVariants as faults
 use Rattle.q3net.specs.Faults.{demo_fault}

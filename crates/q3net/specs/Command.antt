@@ -3,7 +3,7 @@ use Rattle.std.specs.Prelude.{ℕ, ◌-◌, ◌^◌, ◌≤◌, if◌then◌else
 use Rattle.std.specs.Str.{bytes_eq}
 use Rattle.q3_io.specs.declared.address.Address.{Address}
 use Rattle.q3_text.specs.Decimals.{number_at}
-use Rattle.q3_script.specs.Addresses.{address_at}
+use Rattle.q3_words.specs.Addresses.{address_at}
 use Rattle.q3net.specs.declared.command.Command.{Command as CommandLine}
 use Rattle.q3net.specs.declared.command.Command.TheVariants as lines
 use Rattle.q3net.specs.declared.command.Draws.{Draws}

@@ -7,8 +7,8 @@ use Rattle.q3_profile.specs.declared.error.Key.TheVariants.{File}
 use Rattle.q3_profile.specs.declared.error.ProfileError.{ProfileError}
 use Rattle.q3_profile.specs.declared.error.ProfileError.TheVariants as profile
 use Rattle.q3_profile.specs.Document.{key_name}
-use Rattle.q3_script.specs.declared.cause.LineCause.{LineCause}
-use Rattle.q3_script.specs.declared.cause.LineCause.TheVariants.{Large, Many, Word, Count, Number, Fields, Text, Name, Address, Order}
+use Rattle.q3_words.specs.declared.cause.LineCause.{LineCause}
+use Rattle.q3_words.specs.declared.cause.LineCause.TheVariants.{Large, Many, Word, Count, Number, Fields, Text, Name, Address, Order}
 use Rattle.std.specs.List.{concat}
 use Rattle.q3_svmsg.specs.Report.{cause_word as illegible_word, cause_number}
 use Rattle.q3_demo.specs.declared.error.DemoError.{DemoError}

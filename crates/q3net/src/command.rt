@@ -3,10 +3,10 @@
 ghost use Rattle.std.specs.Prelude.{◌≡◌, ◌-◌, ◌^◌, [], ◌∷◌, map, option_map, IfSome};
 ghost use Rattle.std.specs.String.{string_bytes};
 ghost use Rattle.q3_text.specs.Decimals.{number_at};
-ghost use Rattle.q3net.specs.Command.{AreDraws, MayDraw, command_of, command_value, draws_at, serve_at, join_at};
+ghost use Rattle.q3net.specs.Command.{AreDraws, MayDraw, command_of, command_value, draws_at};
 
 use q3_io::Address;
-use q3_script::read_address;
+use q3_words::read_address;
 use q3_text::decimal_within;
 
 /// How many events the generator may draw.

@@ -1,6 +1,6 @@
 //! The commands over a generated script: it is printed, or tried.
 
-ghost use Rattle.std.specs.Prelude.{◌≡◌, ◌+◌, ◌<◌, ◌≤◌, List, ◌∷◌, ◌++◌, All, length, None, Option, Some, OnOk};
+ghost use Rattle.std.specs.Prelude.{◌≡◌, ◌+◌, ◌<◌, ◌≤◌, List, ◌∷◌, ◌++◌, All, length, None, Some, OnOk};
 ghost use Rattle.q3_profile.specs.declared.profile.Profile.{Profile as ProfileValue};
 ghost use Rattle.q3_script.specs.Grammar.{IsReplayEvent};
 ghost use Rattle.q3_script.specs.Script.{longest_script, most_events};

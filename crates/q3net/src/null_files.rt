@@ -1,6 +1,6 @@
 //! Files that take every write and keep nothing.
 
-ghost use Rattle.std.specs.Prelude.{◌≡◌, None};
+ghost use Rattle.std.specs.Prelude.{None};
 
 use q3_io::{Failed, Files};
 

@@ -1,10 +1,9 @@
-use Rattle.std.proofs.Common.{◌≡◌, List, None, Some, true, false, ap, sym, subst, ◌∙◌, Ok, Err}
+use Rattle.std.proofs.Common.{List, true, false, ap, sym, subst, ◌∙◌, Ok, Err}
 use Rattle.std.proofs.lemmas.Result.{err_from_is_err_and}
 use Rattle.q3_io.specs.Acts.{FileAct}
 use Rattle.q3_io.specs.Told.{Creates}
 use Rattle.q3_clstate.specs.State.{AppliedState}
-use Rattle.q3_demo.specs.Recorder.{done}
-use Rattle.q3_ends.specs.Recording.{RecordingState, WritesFiles, begin_at}
+use Rattle.q3_ends.specs.Recording.{RecordingState, WritesFiles}
 use Rattle.q3_ends.proofs.Files.{begins_new, done_cause, goes_some, makes_file, no_game, none_goes, made_stands, writes_nothing}
 use Rattle.q3_ends.proofs.recording.begin.Goals as goal
 

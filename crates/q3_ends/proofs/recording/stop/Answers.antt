@@ -1,4 +1,4 @@
-use Rattle.std.proofs.Common.{None, Option, Ok, subst, sym, ◌∙◌}
+use Rattle.std.proofs.Common.{Option, Ok, subst, sym, ◌∙◌}
 use Rattle.q3_ends.specs.Recording.{RecordingState, WritesFiles, stop_at}
 use Rattle.q3_ends.proofs.Files.{writes_nothing}
 use Rattle.q3_ends.proofs.recording.stop.Goals as goal

@@ -1,4 +1,4 @@
-use Rattle.std.proofs.Common.{None, Option, Ok, subst, sym, ◌∙◌}
+use Rattle.std.proofs.Common.{Option, Ok, subst, sym}
 use Rattle.q3_client.specs.Client.{take_at}
 use Rattle.q3_ends.specs.Recording.{RecordingState, WritesFiles, note_taken}
 use Rattle.q3_ends.proofs.Files.{writes_nothing}

@@ -1,7 +1,5 @@
-use Rattle.std.proofs.Common.{◌≡◌, Result, IfOk, sym, subst, ◌∙◌}
-use Rattle.q3_script.specs.declared.event.Event.{Event}
-use Rattle.q3_script.specs.declared.cause.LineCause.{LineCause}
-use Rattle.q3_script.specs.Words.{words_left}
+use Rattle.std.proofs.Common.{sym, ◌∙◌}
+use Rattle.q3_words.specs.Words.{words_left}
 use Rattle.q3_script.proofs.TurnLines.{others_turn}
 use Rattle.q3_script.proofs.line.replay_line.Goals as goal
 
@@ -23,4 +21,4 @@ returns-else-is-15 c =
     (sym c.is-else-is-12.ensures ∙ c.if-is-13.false)
     (sym c.is-else-is-13.ensures ∙ c.if-is-14.false)
     (sym c.is-else-is-14.ensures ∙ c.if-is-15.false) in
-    subst (λ (x : Result Event LineCause). IfOk c.turn_line.result (λ answer. answer ≡ x)) same c.turn_line.ensures
+    c.turn_line.ensures ∙ same

@@ -4,10 +4,9 @@ use Rattle.q3_script.specs.declared.cause.ScriptKind.TheVariants as kinds
 use Rattle.q3_server.specs.Server.{places, new_server}
 use Rattle.q3_node.specs.Node.{new_node}
 use Rattle.q3_node.specs.AtServer.{server_rules}
-use Rattle.q3_node.specs.AtClient.{client_rules}
-use Rattle.q3net.specs.Command.{Serve, Join}
-use Rattle.q3net.specs.Verdict.{outside, served, joined}
-use Rattle.q3net.proofs.Noding.{serves, joins, one_client, no_profile_executes, no_profile_given, no_script_executes, no_script_given, both_given, serve_passed, join_passed, loop_failed, loop_done, passed_binds, node_read_cause, node_write_cause, node_wire_cause}
+use Rattle.q3net.specs.Command.{Serve}
+use Rattle.q3net.specs.Verdict.{outside, served}
+use Rattle.q3net.proofs.Noding.{serves, no_profile_executes, no_profile_given, no_script_executes, no_script_given, both_given, serve_passed, loop_failed, loop_done, passed_binds, node_read_cause, node_write_cause, node_wire_cause}
 use Rattle.q3net.proofs.nodes.serve.Goals as goal
 
 pub returns-in_err-profile-clause-executes : goal.returns-in_err-profile-clause-executes

@@ -4,7 +4,7 @@ use Rattle.std.proofs.lemmas.Option.{slice_get_read}
 use Rattle.q3_io.specs.Acts.{FileAct}
 use Rattle.q3_report.specs.declared.answer.Front.TheVariants as fronts
 use Rattle.q3_world.specs.Doing.{EndsDo}
-use Rattle.q3_world.specs.Ends.{EndsStep, place_at, server_takes}
+use Rattle.q3_world.specs.Ends.{EndsStep, server_takes}
 use Rattle.q3_world.specs.Files.{DoesFiles}
 use Rattle.q3_world.specs.Kept.{SentBytes}
 use Rattle.q3_world.proofs.Filing.{client_acts, client_does, delivers_none, does_nothing, server_acts, server_does, tells_ends}

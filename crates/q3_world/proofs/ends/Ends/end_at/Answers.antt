@@ -1,4 +1,4 @@
-use Rattle.std.proofs.Common.{List, None, Option, Ok, ap, arith, subst, sym, ◌∙◌, ◌≡◌}
+use Rattle.std.proofs.Common.{List, None, Ok, ap, arith, subst, sym, ◌∙◌, ◌≡◌}
 use Rattle.q3_io.specs.Acts.{FileAct}
 use Rattle.q3_ends.specs.Recording.{WritesFiles}
 use Rattle.q3_ends.proofs.Files.{writes_nothing}

@@ -3,9 +3,9 @@ use Rattle.std.proofs.lemmas.Result.{err_from_is_err_and}
 use Rattle.q3_ends.specs.Recording.{WritesFiles}
 use Rattle.q3_ends.proofs.Files.{writes_nothing}
 use Rattle.q3_world.specs.declared.places.Place.{Place}
-use Rattle.q3_world.specs.Ends.{Ends, place_at}
+use Rattle.q3_world.specs.Ends.{Ends}
 use Rattle.q3_world.specs.Files.{AreNumbered, stop_acts}
-use Rattle.q3_world.proofs.Finishing.{HaveEnds, HaveEnds-all, HaveEnds-begin, HaveEnds-more, HaveEnds-there, ends_all, ends_early, ends_more, numbered_ended}
+use Rattle.q3_world.proofs.Finishing.{HaveEnds, HaveEnds-begin, HaveEnds-more, HaveEnds-there, ends_early, ends_more, numbered_ended}
 use Rattle.q3_world.proofs.ends.Ends.finish.Goals as goal
 
 pub loop-c-init : goal.loop-c-init

@@ -1,6 +1,5 @@
-use Rattle.std.proofs.Common.{List, None, Option, ap, refl, rules, subst, sym, ◌∙◌, ◌≡◌, ℕ}
+use Rattle.std.proofs.Common.{List, refl, subst, sym}
 use Rattle.q3_io.specs.Acts.{FileAct}
-use Rattle.q3_report.specs.Answers.{Given}
 use Rattle.q3_report.specs.declared.answer.HandedIn.TheVariants as handed
 use Rattle.q3_report.specs.declared.answer.MoveRefused.TheVariants as refused
 use Rattle.q3_report.specs.declared.answer.TypeRefused.TheVariants as untyped

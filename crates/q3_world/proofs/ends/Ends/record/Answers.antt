@@ -1,9 +1,9 @@
-use Rattle.std.proofs.Common.{List, None, Option, Some, ap, arith, refl, subst, sym, ◌∙◌, ◌≡◌, ℕ}
+use Rattle.std.proofs.Common.{List, None, Option, ap, arith, subst, sym, ◌∙◌, ◌≡◌}
 use Rattle.q3_io.specs.Acts.{FileAct}
 use Rattle.q3_world.specs.declared.places.Place.{Place}
 use Rattle.q3_world.specs.Ends.{Ends, place_at}
-use Rattle.q3_world.specs.Files.{AreNumbered, DoesFiles, begin_acts, stop_acts, take_acts, deliver_acts}
-use Rattle.q3_world.proofs.Filing.{at_place, does_nothing, numbered_new, numbered_put, numbered_gone, numbered_same, tells_ends}
+use Rattle.q3_world.specs.Files.{AreNumbered, DoesFiles, begin_acts}
+use Rattle.q3_world.proofs.Filing.{at_place, does_nothing, numbered_new, numbered_gone}
 use Rattle.q3_world.proofs.ends.Ends.record.Goals as goal
 
 pub returns-in_default-clause-files : goal.returns-in_default-clause-files

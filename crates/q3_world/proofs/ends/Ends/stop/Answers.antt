@@ -1,9 +1,8 @@
-use Rattle.std.proofs.Common.{List, None, Option, Some, ap, arith, refl, subst, sym, ◌∙◌, ◌≡◌, ℕ}
+use Rattle.std.proofs.Common.{List, None, ap, arith, subst, sym, ◌∙◌, ◌≡◌}
 use Rattle.q3_io.specs.Acts.{FileAct}
-use Rattle.q3_world.specs.declared.places.Place.{Place}
 use Rattle.q3_world.specs.Ends.{Ends, place_at}
-use Rattle.q3_world.specs.Files.{AreNumbered, DoesFiles, begin_acts, stop_acts, take_acts, deliver_acts}
-use Rattle.q3_world.proofs.Filing.{at_place, does_nothing, numbered_new, numbered_put, numbered_same, stopped_file, tells_ends}
+use Rattle.q3_world.specs.Files.{AreNumbered, DoesFiles, stop_acts}
+use Rattle.q3_world.proofs.Filing.{at_place, does_nothing, numbered_put, stopped_file}
 use Rattle.q3_world.proofs.ends.Ends.stop.Goals as goal
 
 pub returns-in_default-clause-files : goal.returns-in_default-clause-files

@@ -1,5 +1,4 @@
-use Rattle.std.proofs.Common.{sym, ◌∙◌, subst, ap}
-use Rattle.q3_world.specs.Files.{AreNumbered, acts_of, line_acts}
+use Rattle.q3_world.specs.Files.{acts_of, line_acts}
 use Rattle.q3_world.proofs.Filing.{does_nothing, numbered_left}
 use Rattle.q3_world.proofs.world.World.act.Goals as goal
 

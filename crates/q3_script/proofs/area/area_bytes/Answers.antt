@@ -1,5 +1,0 @@
-use Rattle.q3_script.proofs.HexWords.{area_within}
-use Rattle.q3_script.proofs.area.area_bytes.Goals as goal
-
-pub returns : goal.returns
-returns c = area_within c.args.word.now c.hex_bytes.result c.hex_bytes.ensures

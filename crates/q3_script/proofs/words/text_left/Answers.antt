@@ -1,6 +1,0 @@
-use Rattle.std.proofs.Common.{arith}
-use Rattle.q3_script.proofs.Spaces.{text_behind}
-use Rattle.q3_script.proofs.words.text_left.Goals as goal
-
-pub returns-in-len1-up : goal.returns-in-len1-up
-returns-in-len1-up c = text_behind c.args.left.now (omega arith)

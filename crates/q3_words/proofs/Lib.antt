@@ -1,0 +1,13 @@
+pub mod Prefixes
+pub mod Spaces
+pub mod NumberWords
+pub mod Addresses
+pub mod Digits
+pub mod FieldWords
+pub mod HexWords
+pub mod NameWords
+pub mod Fronts
+pub mod Unquoted
+pub mod Coming
+pub mod Rising
+pub mod PlayerParts

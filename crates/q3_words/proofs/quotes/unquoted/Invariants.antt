@@ -1,0 +1,13 @@
+use Rattle.std.proofs.Common.{◌≤◌, length}
+use Rattle.q3_words.specs.Quotes.{unquoted_at}
+use Rattle.q3_words.proofs.Coming.{HasCome}
+use Rattle.q3_words.proofs.quotes.unquoted.Given as goal
+
+abbrev pub invariant-loop-left : goal.invariant-loop-left
+invariant-loop-left g l = record {
+  came : HasCome l.bytes.items l.left (unquoted_at l.word);
+  few : length l.bytes.items ≤ g.row.MOST;
+}
+
+abbrev pub decreases-loop-left : goal.decreases-loop-left
+decreases-loop-left g l = length l.left

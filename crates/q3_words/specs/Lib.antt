@@ -1,0 +1,7 @@
+pub mod Words
+pub mod Numbers
+pub mod Addresses
+pub mod Hex
+pub mod Names
+pub mod Quotes
+pub mod Fields
