@@ -3,5 +3,8 @@
 #![tactic(auto)]
 
 pub mod client;
+pub mod null_files;
 pub mod recording;
 pub mod server;
+
+pub use null_files::NullFiles;

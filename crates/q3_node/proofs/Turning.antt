@@ -1,5 +1,5 @@
 -- A node goes on turn by turn, and how it ends.
-use Rattle.std.proofs.Common.{◌≡◌, ℕ, zero, suc, ◌+◌, ◌-◌, ◌<◌, ◌≤◌, Bool, true, false, if◌then◌else◌, cond, List, [], ◌∷◌, ◌++◌, length, drop, Option, Some, None, Ok, Err, refl, sym, ap, ap₂, subst, ◌∙◌, append_assoc, arith}
+use Rattle.std.proofs.Common.{◌≡◌, ℕ, zero, suc, ◌+◌, ◌-◌, ◌<◌, ◌≤◌, Bool, true, false, if◌then◌else◌, cond, List, [], ◌∷◌, ◌++◌, length, drop, Option, Some, None, Ok, Err, refl, sym, ap, ap₂, subst, ◌∙◌, append_assoc, true≢false, ◌||◌, arith}
 use Rattle.std.specs.List.{flat_map, list_any, count_by}
 use Rattle.std.specs.Option.{option_to_list}
 use Rattle.std.proofs.lemmas.List.{append-nil, drop-drop, length-append}
@@ -10,11 +10,15 @@ use Rattle.q3_io.specs.Readings.{Reads, reading_of, readings_after}
 use Rattle.q3_io.specs.Traffic.{Parcel, Traffic, next_of}
 use Rattle.q3_io.specs.Written.{Written, NothingWaits}
 use Rattle.q3_io.specs.Laws.{TextsFollow}
+use Rattle.q3_io.specs.declared.address.Address.{Address}
+use Rattle.q3_io.specs.Acts.{FileAct, ActsOn, after_act, after_acts}
+use Rattle.q3_io.specs.Told.{Told}
 use Rattle.q3_script.specs.declared.event.Event.{Event}
 use Rattle.q3_node.specs.declared.error.NodeError.{NodeError}
-use Rattle.q3_node.specs.declared.error.NodeError.TheVariants.{NoMemory, WireFault, WriteFault, Turns}
-use Rattle.q3_node.specs.Node.{Rules, Node, Turn, uses_wire, Turned, due, start_at, turn_of, turn_at, most_turns, turns_of, arrivals_after, did_end, answer_text, parcels_of}
-use Rattle.q3_node.specs.Running.{ToArrive, ToRead, wire_behind, traffic_behind, Leaves, readings_behind, clock_behind, Ran, RanNode, StaysFlushed, Finds, TakesTurn}
+use Rattle.q3_node.specs.declared.error.NodeError.TheVariants.{NoMemory, WireFault, WriteFault, FileFault, Turns}
+use Rattle.q3_node.specs.Node.{Rules, Node, Turn, Turned, due, start_at, turn_of, turn_at, most_turns, turns_of, arrivals_after, did_end, answer_text, parcels_of, acts_of, want_memory}
+use Rattle.q3_node.specs.Running.{ToArrive, ToRead, Effects, all_acts, wire_behind, traffic_behind, Leaves, readings_behind, clock_behind, Ran, EndsIn, RanNode, RanBound, StaysFlushed, Finds, TakesTurn}
+use Rattle.q3_node.proofs.Parts.{nothing_done}
 
 -- ---- what is still to come, before a turn
 
@@ -101,6 +105,16 @@ some_arrive : (told : Option Traffic) → (arrivals : List (Option Parcel)) × T
 some_arrive None = ([], tt)
 some_arrive (Some traffic) = (traffic.arrivals, refl)
 
+-- arrivals in which a turn finds what it found
+pub record ToFind (told : Option Traffic) (now : Turn) (found : Option Parcel) : Type 0 where
+  pub all : List (Option Parcel)
+  pub to_arrive : ToArrive told all
+  pub first : now.received ≡ true → next_of all ≡ found
+
+to_find : (told : Option Traffic) (found : Option Parcel) (now : Turn) → Finds now told found → ToFind told now found
+to_find None found now finds = record { all = found ∷ []; to_arrive = tt; first = λ received. refl }
+to_find (Some traffic) found now finds = record { all = traffic.arrivals; to_arrive = refl; first = finds }
+
 -- ---- what turns leave
 
 wire_none : (told : Option Traffic) → told ≡ wire_behind told []
@@ -118,14 +132,25 @@ wire_both : (told : Option Traffic) (turns more : List Turn) → wire_behind (wi
 wire_both None turns more = refl
 wire_both (Some traffic) turns more = ap Some (behind_both traffic turns more)
 
-leaves_none : (law : TextsFollow) (written : Option Written) (told : Option Traffic) → Leaves [] true written written told told
-leaves_none law written told = record { printed = law.none; wire = wire_none told }
+-- one after the other
+acts_over : (told : Told) (first second : List FileAct) → after_acts told (first ++ second) ≡ after_acts (after_acts told first) second
+unfolding after_acts
+acts_over told [] second = refl
+acts_over told (act ∷ first) second = acts_over (after_act told act) first second
 
-leaves_both : (law : TextsFollow) (turns more : List Turn) (all : Bool) (before mid after : Option Written) (were mids are : Option Traffic)
-    → Leaves turns true before mid were mids → Leaves more all mid after mids are → Leaves (turns ++ more) all before after were are
-leaves_both law turns more all before mid after were mids are first behind = record {
+acts_both : (told mid now : Option Told) (first second : List FileAct) → ActsOn told mid first all_acts → ActsOn mid now second all_acts → ActsOn told now (first ++ second) all_acts
+acts_both None mid now first second before behind = subst (λ (m : Option Told). ActsOn m now second all_acts) before behind
+acts_both (Some told) mid now first second before behind =
+    subst (λ (m : Option Told). ActsOn m now second all_acts) before behind ∙ ap (λ (t : Told). Some t) (sym (acts_over told first second))
+
+leaves_none : (law : TextsFollow) (before : Effects) → Leaves [] true before before
+leaves_none law before = record { printed = law.none; wire = wire_none before.wire; files = nothing_done before.files }
+
+leaves_both : (law : TextsFollow) (turns more : List Turn) (all : Bool) (before mid after : Effects) → Leaves turns true before mid → Leaves more all mid after → Leaves (turns ++ more) all before after
+leaves_both law turns more all before mid after first behind = record {
   printed = law.more first.printed behind.printed (flat_map-append (λ (t : Turn). answer_text t.answer) turns more);
-  wire = behind.wire ∙ ap (λ (w : Option Traffic). wire_behind w more) first.wire ∙ wire_both were turns more;
+  wire = behind.wire ∙ ap (λ (w : Option Traffic). wire_behind w more) first.wire ∙ wire_both before.wire turns more;
+  files = rw (flat_map-append (λ (t : Turn). t.acts) turns more) (acts_both before.files mid.files after.files (acts_of turns) (acts_of more) first.files behind.files);
 }
 
 -- ---- a turn
@@ -163,35 +188,34 @@ pub record Whole {S : Type 0} (rules : Rules S) (count : ℕ) (first now : Node 
   pub to_arrive : ToArrive were arrivals
   pub same : turns_of most_turns rules first readings arrivals ≡ turns ++ rest
 
-pub record Going {S : Type 0} (rules : Rules S) (count : ℕ) (first now : Node S) (started clock : Option (List ℕ)) (before after : Option Written) (were are : Option Traffic) : Type 0 where
+pub record Going {S : Type 0} (rules : Rules S) (count : ℕ) (first now : Node S) (started clock : Option (List ℕ)) (before after : Effects) : Type 0 where
   pub turns : List Turn
-  pub leaves : Leaves turns true before after were are
+  pub leaves : Leaves turns true before after
   pub unended : did_end turns ≡ false
   pub read : clock ≡ clock_behind started (length turns)
-  pub whole : (readings : List ℕ) (arrivals : List (Option Parcel)) → ToRead clock readings → ToArrive are arrivals
-      → Whole rules count first now started were turns (turns_of count rules now readings arrivals)
+  pub whole : (readings : List ℕ) (arrivals : List (Option Parcel)) → ToRead clock readings → ToArrive after.wire arrivals
+      → Whole rules count first now started before.wire turns (turns_of count rules now readings arrivals)
 
-pub begins : {S : Type 0} (law : TextsFollow) (rules : Rules S) (node : Node S) (clock : Option (List ℕ)) (written : Option Written) (told : Option Traffic)
-    → Going rules most_turns node node clock clock written written told told
-begins {S} law rules node clock written told = record {
+pub begins : {S : Type 0} (law : TextsFollow) (rules : Rules S) (node : Node S) (clock : Option (List ℕ)) (before : Effects) → Going rules most_turns node node clock clock before before
+begins {S} law rules node clock before = record {
   turns = [];
-  leaves = leaves_none law written told;
+  leaves = leaves_none law before;
   unended = refl;
   read = clock_none clock;
   whole = λ readings arrivals to_read to_arrive. record { readings = readings; to_read = to_read; arrivals = arrivals; to_arrive = to_arrive; same = refl };
 }
 
 -- one more turn, which isn't the last
-goes_whole : {S : Type 0} (rules : Rules S) (count : ℕ) (first now : Node S) (started clock new : Option (List ℕ)) (before mid : Option Written) (were mids are : Option Traffic)
-    → (going : Going rules (suc count) first now started clock before mid were mids) → (reading : ℕ) (found : Option Parcel) → Reads clock new reading
-    → are ≡ wire_behind mids ((turn_at rules now reading found).turn ∷ []) → Finds (turn_at rules now reading found).turn mids found
+goes_whole : {S : Type 0} (rules : Rules S) (count : ℕ) (first now : Node S) (started clock new : Option (List ℕ)) (before mid : Effects) (are : Option Traffic)
+    → (going : Going rules (suc count) first now started clock before mid) → (reading : ℕ) (found : Option Parcel) → Reads clock new reading
+    → are ≡ wire_behind mid.wire ((turn_at rules now reading found).turn ∷ []) → Finds (turn_at rules now reading found).turn mid.wire found
     → (readings : List ℕ) (arrivals : List (Option Parcel)) → ToRead new readings → ToArrive are arrivals
-    → Whole rules count first now started were (going.turns ++ ((turn_at rules now reading found).turn ∷ []))
+    → Whole rules count first now started before.wire (going.turns ++ ((turn_at rules now reading found).turn ∷ []))
     (if (turn_at rules now reading found).turn.ended then [] else turns_of count rules (turn_at rules now reading found).node readings arrivals)
-goes_whole {S} rules count first now started clock new before mid were mids are going reading found read wire finds readings arrivals to_read to_arrive =
+goes_whole {S} rules count first now started clock new before mid are going reading found read wire finds readings arrivals to_read to_arrive =
     let t : Turned S = turn_at rules now reading found in
     let r = back_read clock new reading readings read to_read in
-    let a = back_arrive t.turn mids are found arrivals wire finds to_arrive in
+    let a = back_arrive t.turn mid.wire are found arrivals wire finds to_arrive in
     let whole = going.whole r.all a.all r.to_read a.to_arrive in
     let behind : List Turn = if t.turn.ended then [] else turns_of count rules t.node readings arrivals in
     record {
@@ -205,19 +229,19 @@ goes_whole {S} rules count first now started clock new before mid were mids are 
           ∙ sym (append_assoc going.turns (t.turn ∷ []) behind);
     }
 
-goes_on : {S : Type 0} (law : TextsFollow) (rules : Rules S) (count : ℕ) (first now next : Node S) (started clock new : Option (List ℕ)) (before mid after : Option Written) (were mids are : Option Traffic)
-    → Going rules (suc count) first now started clock before mid were mids → TakesTurn rules now next clock new mid after mids are (Ok false)
-    → Going rules count first next started new before after were are
-goes_on {S} law rules count first now next started clock new before mid after were mids are going takes =
+goes_on : {S : Type 0} (law : TextsFollow) (rules : Rules S) (count : ℕ) (first now next : Node S) (started clock new : Option (List ℕ)) (before mid after : Effects)
+    → Going rules (suc count) first now started clock before mid → TakesTurn rules now next clock new mid after (Ok false)
+    → Going rules count first next started new before after
+goes_on {S} law rules count first now next started clock new before mid after going takes =
     let t : Turned S = turn_at rules now takes.reading takes.found in
     let d = takes.done in
     record {
       turns = going.turns ++ (t.turn ∷ []);
-      leaves = leaves_both law going.turns (t.turn ∷ []) true before mid after were mids are going.leaves d.3;
+      leaves = leaves_both law going.turns (t.turn ∷ []) true before mid after going.leaves d.3;
       unended = list_any-append (λ (x : Turn). x.ended) going.turns (t.turn ∷ []) ∙ rw (going.unended, sym d.0) refl;
       read = turn_clock started clock new going.turns t.turn takes.reading going.read takes.read;
       whole = λ readings arrivals to_read to_arrive.
-          let w = goes_whole rules count first now started clock new before mid were mids are going takes.reading takes.found takes.read d.3.wire d.2 readings arrivals to_read to_arrive in
+          let w = goes_whole rules count first now started clock new before mid after.wire going takes.reading takes.found takes.read d.3.wire d.2 readings arrivals to_read to_arrive in
           record {
             readings = w.readings;
             to_read = w.to_read;
@@ -229,96 +253,59 @@ goes_on {S} law rules count first now next started clock new before mid after we
     }
 
 -- it did `end`
-ends : {S : Type 0} (law : TextsFollow) (rules : Rules S) (count : ℕ) (first now next : Node S) (started clock new : Option (List ℕ)) (before mid after : Option Written) (were mids are : Option Traffic)
-    → Going rules (suc count) first now started clock before mid were mids → TakesTurn rules now next clock new mid after mids are (Ok true)
-    → RanNode rules first started new before after were are (Ok tt)
-ends {S} law rules count first now next started clock new before mid after were mids are going takes =
+ends : {S : Type 0} (law : TextsFollow) (rules : Rules S) (count : ℕ) (first now next : Node S) (started clock new : Option (List ℕ)) (before mid after : Effects)
+    → Going rules (suc count) first now started clock before mid → TakesTurn rules now next clock new mid after (Ok true)
+    → RanNode rules first started new before after (Ok tt)
+ends {S} law rules count first now next started clock new before mid after going takes =
     let t : Turned S = turn_at rules now takes.reading takes.found in
     let d = takes.done in
     let readings = some_read new in
-    let arrivals = some_arrive are in
-    let w = goes_whole rules count first now started clock new before mid were mids are going takes.reading takes.found takes.read d.3.wire d.2 readings.0 arrivals.0 readings.1 arrivals.1 in
+    let arrivals = some_arrive after.wire in
+    let w = goes_whole rules count first now started clock new before mid after.wire going takes.reading takes.found takes.read d.3.wire d.2 readings.0 arrivals.0 readings.1 arrivals.1 in
     let same : turns_of most_turns rules first w.readings w.arrivals ≡ going.turns ++ (t.turn ∷ []) =
     w.same ∙ ap (λ (ts : List Turn). (going.turns ++ (t.turn ∷ [])) ++ ts) (rw (sym d.0) refl) ∙ append-nil (going.turns ++ (t.turn ∷ [])) in (
       w.readings,
       w.to_read,
       w.arrivals,
       w.to_arrive,
-      subst (λ (ts : List Turn). Ran ts started new before after were are (Ok tt)) (sym same) (
+      subst (λ (ts : List Turn). Ran ts started new before after (Ok tt)) (sym same) (
         list_any-append (λ (x : Turn). x.ended) going.turns (t.turn ∷ []) ∙ rw (going.unended, sym d.0) refl,
         record {
-          leaves = leaves_both law going.turns (t.turn ∷ []) true before mid after were mids are going.leaves d.3;
+          leaves = leaves_both law going.turns (t.turn ∷ []) true before mid after going.leaves d.3;
           read = turn_clock started clock new going.turns t.turn takes.reading going.read takes.read;
         },
       ),
     )
 
 -- its turns are spent
-spent : {S : Type 0} (rules : Rules S) (first now : Node S) (started clock : Option (List ℕ)) (before after : Option Written) (were are : Option Traffic)
-    → Going rules zero first now started clock before after were are → RanNode rules first started clock before after were are (Err Turns)
+spent : {S : Type 0} (rules : Rules S) (first now : Node S) (started clock : Option (List ℕ)) (before after : Effects)
+    → Going rules zero first now started clock before after → RanNode rules first started clock before after (Err Turns)
 unfolding turns_of
-spent {S} rules first now started clock before after were are going =
+spent {S} rules first now started clock before after going =
     let readings = some_read clock in
-    let arrivals = some_arrive are in
+    let arrivals = some_arrive after.wire in
     let w = going.whole readings.0 arrivals.0 readings.1 arrivals.1 in (
       w.readings,
       w.to_read,
       w.arrivals,
       w.to_arrive,
-      subst (λ (ts : List Turn). Ran ts started clock before after were are (Err Turns)) (sym (w.same ∙ append-nil going.turns))
+      subst (λ (ts : List Turn). Ran ts started clock before after (Err Turns)) (sym (w.same ∙ append-nil going.turns))
           (going.unended, record { leaves = going.leaves; read = going.read }),
     )
 
--- whether a turn uses the wire doesn't rest on what a receive finds
-uses_any_of : {S : Type 0} (rules : Rules S) (node : Node S) (line : Option Event) (found other : Option Parcel)
-    → uses_wire (turn_of rules node line found).turn ≡ true → uses_wire (turn_of rules node line other).turn ≡ true
-uses_any_of rules node (Some event) found other uses = uses
-uses_any_of rules node None found None uses = refl
-uses_any_of rules node None found (Some parcel) uses = refl
-
-uses_any : {S : Type 0} (rules : Rules S) (node : Node S) (reading : ℕ) (found other : Option Parcel)
-    → uses_wire (turn_at rules node reading found).turn ≡ true → uses_wire (turn_at rules node reading other).turn ≡ true
-uses_any rules node reading found other uses =
-    uses_any_of rules (record node { start = Some (start_at node.start reading) }) (due node.time (reading - start_at node.start reading) node.left) found other uses
-
--- the wire failed
-wire_failed : {S : Type 0} (rules : Rules S) (count : ℕ) (first now next : Node S) (started clock new : Option (List ℕ)) (before mid after : Option Written) (were mids are : Option Traffic)
-    → Going rules (suc count) first now started clock before mid were mids → TakesTurn rules now next clock new mid after mids are (Err WireFault)
-    → RanNode rules first started new before after were are (Err WireFault)
-wire_failed {S} rules count first now next started clock new before mid after were mids are going takes =
-    let later = some_read new in
-    let r = back_read clock new takes.reading later.0 takes.read later.1 in
-    let arrivals = some_arrive mids in
-    let w = going.whole r.all arrivals.0 r.to_read arrivals.1 in
-    let t : Turned S = turn_at rules now (reading_of r.all) (next_of arrivals.0) in
-    let d = takes.done in (
-      w.readings,
-      w.to_read,
-      w.arrivals,
-      w.to_arrive,
-      record {
-        first = going.turns;
-        last = t.turn;
-        rest = if t.turn.ended then [] else turns_of count rules t.node (readings_after r.all) (arrivals_after t.turn arrivals.0);
-        whole = w.same ∙ ap (λ (ts : List Turn). going.turns ++ ts) (first_turn count rules now r.all arrivals.0 (reading_of r.all) (next_of arrivals.0) refl (λ received. refl));
-        uses = subst (λ (n : ℕ). uses_wire (turn_at rules now n (next_of arrivals.0)).turn ≡ true) (sym r.first)
-            (uses_any rules now takes.reading takes.found (next_of arrivals.0) d.0);
-        leaves = rw (d.1, d.2) going.leaves;
-        read = next_clock started clock new (length going.turns) takes.reading going.read takes.read;
-      },
-    )
-
--- the sink failed
-write_failed : {S : Type 0} (rules : Rules S) (count : ℕ) (first now next : Node S) (started clock new : Option (List ℕ)) (before mid after : Option Written) (were mids are : Option Traffic)
-    → Going rules (suc count) first now started clock before mid were mids → (NothingWaits before → NothingWaits mid) → TakesTurn rules now next clock new mid after mids are (Err WriteFault)
-    → RanNode rules first started new before after were are (Err WriteFault)
-write_failed {S} rules count first now next started clock new before mid after were mids are going flushed takes =
+-- the outside ended it in a turn
+stopped : {S : Type 0} (rules : Rules S) (count : ℕ) (first now next : Node S) (started clock new : Option (List ℕ)) (before mid after : Effects) (e : NodeError)
+    → Going rules (suc count) first now started clock before mid → (NothingWaits before.written → NothingWaits mid.written) → TakesTurn rules now next clock new mid after (Err e)
+    → (readings : List ℕ) × ToRead started readings × (arrivals : List (Option Parcel)) × ToArrive before.wire arrivals
+    × EndsIn (turns_of most_turns rules first readings arrivals) e started new before after
+stopped {S} rules count first now next started clock new before mid after e going flushed takes =
     let t : Turned S = turn_at rules now takes.reading takes.found in
     let d = takes.done in
-    let readings = some_read new in
-    let arrivals = some_arrive are in
-    let behind : List Turn = if t.turn.ended then [] else turns_of count rules t.node readings.0 arrivals.0 in
-    let w = goes_whole rules count first now started clock new before mid were mids are going takes.reading takes.found takes.read d.1.wire d.0 readings.0 arrivals.0 readings.1 arrivals.1 in (
+    let later = some_read new in
+    let r = back_read clock new takes.reading later.0 takes.read later.1 in
+    let a = to_find mid.wire takes.found t.turn d.0 in
+    let w = going.whole r.all a.all r.to_read a.to_arrive in
+    let rest : List Turn = if t.turn.ended then [] else turns_of count rules t.node (readings_after r.all) (arrivals_after t.turn a.all) in (
       w.readings,
       w.to_read,
       w.arrivals,
@@ -326,13 +313,12 @@ write_failed {S} rules count first now next started clock new before mid after w
       record {
         first = going.turns;
         last = t.turn;
-        rest = behind;
-        whole = w.same ∙ append_assoc going.turns (t.turn ∷ []) behind;
+        rest = rest;
+        whole = w.same ∙ ap (λ (ts : List Turn). going.turns ++ ts) (first_turn count rules now r.all a.all takes.reading takes.found r.first a.first);
         mid = mid;
-        mids = mids;
         passed = going.leaves;
         flushed = flushed;
-        fails = d.1;
+        stops = d.1;
         read = next_clock started clock new (length going.turns) takes.reading going.read takes.read;
       },
     )
@@ -342,38 +328,82 @@ write_failed {S} rules count first now next started clock new before mid after w
 one_left : (taken : ℕ) → taken < most_turns → most_turns - taken ≡ suc (most_turns - (taken + 1))
 one_left taken few = omega (arith, few)
 
-pub goes_on_by : {S : Type 0} (law : TextsFollow) (rules : Rules S) (taken : ℕ) (first now next : Node S) (started clock new : Option (List ℕ)) (before mid after : Option Written) (were mids are : Option Traffic)
-    → taken < most_turns → Going rules (most_turns - taken) first now started clock before mid were mids → TakesTurn rules now next clock new mid after mids are (Ok false)
-    → Going rules (most_turns - (taken + 1)) first next started new before after were are
-goes_on_by law rules taken first now next started clock new before mid after were mids are few going takes =
-    goes_on law rules (most_turns - (taken + 1)) first now next started clock new before mid after were mids are (rw (one_left taken few) at going) takes
+pub goes_on_by : {S : Type 0} (law : TextsFollow) (rules : Rules S) (taken : ℕ) (first now next : Node S) (started clock new : Option (List ℕ)) (before mid after : Effects)
+    → taken < most_turns → Going rules (most_turns - taken) first now started clock before mid → TakesTurn rules now next clock new mid after (Ok false)
+    → Going rules (most_turns - (taken + 1)) first next started new before after
+goes_on_by law rules taken first now next started clock new before mid after few going takes =
+    goes_on law rules (most_turns - (taken + 1)) first now next started clock new before mid after (rw (one_left taken few) at going) takes
 
-pub ends_by : {S : Type 0} (law : TextsFollow) (rules : Rules S) (taken : ℕ) (first now next : Node S) (started clock new : Option (List ℕ)) (before mid after : Option Written) (were mids are : Option Traffic)
-    → taken < most_turns → Going rules (most_turns - taken) first now started clock before mid were mids → TakesTurn rules now next clock new mid after mids are (Ok true)
-    → RanNode rules first started new before after were are (Ok tt)
-ends_by law rules taken first now next started clock new before mid after were mids are few going takes =
-    ends law rules (most_turns - (taken + 1)) first now next started clock new before mid after were mids are (rw (one_left taken few) at going) takes
+pub ends_by : {S : Type 0} (law : TextsFollow) (rules : Rules S) (taken : ℕ) (first now next : Node S) (started clock new : Option (List ℕ)) (before mid after : Effects)
+    → taken < most_turns → Going rules (most_turns - taken) first now started clock before mid → TakesTurn rules now next clock new mid after (Ok true)
+    → RanNode rules first started new before after (Ok tt)
+ends_by law rules taken first now next started clock new before mid after few going takes =
+    ends law rules (most_turns - (taken + 1)) first now next started clock new before mid after (rw (one_left taken few) at going) takes
 
-pub spent_by : {S : Type 0} (rules : Rules S) (taken : ℕ) (first now : Node S) (started clock : Option (List ℕ)) (before after : Option Written) (were are : Option Traffic)
-    → most_turns ≤ taken → Going rules (most_turns - taken) first now started clock before after were are → RanNode rules first started clock before after were are (Err Turns)
-spent_by rules taken first now started clock before after were are all going =
+pub spent_by : {S : Type 0} (rules : Rules S) (taken : ℕ) (first now : Node S) (started clock : Option (List ℕ)) (before after : Effects)
+    → most_turns ≤ taken → Going rules (most_turns - taken) first now started clock before after → RanNode rules first started clock before after (Err Turns)
+spent_by rules taken first now started clock before after all going =
     let none : most_turns - taken ≡ 0 = omega (arith, all) in
-    spent rules first now started clock before after were are (rw none at going)
+    spent rules first now started clock before after (rw none at going)
 
-pub fails_by : {S : Type 0} (rules : Rules S) (taken : ℕ) (first now next : Node S) (started clock new : Option (List ℕ)) (before mid after : Option Written) (were mids are : Option Traffic) (e : NodeError)
-    → taken < most_turns → Going rules (most_turns - taken) first now started clock before mid were mids → (NothingWaits before → NothingWaits mid) → TakesTurn rules now next clock new mid after mids are (Err e)
-    → RanNode rules first started new before after were are (Err e)
-fails_by rules taken first now next started clock new before mid after were mids are NoMemory few going flushed takes = absurd takes.done
-fails_by rules taken first now next started clock new before mid after were mids are WireFault few going flushed takes =
-    wire_failed rules (most_turns - (taken + 1)) first now next started clock new before mid after were mids are (rw (one_left taken few) at going) takes
-fails_by rules taken first now next started clock new before mid after were mids are WriteFault few going flushed takes =
-    write_failed rules (most_turns - (taken + 1)) first now next started clock new before mid after were mids are (rw (one_left taken few) at going) flushed takes
-fails_by rules taken first now next started clock new before mid after were mids are Turns few going flushed takes = absurd takes.done
+pub fails_by : {S : Type 0} (rules : Rules S) (taken : ℕ) (first now next : Node S) (started clock new : Option (List ℕ)) (before mid after : Effects) (e : NodeError)
+    → taken < most_turns → Going rules (most_turns - taken) first now started clock before mid → (NothingWaits before.written → NothingWaits mid.written) → TakesTurn rules now next clock new mid after (Err e)
+    → RanNode rules first started new before after (Err e)
+fails_by rules taken first now next started clock new before mid after NoMemory few going flushed takes =
+    stopped rules (most_turns - (taken + 1)) first now next started clock new before mid after NoMemory (rw (one_left taken few) at going) flushed takes
+fails_by rules taken first now next started clock new before mid after WireFault few going flushed takes =
+    stopped rules (most_turns - (taken + 1)) first now next started clock new before mid after WireFault (rw (one_left taken few) at going) flushed takes
+fails_by rules taken first now next started clock new before mid after WriteFault few going flushed takes =
+    stopped rules (most_turns - (taken + 1)) first now next started clock new before mid after WriteFault (rw (one_left taken few) at going) flushed takes
+fails_by rules taken first now next started clock new before mid after FileFault few going flushed takes =
+    stopped rules (most_turns - (taken + 1)) first now next started clock new before mid after FileFault (rw (one_left taken few) at going) flushed takes
+fails_by rules taken first now next started clock new before mid after Turns few going flushed takes = absurd takes.done.1
 
 -- where the sink didn't fail nothing waits in it
-pub flushed_still : {S : Type 0} (rules : Rules S) (now next : Node S) (clock new : Option (List ℕ)) (before mid after : Option Written) (mids are : Option Traffic) (e : NodeError)
-    → (NothingWaits before → NothingWaits mid) → TakesTurn rules now next clock new mid after mids are (Err e) → StaysFlushed {T = Unit {0}} before after (Err e)
-flushed_still rules now next clock new before mid after mids are NoMemory flushed takes = absurd takes.done
-flushed_still rules now next clock new before mid after mids are WireFault flushed takes = λ nothing. subst NothingWaits (sym takes.done.1) (flushed nothing)
-flushed_still rules now next clock new before mid after mids are WriteFault flushed takes = tt
-flushed_still rules now next clock new before mid after mids are Turns flushed takes = absurd takes.done
+pub flushed_still : {S : Type 0} (rules : Rules S) (now next : Node S) (clock new : Option (List ℕ)) (before : Option Written) (mid after : Effects) (e : NodeError)
+    → (NothingWaits before → NothingWaits mid.written) → TakesTurn rules now next clock new mid after (Err e) → StaysFlushed {T = Unit {0}} before after.written (Err e)
+flushed_still rules now next clock new before mid after NoMemory flushed takes = λ nothing. subst (λ (x : Effects). NothingWaits x.written) (sym takes.done.1.1) (flushed nothing)
+flushed_still rules now next clock new before mid after WireFault flushed takes = λ nothing. subst (λ (x : Effects). NothingWaits x.written) (sym takes.done.1.1) (flushed nothing)
+flushed_still rules now next clock new before mid after WriteFault flushed takes = tt
+flushed_still rules now next clock new before mid after FileFault flushed takes = λ nothing. subst NothingWaits (sym takes.done.1.1) (flushed nothing)
+flushed_still rules now next clock new before mid after Turns flushed takes = absurd takes.done.1
+
+-- ---- of an end that wants no memory
+
+-- no turn of it does
+no_turn_wants : {S : Type 0} (rules : Rules S) → ((end : S) (event : Event) (number : ℕ) → (rules.line end event number).memory ≡ false)
+    → (node : Node S) (line : Option Event) (found : Option Parcel) → (turn_of rules node line found).turn.memory ≡ false
+no_turn_wants rules none node (Some event) found = none node.end event (node.made + 1)
+no_turn_wants rules none node None None = refl
+no_turn_wants rules none node None (Some parcel) = refl
+
+none_wants : {S : Type 0} (rules : Rules S) → ((end : S) (event : Event) (number : ℕ) → (rules.line end event number).memory ≡ false)
+    → (count : ℕ) (node : Node S) (readings : List ℕ) (arrivals : List (Option Parcel)) → want_memory (turns_of count rules node readings arrivals) ≡ false
+unfolding turns_of
+none_wants rules none zero node readings arrivals = refl
+none_wants {S} rules none (suc count) node readings arrivals =
+    let now : Turned S = turn_at rules node (reading_of readings) (next_of arrivals) in
+    let here : now.turn.memory ≡ false =
+    no_turn_wants rules none (record node { start = Some (start_at node.start (reading_of readings)) })
+    (due node.time (reading_of readings - start_at node.start (reading_of readings)) node.left) (next_of arrivals) in
+    rw here (behind now now.turn.ended)
+  where
+    behind : (now : Turned S) (ended : Bool)
+        → want_memory (if ended then [] else turns_of count rules now.node (readings_after readings) (arrivals_after now.turn arrivals)) ≡ false
+    behind now true = refl
+    behind now false = none_wants rules none count now.node (readings_after readings) (arrivals_after now.turn arrivals)
+
+-- so it doesn't run out of it behind its address
+pub keeps_memory : {S : Type 0} (rules : Rules S) → ((end : S) (event : Event) (number : ℕ) → (rules.line end event number).memory ≡ false)
+    → (bound : Bool) (node : Node S) (at : Address) (clock now : Option (List ℕ)) (before after : Effects) → RanBound bound rules node at clock now before after (Err NoMemory) → bound ≡ false
+keeps_memory rules none false node at clock now before after ran = refl
+keeps_memory rules none true node at clock now before after ran =
+    let in_turn = ran.4 in
+    let all = ap want_memory in_turn.whole in
+    let wants : want_memory (in_turn.first ++ in_turn.last ∷ in_turn.rest) ≡ true =
+    list_any-append (λ (t : Turn). t.memory) in_turn.first (in_turn.last ∷ in_turn.rest) ∙ rw in_turn.stops.0 (of_first (want_memory in_turn.first)) in
+    absurd (true≢false (sym wants ∙ (sym all ∙ none_wants rules none most_turns node ran.0 ran.2)))
+  where
+    of_first : (wants : Bool) → (wants || true) ≡ true
+    of_first true = refl
+    of_first false = refl

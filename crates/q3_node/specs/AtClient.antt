@@ -1,5 +1,5 @@
 -- What a client does at a line of its script, and at an arrival.
-use Rattle.std.specs.Prelude.{ℕ, ◌==◌, ◌&&◌, if◌then◌else◌, Bool, List, [], ◌∷◌, Option, Some, None, Ok}
+use Rattle.std.specs.Prelude.{ℕ, ◌==◌, ◌&&◌, if◌then◌else◌, Bool, true, false, List, [], ◌∷◌, Option, Some, None, Ok}
 use Rattle.q3_io.specs.declared.address.Address.{Address}
 use Rattle.q3_io.specs.Traffic.{Parcel}
 use Rattle.q3_profile.specs.declared.profile.Profile.{Profile}
@@ -32,7 +32,7 @@ client_of profile server (events.Client c challenge qport dup address ∷ others
 client_of profile server other = None
 
 abbrev pub answers : ClientEnd → Answered → LineDone ClientEnd
-answers end answer = record { end = end; answer = Some answer; sends = None; acts = [] }
+answers end answer = record { end = end; answer = Some answer; sends = None; acts = []; memory = false }
 
 -- a command or a move is issued
 abbrev pub issued : ClientEnd → ClientStep → LineDone ClientEnd
@@ -47,25 +47,26 @@ send end c number =
       answer = Some (SentOut c (Ok emission.answer) number);
       sends = parcel_to (Some end.server) emission.piece;
       acts = [];
+      memory = false;
     }
 
--- a recording begins, into the file of a name
+-- a recording begins, into the file of a name; memory is wanted also where it is refused
 abbrev pub record_to : ClientEnd → ℕ → List ℕ → LineDone ClientEnd
 record_to end c name =
     let begun = begin_at end.client end.recording (new_recording name) in
-    record { end = record end { recording = begun.recording }; answer = Some (Given (handed.Record c begun.answer)); sends = None; acts = begun.acts }
+    record { end = record end { recording = begun.recording }; answer = Some (Given (handed.Record c begun.answer)); sends = None; acts = begun.acts; memory = true }
 
 -- it has its end
 abbrev pub stop : ClientEnd → ℕ → LineDone ClientEnd
 stop end c =
     let stopped = stop_at end.recording in
-    record { end = record end { recording = stopped.recording }; answer = Some (Given (handed.Stop c stopped.answer)); sends = None; acts = stopped.acts }
+    record { end = record end { recording = stopped.recording }; answer = Some (Given (handed.Stop c stopped.answer)); sends = None; acts = stopped.acts; memory = false }
 
 -- and so it has with the node's own end, where one goes on
 abbrev pub finish : ClientEnd → LineDone ClientEnd
 finish end =
     let stopped = stop_at end.recording in
-    record { end = record end { recording = stopped.recording }; answer = None; sends = None; acts = stopped.acts }
+    record { end = record end { recording = stopped.recording }; answer = None; sends = None; acts = stopped.acts; memory = false }
 
 -- a line of a client's script; any other does nothing
 abbrev pub line_done : ClientEnd → Event → ℕ → LineDone ClientEnd
@@ -77,7 +78,7 @@ line_done end (events.RecordTo c name) number = record_to end c name
 line_done end (events.Stop c) number = stop end c
 line_done end (events.Show c) number = answers end (Shown c (showing end.client))
 line_done end (events.End ms) number = finish end
-line_done end other number = record { end = end; answer = None; sends = None; acts = [] }
+line_done end other number = record { end = end; answer = None; sends = None; acts = []; memory = false }
 
 abbrev pub is_address : Address → Address → Bool
 is_address one other = (one.host == other.host) && (one.port == other.port)

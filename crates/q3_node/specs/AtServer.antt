@@ -1,5 +1,5 @@
 -- What a server does at a line of its script, and at an arrival.
-use Rattle.std.specs.Prelude.{ℕ, [], Option, Some, None, option_map}
+use Rattle.std.specs.Prelude.{ℕ, false, [], Option, Some, None, option_map}
 use Rattle.q3_io.specs.declared.address.Address.{Address}
 use Rattle.q3_io.specs.Traffic.{Parcel}
 use Rattle.q3_script.specs.declared.event.Event.{Event}
@@ -17,7 +17,7 @@ use Rattle.q3_node.specs.Node.{LineDone, Arrived, Rules, parcel_to}
 abbrev pub join : ServerState → ℕ → ℕ → ℕ → Address → LineDone ServerState
 join server c challenge qport address =
     let given = add_client_at server c challenge qport address in
-    record { end = given.server; answer = Some (Given (handed.Client c given.answer)); sends = None; acts = [] }
+    record { end = given.server; answer = Some (Given (handed.Client c given.answer)); sends = None; acts = []; memory = false }
 
 -- a datagram is made for a client, and sent to its address
 abbrev pub serve : ServerState → ℕ → ℕ → LineDone ServerState
@@ -28,12 +28,13 @@ serve server c number =
       answer = Some (Served c emission.answer number);
       sends = parcel_to (option_map (λ (slot : SlotState). slot.address) (slot_at server c)) emission.piece;
       acts = [];
+      memory = false;
     }
 
 -- a line of the game; any other does nothing
 abbrev pub game_done : ServerState → Option ServerStep → LineDone ServerState
-game_done server None = record { end = server; answer = None; sends = None; acts = [] }
-game_done server (Some step) = record { end = step.server; answer = Some (Given step.answer); sends = None; acts = [] }
+game_done server None = record { end = server; answer = None; sends = None; acts = []; memory = false }
+game_done server (Some step) = record { end = step.server; answer = Some (Given step.answer); sends = None; acts = []; memory = false }
 
 abbrev pub line_done : ServerState → Event → ℕ → LineDone ServerState
 line_done server (events.Client c challenge qport dup address) number = join server c challenge qport address

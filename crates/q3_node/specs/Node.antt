@@ -14,12 +14,13 @@ use Rattle.q3_io.specs.Acts.{FileAct}
 use Rattle.q3_ends.specs.Recording.{RecordingState}
 
 -- what an end does at a line: the end behind it, its answer, if it gives one, the datagram that it sends, if it makes one, and what it does
--- to files
+-- to files; and whether it wants memory
 pub record LineDone (S : Type 0) : Type 0 where
   pub end : S
   pub answer : Option Answered
   pub sends : Option Parcel
   pub acts : List FileAct
+  pub memory : Bool
 
 -- and what it makes of an arrival
 pub record Arrived (S : Type 0) : Type 0 where
@@ -46,11 +47,12 @@ pub record Node (S : Type 0) : Type 0 where
 abbrev pub new_node : {S : Type 0} → S → List Event → Node S
 new_node end events = record { end = end; left = events; time = 0; start = None; made = 0 }
 
--- a turn: its answer, if it gives one, what it sends, if anything, and what it does to files; whether it received; and whether it did `end`
+-- a turn: its answer, if it gives one, what it sends, if anything, and what it does to files; whether it wants memory, received, and did `end`
 pub record Turn : Type 0 where
   pub answer : Option Answered
   pub sends : Option Parcel
   pub acts : List FileAct
+  pub memory : Bool
   pub received : Bool
   pub ended : Bool
 
@@ -109,17 +111,17 @@ line_turn rules node event =
     let done = rules.line node.end event (node.made + 1) in
     record {
       node = record node { end = done.end; left = drop 1 node.left; time = time_behind node.time event; made = made_with node.made done.sends };
-      turn = record { answer = done.answer; sends = done.sends; acts = done.acts; received = false; ended = is_end event };
+      turn = record { answer = done.answer; sends = done.sends; acts = done.acts; memory = done.memory; received = false; ended = is_end event };
     }
 
 -- a receive finds this, and an arrival is taken
 abbrev pub receive_turn : {S : Type 0} → Rules S → Node S → Option Parcel → Turned S
-receive_turn rules node None = record { node = node; turn = record { answer = None; sends = None; acts = []; received = true; ended = false } }
+receive_turn rules node None = record { node = node; turn = record { answer = None; sends = None; acts = []; memory = false; received = true; ended = false } }
 receive_turn rules node (Some parcel) =
     let arrived = rules.arrives node.end (cut_to_room parcel) in
     record {
       node = record node { end = arrived.end };
-      turn = record { answer = Some arrived.answer; sends = None; acts = arrived.acts; received = true; ended = false };
+      turn = record { answer = Some arrived.answer; sends = None; acts = arrived.acts; memory = false; received = true; ended = false };
     }
 
 -- the next line, if it is due at this time
@@ -175,3 +177,7 @@ parcels_of turns = flat_map (λ (turn : Turn). option_to_list turn.sends) turns
 -- and what they do to files
 abbrev pub acts_of : List Turn → List FileAct
 acts_of turns = flat_map (λ (turn : Turn). turn.acts) turns
+
+-- whether one of them wants memory
+abbrev pub want_memory : List Turn → Bool
+want_memory turns = list_any (λ (turn : Turn). turn.memory) turns

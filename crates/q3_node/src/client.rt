@@ -3,8 +3,9 @@
 ghost use Rattle.std.specs.Prelude.{◌≡◌, IfOk};
 ghost use Rattle.q3_profile.specs.Profile.{IsProfile};
 ghost use Rattle.q3_client.specs.Client.{new_client};
-ghost use Rattle.q3_node.specs.Running.{DoesLine, WireCause, WriteCause};
-ghost use Rattle.q3_node.specs.AtClient.{client_rules, send, is_address};
+ghost use Rattle.q3_ends.specs.Recording.{HasFile};
+ghost use Rattle.q3_node.specs.Running.{effects, DoesLine, WireCause, WriteCause, FileCause};
+ghost use Rattle.q3_node.specs.AtClient.{client_rules, new_end, send, record_to, stop, finish, is_address};
 
 use crate::end::{End, hand_over, tell};
 use crate::error::NodeError;
@@ -13,20 +14,23 @@ use q3_chan::Datagram;
 use q3_client::Client;
 use q3_clstate::Log;
 use q3_ends::client::{add_move, show, type_text};
-use q3_io::{Address, Failed, Sink, Wire};
+use q3_ends::recording::{self, Recording};
+use q3_io::{Address, Failed, Files, Sink, Wire};
 use q3_profile::Profile;
-use q3_report::{Answer, Front, HandedIn, TakeRefused, Taker, print_answer};
+use q3_report::{Answer, Front, HandedIn, TakeRefused, Taker};
 use q3_script::Event;
 use q3_text::Commands;
+use q3_words::Name;
 use std::alloc::Global;
 use std::marker::Model;
 
-/// A client with the number of its script, the address of its server, and what it executed last.
+/// A client with the number of its script, the address of its server, its recording, if one goes on, and what it executed last.
 #[derive(Drop)]
 pub(crate) struct ClientEnd {
     c: u8,
     client: Client,
     server: Address,
+    recording: Option<Recording>,
     log: Box<Log>,
 }
 
@@ -35,7 +39,7 @@ impl Model for ClientEnd {
 
     ghost Value = { EndValue };
 
-    ghost view = { λ e. record { c = e.c; client = e.client; server = e.server } };
+    ghost view = { λ e. record { c = e.c; client = e.client; server = e.server; recording = e.recording } };
 }
 
 /// Whether two addresses are one.
@@ -46,8 +50,10 @@ fn is_address(one: Address, other: Address) -> bool
 }
 
 impl ClientEnd {
-    ghost use Rattle.std.specs.Prelude.{true, OnOk};
-    ghost use Rattle.q3_io.specs.Written.{NothingWaits};
+    ghost use Rattle.std.specs.Prelude.{ℕ, true, Option, None, OnOk};
+    ghost use Rattle.q3_io.specs.Told.{Told};
+    ghost use Rattle.q3_io.specs.Traffic.{Traffic};
+    ghost use Rattle.q3_io.specs.Written.{Written, NothingWaits};
 
     /// A client that has taken nothing, of the server at this address. Each message repeats the moves of `dup` messages before it.
     /// `Err` is want of memory.
@@ -61,7 +67,7 @@ impl ClientEnd {
         server: Address,
     ) -> Result<ClientEnd, NoMemory>
         requires { IsProfile profile.now }
-        ensures { IfOk result (λ made. made ≡ record { c = c; client = new_client profile.now challenge qport dup; server = server }) }
+        ensures { IfOk result (λ made. made ≡ new_end c (new_client profile.now challenge qport dup) server) }
     {
         let client = Client::new(alloc, profile, challenge, qport, dup)?;
         let commands = Commands::new(alloc)?;
@@ -70,6 +76,7 @@ impl ClientEnd {
             c,
             client,
             server,
+            recording: None,
             log,
         })
     }
@@ -84,13 +91,16 @@ impl ClientEnd {
     ) -> Result<bool, NodeError>
         requires bound { W.bound wire.old ≡ true }
         ensures bound { W.bound wire.new ≡ true }
-        ensures does { DoesLine (send self.old c number) self.new (O.written out.old) (O.written out.new) (W.told wire.old) (W.told wire.new) result }
+        ensures recording { self.new.recording ≡ self.old.recording }
+        ensures does { (told : Option Told) → DoesLine (send self.old c number) self.new
+            (effects (O.written out.old) (W.told wire.old) told) (effects (O.written out.new) (W.told wire.new) told) result }
         ensures flushed { OnOk result (NothingWaits (O.written out.new)) }
         ensures wire_cause { WireCause (W.faults wire.old) (W.faults wire.new) result }
         ensures write_cause { WriteCause (O.faults out.old) (O.faults out.new) result }
+        ensures file_cause { (faults : ℕ) → FileCause faults faults result }
     {
         let mut made = Datagram::new();
-        let sent = self.client.emit(&mut made);
+        let sent = recording::emit(&mut self.client, &self.recording, &mut made);
         let answer = Answer::Send {
             c,
             sent: Ok(sent),
@@ -98,20 +108,99 @@ impl ClientEnd {
         };
         hand_over(Some(self.server), &made, &answer, wire, out)
     }
+
+    /// Begins a recording into a file of this name.
+    fn record<F: Files, O: Sink>(
+        &mut self,
+        alloc: Global,
+        c: u8,
+        name: &Name,
+        file: &mut usize,
+        files: &mut F,
+        out: &mut O,
+    ) -> Result<bool, NodeError>
+        requires file { HasFile (F.told files.old) (F.given files.old) file.old self.old.recording }
+        ensures does { (wire : Option Traffic) → DoesLine (record_to self.old c name.now) self.new
+            (effects (O.written out.old) wire (F.told files.old)) (effects (O.written out.new) wire (F.told files.new)) result }
+        ensures file { OnOk result (HasFile (F.told files.new) (F.given files.new) file.new self.new.recording) }
+        ensures flushed { OnOk result (NothingWaits (O.written out.new)) }
+        ensures wire_cause { (faults : ℕ) → WireCause faults faults result }
+        ensures write_cause { WriteCause (O.faults out.old) (O.faults out.new) result }
+        ensures file_cause { FileCause (F.write_faults files.old) (F.write_faults files.new) result }
+        ensures reads { F.faults files.new ≡ F.faults files.old }
+    {
+        let fresh = Recording::new(alloc, name)?;
+        let Ok(outcome) = recording::begin(&self.client, &mut self.recording, fresh, file, files)
+        else {
+            return Err(NodeError::FileFault);
+        };
+        tell(&Answer::HandedIn(HandedIn::Record { c, outcome }), out)?;
+        Ok(false)
+    }
+
+    /// Ends the recording.
+    fn stop<F: Files, O: Sink>(
+        &mut self,
+        c: u8,
+        file: usize,
+        files: &mut F,
+        out: &mut O,
+    ) -> Result<bool, NodeError>
+        requires file { HasFile (F.told files.old) (F.given files.old) file self.old.recording }
+        ensures does { (wire : Option Traffic) → DoesLine (stop self.old c) self.new
+            (effects (O.written out.old) wire (F.told files.old)) (effects (O.written out.new) wire (F.told files.new)) result }
+        ensures none { self.new.recording ≡ None }
+        ensures flushed { OnOk result (NothingWaits (O.written out.new)) }
+        ensures wire_cause { (faults : ℕ) → WireCause faults faults result }
+        ensures write_cause { WriteCause (O.faults out.old) (O.faults out.new) result }
+        ensures file_cause { FileCause (F.write_faults files.old) (F.write_faults files.new) result }
+        ensures reads { F.faults files.new ≡ F.faults files.old }
+    {
+        let Ok(outcome) = recording::stop(&mut self.recording, file, files) else {
+            return Err(NodeError::FileFault);
+        };
+        tell(&Answer::HandedIn(HandedIn::Stop { c, outcome }), out)?;
+        Ok(false)
+    }
+
+    /// Ends the recording, if one goes on, with the node's own end.
+    fn finish<F: Files>(&mut self, file: usize, files: &mut F) -> Result<bool, NodeError>
+        requires file { HasFile (F.told files.old) (F.given files.old) file self.old.recording }
+        ensures does { (written : Option Written) (wire : Option Traffic) → DoesLine (finish self.old) self.new
+            (effects written wire (F.told files.old)) (effects written wire (F.told files.new)) result }
+        ensures none { self.new.recording ≡ None }
+        ensures wire_cause { (faults : ℕ) → WireCause faults faults result }
+        ensures write_cause { (faults : ℕ) → WriteCause faults faults result }
+        ensures file_cause { FileCause (F.write_faults files.old) (F.write_faults files.new) result }
+        ensures reads { F.faults files.new ≡ F.faults files.old }
+    {
+        match recording::stop(&mut self.recording, file, files) {
+            Ok(_) => Ok(false),
+            Err(Failed) => Err(NodeError::FileFault),
+        }
+    }
 }
 
 impl End for ClientEnd {
     ghost rules = { client_rules };
 
-    fn line<W: Wire, O: Sink>(
+    fn line<F: Files, W: Wire, O: Sink>(
         &mut self,
+        alloc: Global,
         event: &Event,
         number: u32,
+        file: &mut usize,
+        files: &mut F,
         wire: &mut W,
         out: &mut O,
     ) -> Result<bool, NodeError> {
         let handed = match event {
             Event::Send { c } => return self.send(*c, number, wire, out),
+            Event::RecordTo { c, name } => {
+                return self.record(alloc, *c, name, file, files, out);
+            }
+            Event::Stop { c } => return self.stop(*c, *file, files, out),
+            Event::End { .. } => return self.finish(*file, files),
             Event::Show { c } => {
                 let shown = show(&self.client);
                 tell(&Answer::Show { c: *c, shown }, out)?;
@@ -129,20 +218,36 @@ impl End for ClientEnd {
         Ok(false)
     }
 
-    fn arrive<O: Sink>(&mut self, from: Address, bytes: &[u8], out: &mut O) -> Result<(), Failed> {
+    fn arrive<F: Files, O: Sink>(
+        &mut self,
+        from: Address,
+        bytes: &[u8],
+        file: usize,
+        files: &mut F,
+        out: &mut O,
+    ) -> Result<(), NodeError> {
         let front = Front::Arrive;
         if !is_address(from, self.server) {
             let cause = TakeRefused::Stranger { c: self.c };
-            return print_answer(&Answer::Untaken { front, cause }, out);
+            return tell(&Answer::Untaken { front, cause }, out);
         }
-        let took = self.client.take(bytes, &mut self.log);
+        let Ok((took, ended)) = recording::take(
+            &mut self.client,
+            &mut self.recording,
+            bytes,
+            &mut self.log,
+            file,
+            files,
+        ) else {
+            return Err(NodeError::FileFault);
+        };
         let taker = Taker::Client {
             c: self.c,
             took,
             client: &self.client,
             log: &self.log,
-            ended: false,
+            ended,
         };
-        print_answer(&Answer::Took { front, taker }, out)
+        tell(&Answer::Took { front, taker }, out)
     }
 }

@@ -9,7 +9,7 @@ use thiserror::Error;
 /// Why a node ended before the line `end` of its script.
 #[derive(Clone, Copy, Debug, PartialEq, Eq, Error)]
 pub enum NodeError {
-    /// Want of memory, before the wire was bound.
+    /// Want of memory, before the wire was bound, or at a line `record`.
     #[error("no memory")]
     NoMemory,
     /// The wire failed.
@@ -18,6 +18,9 @@ pub enum NodeError {
     /// The sink failed, and took a front of the last turn's lines.
     #[error("write fault")]
     WriteFault,
+    /// A file of a recording couldn't be made or written. Nothing of that turn was printed.
+    #[error("file fault")]
+    FileFault,
     /// 10,000,000 turns passed, and none of them did `end`.
     #[error("turns spent")]
     Turns,

@@ -1,6 +1,6 @@
 //! A server's loop, and a client's.
 
-ghost use Rattle.std.specs.Prelude.{◌≡◌, ◌≤◌, false, length, All, Some, IsErrOf, IfErr, is_ok};
+ghost use Rattle.std.specs.Prelude.{◌≡◌, ◌≤◌, ℕ, None, false, length, All, Some, IsErrOf, IfErr, is_ok};
 ghost use Rattle.q3_profile.specs.Profile.{IsProfile};
 ghost use Rattle.q3_script.specs.declared.cause.ScriptKind.TheVariants as kinds;
 ghost use Rattle.q3_script.specs.Grammar.{IsEventOf, IsInRange, IsOneClient};
@@ -9,14 +9,15 @@ ghost use Rattle.q3_server.specs.Server.{places, new_server};
 ghost use Rattle.q3_node.specs.Node.{new_node};
 ghost use Rattle.q3_node.specs.AtServer.{server_rules};
 ghost use Rattle.q3_node.specs.AtClient.{ClientEnd as EndValue, client_rules, client_of};
-ghost use Rattle.q3_node.specs.Running.{BindsAt, RanBound, StaysFlushed, WireCause, WriteCause};
+ghost use Rattle.q3_node.specs.Running.{effects, BindsAt, RanBound, StaysFlushed, WireCause, WriteCause, FileCause};
 
 use crate::client::ClientEnd;
 use crate::end::End;
 use crate::error::NodeError;
 use crate::server::ServerEnd;
 use crate::turns::{RECEIVE_ROOM, run_turns};
-use q3_io::{Address, Clock, Failed, Sink, Wire};
+use q3_ends::NullFiles;
+use q3_io::{Address, Clock, Failed, Files, Sink, Wire};
 use q3_profile::Profile;
 use q3_script::Event;
 use q3_script::laws::events_are_in_range;
@@ -39,25 +40,27 @@ pub fn serve_loop<W: Wire, C: Clock, O: Sink>(
     requires few { length events.now ≤ most_events }
     requires unbound { W.bound wire.old ≡ false }
     ensures ran { RanBound (W.bound wire.new) server_rules (new_node (new_server profile.now places) events.now) at (C.readings clock.old) (C.readings clock.new)
-        (O.written out.old) (O.written out.new) (W.told wire.old) (W.told wire.new) result }
+        (effects (O.written out.old) (W.told wire.old) None) (effects (O.written out.new) (W.told wire.new) None) result }
     ensures unbound { W.bound wire.new ≡ false → (clock.new ≡ clock.old) × (out.new ≡ out.old) }
     ensures flushed { StaysFlushed (O.written out.old) (O.written out.new) result }
-    ensures no_memory { IsErrOf result NodeError.NoMemory → wire.new ≡ wire.old }
     ensures wire_cause { WireCause (W.faults wire.old) (W.faults wire.new) result }
     ensures write_cause { WriteCause (O.faults out.old) (O.faults out.new) result }
+    ensures file_cause { (faults : ℕ) → FileCause faults faults result }
 {
     events_are_in_range();
     let mut end = ServerEnd::new(alloc, profile)?;
-    run(alloc, &mut end, events, at, wire, clock, out)
+    run(alloc, &mut end, events, at, &mut NullFiles, wire, clock, out)
 }
 
 /// Runs a client of the server at `server`, likewise. The client is that of the first line. An arrival from another address isn't taken.
-pub fn join_loop<W: Wire, C: Clock, O: Sink>(
+/// What it records is written to `files`; memory may be wanted at a line `record` too.
+pub fn join_loop<F: Files, W: Wire, C: Clock, O: Sink>(
     alloc: Global,
     profile: &Profile,
     events: &[Event],
     at: Address,
     server: Address,
+    files: &mut F,
     wire: &mut W,
     clock: &mut C,
     out: &mut O,
@@ -69,12 +72,13 @@ pub fn join_loop<W: Wire, C: Clock, O: Sink>(
     requires unbound { W.bound wire.old ≡ false }
     ensures ran { (end : EndValue) → client_of profile.now server events.now ≡ Some end
         → RanBound (W.bound wire.new) client_rules (new_node end events.now) at (C.readings clock.old) (C.readings clock.new)
-        (O.written out.old) (O.written out.new) (W.told wire.old) (W.told wire.new) result }
+        (effects (O.written out.old) (W.told wire.old) (F.told files.old)) (effects (O.written out.new) (W.told wire.new) (F.told files.new)) result }
     ensures unbound { W.bound wire.new ≡ false → (clock.new ≡ clock.old) × (out.new ≡ out.old) }
     ensures flushed { StaysFlushed (O.written out.old) (O.written out.new) result }
-    ensures no_memory { IsErrOf result NodeError.NoMemory → wire.new ≡ wire.old }
     ensures wire_cause { WireCause (W.faults wire.old) (W.faults wire.new) result }
     ensures write_cause { WriteCause (O.faults out.old) (O.faults out.new) result }
+    ensures file_cause { FileCause (F.write_faults files.old) (F.write_faults files.new) result }
+    ensures reads { F.faults files.new ≡ F.faults files.old }
 {
     events_are_in_range();
     let [
@@ -91,15 +95,16 @@ pub fn join_loop<W: Wire, C: Clock, O: Sink>(
         unreachable!()
     };
     let mut end = ClientEnd::new(alloc, profile, *c, *challenge, *qport, *dup, server)?;
-    run(alloc, &mut end, events, at, wire, clock, out)
+    run(alloc, &mut end, events, at, files, wire, clock, out)
 }
 
-/// Takes room for arrivals, binds the wire, and runs the node of an end.
-fn run<E: End, W: Wire, C: Clock, O: Sink>(
+/// Takes room for arrivals, binds the wire, and runs the node of an end that records nothing yet.
+fn run<E: End, F: Files, W: Wire, C: Clock, O: Sink>(
     alloc: Global,
     end: &mut E,
     events: &[Event],
     at: Address,
+    files: &mut F,
     wire: &mut W,
     clock: &mut C,
     out: &mut O,
@@ -107,17 +112,19 @@ fn run<E: End, W: Wire, C: Clock, O: Sink>(
     requires lines { All IsInRange events.now }
     requires few { length events.now ≤ most_events }
     requires unbound { W.bound wire.old ≡ false }
+    requires none { E.rules.recording end.old ≡ None }
     ensures ran { RanBound (W.bound wire.new) E.rules (new_node end.old events.now) at (C.readings clock.old) (C.readings clock.new)
-        (O.written out.old) (O.written out.new) (W.told wire.old) (W.told wire.new) result }
+        (effects (O.written out.old) (W.told wire.old) (F.told files.old)) (effects (O.written out.new) (W.told wire.new) (F.told files.new)) result }
     ensures unbound { W.bound wire.new ≡ false → (clock.new ≡ clock.old) × (out.new ≡ out.old) }
     ensures flushed { StaysFlushed (O.written out.old) (O.written out.new) result }
-    ensures no_memory { IsErrOf result NodeError.NoMemory → wire.new ≡ wire.old }
     ensures wire_cause { WireCause (W.faults wire.old) (W.faults wire.new) result }
     ensures write_cause { WriteCause (O.faults out.old) (O.faults out.new) result }
+    ensures file_cause { FileCause (F.write_faults files.old) (F.write_faults files.new) result }
+    ensures reads { F.faults files.new ≡ F.faults files.old }
 {
     let mut buffer = vec![in alloc; 0; RECEIVE_ROOM]?;
     bind(at, wire)?;
-    run_turns(end, events, &mut buffer, wire, clock, out)
+    run_turns(alloc, end, events, &mut buffer, files, wire, clock, out)
 }
 
 /// Binds the wire to an address.

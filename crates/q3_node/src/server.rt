@@ -3,7 +3,7 @@
 ghost use Rattle.std.specs.Prelude.{◌≡◌, IfOk};
 ghost use Rattle.q3_profile.specs.Profile.{IsProfile};
 ghost use Rattle.q3_server.specs.Server.{places, new_server};
-ghost use Rattle.q3_node.specs.Running.{DoesLine, WireCause, WriteCause};
+ghost use Rattle.q3_node.specs.Running.{effects, DoesLine, WireCause, WriteCause, FileCause};
 ghost use Rattle.q3_node.specs.AtServer.{server_rules, serve};
 
 use crate::end::{End, hand_over, tell};
@@ -11,9 +11,9 @@ use crate::error::NodeError;
 use q3_bits::NoMemory;
 use q3_chan::Datagram;
 use q3_ends::server::{server_line, server_takes};
-use q3_io::{Address, Failed, Sink, Wire};
+use q3_io::{Address, Files, Sink, Wire};
 use q3_profile::Profile;
-use q3_report::{Answer, Front, HandedIn, print_answer};
+use q3_report::{Answer, Front, HandedIn};
 use q3_script::Event;
 use q3_server::{Heard, MOST_SLOTS, Server};
 use std::alloc::Global;
@@ -35,7 +35,8 @@ impl Model for ServerEnd {
 }
 
 impl ServerEnd {
-    ghost use Rattle.std.specs.Prelude.{true, OnOk};
+    ghost use Rattle.std.specs.Prelude.{ℕ, true, Option, OnOk};
+    ghost use Rattle.q3_io.specs.Told.{Told};
     ghost use Rattle.q3_io.specs.Written.{NothingWaits};
 
     /// A server by this profile, with no client. `Err` is want of memory.
@@ -59,10 +60,12 @@ impl ServerEnd {
     ) -> Result<bool, NodeError>
         requires bound { W.bound wire.old ≡ true }
         ensures bound { W.bound wire.new ≡ true }
-        ensures does { DoesLine (serve self.old c number) self.new (O.written out.old) (O.written out.new) (W.told wire.old) (W.told wire.new) result }
+        ensures does { (told : Option Told) → DoesLine (serve self.old c number) self.new
+            (effects (O.written out.old) (W.told wire.old) told) (effects (O.written out.new) (W.told wire.new) told) result }
         ensures flushed { OnOk result (NothingWaits (O.written out.new)) }
         ensures wire_cause { WireCause (W.faults wire.old) (W.faults wire.new) result }
         ensures write_cause { WriteCause (O.faults out.old) (O.faults out.new) result }
+        ensures file_cause { (faults : ℕ) → FileCause faults faults result }
     {
         let to = self.server.address(c);
         let mut made = Datagram::new();
@@ -79,10 +82,13 @@ impl ServerEnd {
 impl End for ServerEnd {
     ghost rules = { server_rules };
 
-    fn line<W: Wire, O: Sink>(
+    fn line<F: Files, W: Wire, O: Sink>(
         &mut self,
+        _alloc: Global,
         event: &Event,
         number: u32,
+        _file: &mut usize,
+        _files: &mut F,
         wire: &mut W,
         out: &mut O,
     ) -> Result<bool, NodeError> {
@@ -108,7 +114,14 @@ impl End for ServerEnd {
         }
     }
 
-    fn arrive<O: Sink>(&mut self, from: Address, bytes: &[u8], out: &mut O) -> Result<(), Failed> {
+    fn arrive<F: Files, O: Sink>(
+        &mut self,
+        from: Address,
+        bytes: &[u8],
+        _file: usize,
+        _files: &mut F,
+        out: &mut O,
+    ) -> Result<(), NodeError> {
         let answer = server_takes(
             &mut self.server,
             Front::Arrive,
@@ -116,6 +129,6 @@ impl End for ServerEnd {
             bytes,
             &mut self.heard,
         );
-        print_answer(&answer, out)
+        tell(&answer, out)
     }
 }

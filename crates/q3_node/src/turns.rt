@@ -8,12 +8,14 @@ ghost use Rattle.q3_script.specs.Grammar.{IsInRange};
 ghost use Rattle.q3_script.specs.Script.{most_events};
 ghost use Rattle.q3_node.specs.declared.turns.Course.{Course as CourseValue};
 ghost use Rattle.q3_node.specs.Node.{receive_room, due_at, time_behind, is_end, start_at, due, line_turn, receive_turn, new_node};
-ghost use Rattle.q3_node.specs.Running.{DoesTurn, TakesTurn, RanNode, StaysFlushed, node_of, IsOn, WireCause, WriteCause};
+ghost use Rattle.q3_ends.specs.Recording.{HasFile};
+ghost use Rattle.q3_node.specs.Running.{effects, DoesTurn, TakesTurn, RanNode, StaysFlushed, node_of, IsOn, WireCause, WriteCause, FileCause};
 
 use crate::end::End;
 use crate::error::NodeError;
-use q3_io::{Clock, Sink, Wire, laws};
+use q3_io::{Clock, Files, Sink, Wire, laws};
 use q3_script::Event;
+use std::alloc::Global;
 
 /// How many turns a node has.
 const MOST_TURNS: u32 = 10_000_000;
@@ -108,11 +110,13 @@ fn is_end(event: &Event) -> bool
     matches!(event, Event::End { .. })
 }
 
-/// Runs a node by these lines, over a wire that is bound, until it did `end`.
-pub(crate) fn run_turns<E: End, W: Wire, C: Clock, O: Sink>(
+/// Runs a node by these lines, over a wire that is bound, until it did `end`. It records nothing at first.
+pub(crate) fn run_turns<E: End, F: Files, W: Wire, C: Clock, O: Sink>(
+    alloc: Global,
     end: &mut E,
     events: &[Event],
     buffer: &mut [u8],
+    files: &mut F,
     wire: &mut W,
     clock: &mut C,
     out: &mut O,
@@ -121,17 +125,23 @@ pub(crate) fn run_turns<E: End, W: Wire, C: Clock, O: Sink>(
     requires lines { All IsInRange events.now }
     requires few { length events.now ≤ most_events }
     requires room { length buffer.old ≡ receive_room }
+    requires none { E.rules.recording end.old ≡ None }
     ensures bound { W.bound wire.new ≡ true }
     ensures ran { RanNode E.rules (new_node end.old events.now) (C.readings clock.old) (C.readings clock.new)
-        (O.written out.old) (O.written out.new) (W.told wire.old) (W.told wire.new) result }
+        (effects (O.written out.old) (W.told wire.old) (F.told files.old)) (effects (O.written out.new) (W.told wire.new) (F.told files.new)) result }
     ensures flushed { StaysFlushed (O.written out.old) (O.written out.new) result }
     ensures wire_cause { WireCause (W.faults wire.old) (W.faults wire.new) result }
     ensures write_cause { WriteCause (O.faults out.old) (O.faults out.new) result }
+    ensures file_cause { FileCause (F.write_faults files.old) (F.write_faults files.new) result }
+    ensures reads { F.faults files.new ≡ F.faults files.old }
 {
     laws::texts_follow();
     let mut course = Course::new();
+    let mut file = 0;
     for _ in 0..MOST_TURNS {
-        if turn(end, events, &mut course, buffer, wire, clock, out)? {
+        if turn(
+            alloc, end, events, &mut course, buffer, &mut file, files, wire, clock, out,
+        )? {
             return Ok(());
         }
     }
@@ -139,11 +149,14 @@ pub(crate) fn run_turns<E: End, W: Wire, C: Clock, O: Sink>(
 }
 
 /// Takes one reading of the clock, and does the next line if it is due, and else one receive. Answers whether it did `end`.
-fn turn<E: End, W: Wire, C: Clock, O: Sink>(
+fn turn<E: End, F: Files, W: Wire, C: Clock, O: Sink>(
+    alloc: Global,
     end: &mut E,
     events: &[Event],
     course: &mut Course,
     buffer: &mut [u8],
+    file: &mut usize,
+    files: &mut F,
     wire: &mut W,
     clock: &mut C,
     out: &mut O,
@@ -153,72 +166,87 @@ fn turn<E: End, W: Wire, C: Clock, O: Sink>(
     requires few { length events.now ≤ most_events }
     requires course { IsOn events.now course.old }
     requires room { length buffer.old ≡ receive_room }
+    requires file { HasFile (F.told files.old) (F.given files.old) file.old (E.rules.recording end.old) }
     ensures bound { W.bound wire.new ≡ true }
     ensures room { length buffer.new ≡ length buffer.old }
     ensures course { OnOk result (IsOn events.now course.new) }
+    ensures file { OnOk result (HasFile (F.told files.new) (F.given files.new) file.new (E.rules.recording end.new)) }
     ensures takes { TakesTurn E.rules (node_of end.old events.now course.old) (node_of end.new events.now course.new) (C.readings clock.old) (C.readings clock.new)
-        (O.written out.old) (O.written out.new) (W.told wire.old) (W.told wire.new) result }
+        (effects (O.written out.old) (W.told wire.old) (F.told files.old)) (effects (O.written out.new) (W.told wire.new) (F.told files.new)) result }
     ensures flushed { NothingWaits (O.written out.old) → OnOk result (NothingWaits (O.written out.new)) }
     ensures wire_cause { WireCause (W.faults wire.old) (W.faults wire.new) result }
     ensures write_cause { WriteCause (O.faults out.old) (O.faults out.new) result }
+    ensures file_cause { FileCause (F.write_faults files.old) (F.write_faults files.new) result }
+    ensures reads { F.faults files.new ≡ F.faults files.old }
 {
     let ms = course.since_start(clock.now());
     match course.next_due(events, ms) {
-        Some(event) => do_line(end, course, event, wire, out),
-        None => receive(end, buffer, wire, out),
+        Some(event) => do_line(alloc, end, course, event, file, files, wire, out),
+        None => receive(end, buffer, *file, files, wire, out),
     }
 }
 
 /// Does a line. Answers whether it is `end`.
-fn do_line<E: End, W: Wire, O: Sink>(
+fn do_line<E: End, F: Files, W: Wire, O: Sink>(
+    alloc: Global,
     end: &mut E,
     course: &mut Course,
     event: &Event,
+    file: &mut usize,
+    files: &mut F,
     wire: &mut W,
     out: &mut O,
 ) -> Result<bool, NodeError>
     requires bound { W.bound wire.old ≡ true }
     requires event { IsInRange event.now }
     requires few { (course.old.next < most_events) × (course.old.made < most_events) }
+    requires file { HasFile (F.told files.old) (F.given files.old) file.old (E.rules.recording end.old) }
     ensures bound { W.bound wire.new ≡ true }
     ensures next { OnOk result (course.new.next ≡ course.old.next + 1) }
     ensures made { OnOk result (course.new.made ≤ course.old.made + 1) }
+    ensures file { OnOk result (HasFile (F.told files.new) (F.given files.new) file.new (E.rules.recording end.new)) }
     ensures does { (events : List EventValue) (found : Option Parcel) → DoesTurn (line_turn E.rules (node_of end.old events course.old) event.now) found (node_of end.new events course.new)
-        (O.written out.old) (O.written out.new) (W.told wire.old) (W.told wire.new) result }
+        (effects (O.written out.old) (W.told wire.old) (F.told files.old)) (effects (O.written out.new) (W.told wire.new) (F.told files.new)) result }
     ensures flushed { NothingWaits (O.written out.old) → OnOk result (NothingWaits (O.written out.new)) }
     ensures wire_cause { WireCause (W.faults wire.old) (W.faults wire.new) result }
     ensures write_cause { WriteCause (O.faults out.old) (O.faults out.new) result }
+    ensures file_cause { FileCause (F.write_faults files.old) (F.write_faults files.new) result }
+    ensures reads { F.faults files.new ≡ F.faults files.old }
 {
-    let made = end.line(event, course.made + 1, wire, out)?;
+    let made = end.line(alloc, event, course.made + 1, file, files, wire, out)?;
     course.go_on(event, made);
     Ok(is_end(event))
 }
 
 /// Receives once, and an arrival is taken. Answers that this isn't `end`.
-fn receive<E: End, W: Wire, O: Sink>(
+fn receive<E: End, F: Files, W: Wire, O: Sink>(
     end: &mut E,
     buffer: &mut [u8],
+    file: usize,
+    files: &mut F,
     wire: &mut W,
     out: &mut O,
 ) -> Result<bool, NodeError>
     requires bound { W.bound wire.old ≡ true }
     requires room { length buffer.old ≡ receive_room }
+    requires file { HasFile (F.told files.old) (F.given files.old) file (E.rules.recording end.old) }
     ensures bound { W.bound wire.new ≡ true }
     ensures room { length buffer.new ≡ length buffer.old }
+    ensures file { OnOk result (HasFile (F.told files.new) (F.given files.new) file (E.rules.recording end.new)) }
     ensures does { (found : Option Parcel) × ((events : List EventValue) (course : CourseValue) → DoesTurn (receive_turn E.rules (node_of end.old events course) found) found (node_of end.new events course)
-        (O.written out.old) (O.written out.new) (W.told wire.old) (W.told wire.new) result) }
+        (effects (O.written out.old) (W.told wire.old) (F.told files.old)) (effects (O.written out.new) (W.told wire.new) (F.told files.new)) result) }
     ensures flushed { NothingWaits (O.written out.old) → OnOk result (NothingWaits (O.written out.new)) }
     ensures wire_cause { WireCause (W.faults wire.old) (W.faults wire.new) result }
     ensures write_cause { WriteCause (O.faults out.old) (O.faults out.new) result }
+    ensures file_cause { FileCause (F.write_faults files.old) (F.write_faults files.new) result }
+    ensures reads { F.faults files.new ≡ F.faults files.old }
 {
     laws::texts_follow();
     let Ok(found) = wire.receive(buffer) else {
         return Err(NodeError::WireFault);
     };
     if let Some((from, count)) = found {
-        if end.arrive(from, &buffer[..count], out).is_err() {
-            return Err(NodeError::WriteFault);
-        }
+        end.arrive(from, &buffer[..count], file, files, out)?;
     }
     Ok(false)
 }

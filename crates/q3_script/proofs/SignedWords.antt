@@ -2,10 +2,9 @@
 use Rattle.std.proofs.Common.{◌≡◌, ℕ, zero, suc, ◌≤◌, true, List, ◌∷◌, ◌++◌, Option, Some, None, Ok, refl, sym, ap, subst, ◌∙◌, arith}
 use Rattle.std.specs.Prelude.{codes, ℤ, pos, negsuc, neg_ℤ, option_map}
 use Rattle.std.specs.Fmt.{decimal, signed_decimal}
-use Rattle.std.specs.Option.{ok_or, option_map_or}
+use Rattle.std.specs.Option.{option_map_or}
 use Rattle.std.proofs.lemmas.Int.{ints}
 use Rattle.std.proofs.lemmas.Option.{same_Some}
-use Rattle.q3_words.specs.declared.cause.LineCause.{LineCause}
 use Rattle.q3_words.specs.declared.cause.LineCause.TheVariants as causes
 use Rattle.q3_text.specs.Decimals.{number_at}
 use Rattle.q3_text.proofs.Cuts.{lacks}

@@ -1,5 +1,5 @@
 -- The grammar of a script: which words spell which event, and which lines which events.
-use Rattle.std.specs.Prelude.{◌≡◌, ℕ, ◌^◌, ◌<◌, ◌≤◌, Bool, true, false, List, [], ◌∷◌, length, map, codes, decimal, All}
+use Rattle.std.specs.Prelude.{◌≡◌, ℕ, ◌^◌, ◌<◌, ◌≤◌, Bool, true, false, List, [], ◌∷◌, length, codes, decimal, All}
 use Rattle.std.specs.List.{AllByRecursion}
 use Rattle.q3_fields.specs.States.{AreWords}
 use Rattle.q3_clmsg.specs.Moves.{IsHeldMove}

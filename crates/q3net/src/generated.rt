@@ -20,7 +20,7 @@ ghost use Rattle.q3net.specs.Trying.{CountsTo};
 use crate::command::Draws;
 use crate::fault::Fault;
 use crate::input::load_profile;
-use crate::null_files::NullFiles;
+use q3_ends::NullFiles;
 use q3_io::{Files, NullSink, Piece, Sink, print_all};
 use q3_make::{Drawn, closing_lines, make_script, opening_lines, print_script};
 use q3_script::Event;

@@ -1,23 +1,28 @@
-use Rattle.std.proofs.Common.{Some, take}
-use Rattle.q3_node.proofs.Parts.{came, received_arrival, received_stopped}
+use Rattle.std.proofs.Common.{Some, None, take, refl}
+use Rattle.std.proofs.lemmas.Result.{err_from_is_err_and}
+use Rattle.q3_node.specs.Running.{effects}
+use Rattle.q3_node.proofs.Parts.{came, found_next, received_arrival, received_nothing, received_stopped, receive_failed}
 use Rattle.q3_node.proofs.turns.receive.Goals as goal
 
-pub returns-then-is_err-clause-does : goal.returns-then-is_err-clause-does
-returns-then-is_err-clause-does g c =
+pub returns-in_err-arrive-clause-does : goal.returns-in_err-arrive-clause-does
+returns-in_err-arrive-clause-does g c =
+    let p = err_from_is_err_and c.from_residual.result c.from_residual.ensures.1 in
     let one = came (g.W.Wire.told c.args.wire.now) (g.W.Wire.told c.receive.new.self) c.args.buffer.now c.receive.new.into c.in-Some.from c.in-Some.count c.requires.room
     (rw c.in-Some.is at c.in-Ok.ensures.count) c.in-Ok.ensures.length (rw c.in-Some.is at c.in-Ok.ensures.told) in (
       Some one.parcel,
-      λ events course. received_stopped g.E.End.rules c.args.end.now c.arrive.new.self events course
-          (g.O.Sink.written c.args.out.now) (g.O.Sink.written c.arrive.new.out) (g.W.Wire.told c.args.wire.now) (g.W.Wire.told c.receive.new.self)
-          c.in-Some.from (take c.in-Some.count c.receive.new.into) one (rw c.if-is_err.ensures.negation at c.arrive.ensures.adds),
+      λ events course. rw (p.1, p.2) (received_stopped g.E.End.rules c.args.end.now c.arrive.new.self events course
+          (effects (g.O.Sink.written c.args.out.now) (g.W.Wire.told c.args.wire.now) (g.F.Files.told c.args.files.now))
+          (effects (g.O.Sink.written c.arrive.new.out) (g.W.Wire.told c.receive.new.self) (g.F.Files.told c.arrive.new.files))
+          c.in-Some.from (take c.in-Some.count c.receive.new.into) c.in_err-arrive.field-0.0 one c.in_err-arrive.ensures.does),
     )
 
-pub returns-else-is_err-clause-does : goal.returns-else-is_err-clause-does
-returns-else-is_err-clause-does g c =
+pub returns-in-Some-clause-does : goal.returns-in-Some-clause-does
+returns-in-Some-clause-does g c =
     let one = came (g.W.Wire.told c.args.wire.now) (g.W.Wire.told c.receive.new.self) c.args.buffer.now c.receive.new.into c.in-Some.from c.in-Some.count c.requires.room
     (rw c.in-Some.is at c.in-Ok.ensures.count) c.in-Ok.ensures.length (rw c.in-Some.is at c.in-Ok.ensures.told) in (
       Some one.parcel,
       λ events course. received_arrival g.E.End.rules c.args.end.now c.arrive.new.self events course
-          (g.O.Sink.written c.args.out.now) (g.O.Sink.written c.arrive.new.out) (g.W.Wire.told c.args.wire.now) (g.W.Wire.told c.receive.new.self)
-          c.in-Some.from (take c.in-Some.count c.receive.new.into) one c.arrive.ensures.end (rw c.if-is_err.ensures.negation at c.arrive.ensures.adds),
+          (effects (g.O.Sink.written c.args.out.now) (g.W.Wire.told c.args.wire.now) (g.F.Files.told c.args.files.now))
+          (effects (g.O.Sink.written c.arrive.new.out) (g.W.Wire.told c.receive.new.self) (g.F.Files.told c.arrive.new.files))
+          c.in-Some.from (take c.in-Some.count c.receive.new.into) one c.in_ok-arrive.ensures.does,
     )

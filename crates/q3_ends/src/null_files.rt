@@ -6,7 +6,7 @@ use q3_io::{Failed, Files};
 
 /// Every name is that of one file, which takes all bytes, and is empty for whoever reads it.
 #[derive(Drop)]
-pub(crate) struct NullFiles;
+pub struct NullFiles;
 
 impl Files for NullFiles {
     ghost faults = { λ files. 0 };
