@@ -1,3 +1,4 @@
-mod Turning
 mod Parts
+mod Turning
 mod Reaching
+mod Serving

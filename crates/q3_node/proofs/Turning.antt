@@ -16,8 +16,9 @@ use Rattle.q3_io.specs.Told.{Told}
 use Rattle.q3_script.specs.declared.event.Event.{Event}
 use Rattle.q3_node.specs.declared.error.NodeError.{NodeError}
 use Rattle.q3_node.specs.declared.error.NodeError.TheVariants.{NoMemory, WireFault, WriteFault, FileFault, Turns}
-use Rattle.q3_node.specs.Node.{Rules, Node, Turn, Turned, due, start_at, turn_of, turn_at, most_turns, turns_of, arrivals_after, did_end, answer_text, parcels_of, acts_of, want_memory}
+use Rattle.q3_node.specs.Node.{Rules, Node, Turn, Turned, cut_to_room, due, start_at, turn_of, turn_at, most_turns, turns_of, arrivals_after, did_end, answer_text, parcels_of, acts_of, want_memory}
 use Rattle.q3_node.specs.Running.{ToArrive, ToRead, Effects, all_acts, wire_behind, traffic_behind, Leaves, readings_behind, clock_behind, Ran, EndsIn, RanNode, RanBound, StaysFlushed, Finds, TakesTurn}
+use Rattle.q3_node.specs.Laws.{KeepsFiles}
 use Rattle.q3_node.proofs.Parts.{nothing_done}
 
 -- ---- what is still to come, before a turn
@@ -407,3 +408,26 @@ keeps_memory rules none true node at clock now before after ran =
     of_first : (wants : Bool) → (wants || true) ≡ true
     of_first true = refl
     of_first false = refl
+
+-- ---- of an end that does nothing to files
+
+no_turn_acts : {S : Type 0} (rules : Rules S) → ((end : S) (event : Event) (number : ℕ) → (rules.line end event number).acts ≡ []) → ((end : S) (parcel : Parcel) → (rules.arrives end parcel).acts ≡ [])
+    → (node : Node S) (line : Option Event) (found : Option Parcel) → (turn_of rules node line found).turn.acts ≡ []
+no_turn_acts rules none none_arrives node (Some event) found = none node.end event (node.made + 1)
+no_turn_acts rules none none_arrives node None None = refl
+no_turn_acts rules none none_arrives node None (Some parcel) = none_arrives node.end (cut_to_room parcel)
+
+pub keeps_files : {S : Type 0} (rules : Rules S) → ((end : S) (event : Event) (number : ℕ) → (rules.line end event number).acts ≡ []) → ((end : S) (parcel : Parcel) → (rules.arrives end parcel).acts ≡ [])
+    → KeepsFiles rules
+unfolding turns_of
+keeps_files rules none none_arrives zero node readings arrivals = refl
+keeps_files {S} rules none none_arrives (suc count) node readings arrivals =
+    let now : Turned S = turn_at rules node (reading_of readings) (next_of arrivals) in
+    let here : now.turn.acts ≡ [] =
+    no_turn_acts rules none none_arrives (record node { start = Some (start_at node.start (reading_of readings)) })
+    (due node.time (reading_of readings - start_at node.start (reading_of readings)) node.left) (next_of arrivals) in
+    rw here (behind now now.turn.ended)
+  where
+    behind : (now : Turned S) (ended : Bool) → acts_of (if ended then [] else turns_of count rules now.node (readings_after readings) (arrivals_after now.turn arrivals)) ≡ []
+    behind now true = refl
+    behind now false = keeps_files rules none none_arrives count now.node (readings_after readings) (arrivals_after now.turn arrivals)

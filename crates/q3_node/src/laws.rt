@@ -1,6 +1,6 @@
-//! A law of nodes.
+//! Laws of nodes, each the contract of a call that does nothing.
 
-ghost use Rattle.q3_node.specs.Laws.{EndIsDone};
+ghost use Rattle.q3_node.specs.Laws.{EndIsDone, KeepsFiles};
 ghost use Rattle.q3_node.specs.AtServer.{server_rules};
 ghost use Rattle.q3_node.specs.AtClient.{client_rules};
 
@@ -9,4 +9,9 @@ ghost use Rattle.q3_node.specs.AtClient.{client_rules};
 pub fn end_is_done()
     ensures server { EndIsDone server_rules }
     ensures client { EndIsDone client_rules }
+{}
+
+/// A server does nothing to files.
+pub fn server_keeps_files()
+    ensures { KeepsFiles server_rules }
 {}

@@ -46,6 +46,8 @@ pub fn serve_loop<W: Wire, C: Clock, O: Sink>(
     ensures wire_cause { WireCause (W.faults wire.old) (W.faults wire.new) result }
     ensures write_cause { WriteCause (O.faults out.old) (O.faults out.new) result }
     ensures file_cause { (faults : ℕ) → FileCause faults faults result }
+    // No memory is wanted once the address is bound.
+    ensures no_memory { IsErrOf result NodeError.NoMemory → wire.new ≡ wire.old }
 {
     events_are_in_range();
     let mut end = ServerEnd::new(alloc, profile)?;
@@ -79,6 +81,7 @@ pub fn join_loop<F: Files, W: Wire, C: Clock, O: Sink>(
     ensures write_cause { WriteCause (O.faults out.old) (O.faults out.new) result }
     ensures file_cause { FileCause (F.write_faults files.old) (F.write_faults files.new) result }
     ensures reads { F.faults files.new ≡ F.faults files.old }
+    ensures no_memory { IsErrOf result NodeError.NoMemory → W.bound wire.new ≡ false → wire.new ≡ wire.old }
 {
     events_are_in_range();
     let [
@@ -121,6 +124,7 @@ fn run<E: End, F: Files, W: Wire, C: Clock, O: Sink>(
     ensures write_cause { WriteCause (O.faults out.old) (O.faults out.new) result }
     ensures file_cause { FileCause (F.write_faults files.old) (F.write_faults files.new) result }
     ensures reads { F.faults files.new ≡ F.faults files.old }
+    ensures no_memory { IsErrOf result NodeError.NoMemory → W.bound wire.new ≡ false → wire.new ≡ wire.old }
 {
     let mut buffer = vec![in alloc; 0; RECEIVE_ROOM]?;
     bind(at, wire)?;

@@ -6,7 +6,7 @@ use Rattle.q3_io.specs.declared.address.Address.{Address}
 use Rattle.q3_io.specs.Laws.{TextsFollow}
 use Rattle.q3_io.specs.Traffic.{Traffic}
 use Rattle.q3_io.specs.Written.{Written, Wrote}
-use Rattle.q3_node.specs.Node.{Turn, text_of}
+use Rattle.q3_node.specs.Node.{Turn, text_of, answer_text}
 use Rattle.q3net.specs.declared.fault.Fault.{Fault}
 use Rattle.q3net.specs.declared.fault.Fault.TheVariants as faults
 use Rattle.q3net.specs.Command.{Command}
@@ -155,8 +155,8 @@ still_fails (Some at) turns old mid now told wired all nothing fails = (
   fails.4,
   fails.5,
   fails.6,
-  fails.7,
-  record { printed = nothing_more fails.4 mid now (text_of (fails.1 ∷ [])) all fails.8.printed nothing; wire = fails.8.wire },
+  nothing_more fails.4 mid now (answer_text fails.1.answer) all fails.7 nothing,
+  fails.8,
 )
 
 pub prints : (follow : TextsFollow) (command : Option Command) (told : Outside) (before after : ℕ) (old mid now : Option Written) (wired : Option Traffic) (ended : Result (Unit {0}) Fault) (status : ℕ)
@@ -200,7 +200,7 @@ all_wired (Some at) verdict printed told wired by =
       | inl all ↦ all.1
       | inr early ↦ elim early [
         | inl before ↦ absurd before.0
-        | inr stops ↦ absurd (let no : Ok tt ≡ Err faults.Wire = stops.0 in cc)
+        | inr stops ↦ absurd (let no : Ok tt ≡ Err stops.0 = stops.1 in cc)
       ]
     ]
 

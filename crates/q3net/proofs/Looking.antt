@@ -6,7 +6,10 @@ use Rattle.q3_profile.specs.declared.profile.Profile.{Profile}
 use Rattle.q3_io.specs.declared.address.Address.{Address}
 use Rattle.q3_io.specs.Acts.{FileAct, Extends, after_acts}
 use Rattle.q3_io.specs.Told.{Told, Named}
-use Rattle.q3_node.specs.Node.{Turn}
+use Rattle.q3_node.specs.Node.{Turn, most_turns, new_node, turns_of, acts_of}
+use Rattle.q3_node.specs.AtServer.{server_rules}
+use Rattle.q3_node.specs.AtClient.{client_of}
+use Rattle.q3_server.specs.Server.{places, new_server}
 use Rattle.q3net.specs.declared.fault.Fault.{Fault}
 use Rattle.q3net.specs.declared.fault.Fault.TheVariants as faults
 use Rattle.q3net.specs.declared.command.Draws.{Draws}
@@ -17,7 +20,7 @@ use Rattle.q3_demo.specs.Playing as demos
 use Rattle.q3_make.specs.Printed.{script_text}
 use Rattle.q3_make.specs.Generated.{generated}
 use Rattle.q3net.specs.Lines.{help_text, version_text, fault_status, ending_status}
-use Rattle.q3net.specs.Verdict.{Stops, Verdict, Outside, of_files, IsVerdict, stops_nowhere, takes_memory, reads_first, Schedule, settled, replay_done, names_by, tried, noded, served, joined, played, demo_played, profile_in, events_in}
+use Rattle.q3net.specs.Verdict.{Stops, Verdict, Outside, of_files, IsVerdict, stops_nowhere, takes_memory, reads_first, Schedule, settled, replay_done, names_by, tried, noded, client_turns, played, demo_played, profile_in, events_in}
 use Rattle.q3net.specs.Run.{LeavesFiles, HasLeft, Touched}
 use Rattle.q3_bits.specs.ResultBind.{◌>>=◌}
 use Rattle.q3_script.specs.declared.event.Event.{Event}
@@ -114,11 +117,23 @@ unfolding created
 settled_named told now command stops names (Ok text) so first = subst (λ (z : List Named). LeavesFirst told now z []) (sym (append-nil (map looked_up (files_of command)))) (so first)
 settled_named told now command stops names (Err cause) so first = subst (λ (z : List Named). LeavesFirst told now z []) (sym (append-nil (map looked_up (files_of command)))) (so first)
 
-noded_named : (told now : Option Told) (command : Option Command) (names : List (List ℕ)) (at : Address) (answer : Result (List Turn) Fault)
-    → (LooksUpFirst told now names → LooksUpFirst told now (files_of command)) → IsNamed told now command (noded names at answer)
+-- a node's names are those of its command where it has turns
+turns_named : (told now : Option Told) (command : Option Command) (profile script : List ℕ) (at : Address) (answer : Result (List Turn) Fault) → files_of command ≡ profile ∷ script ∷ []
+    → IsNamed told now command (noded (profile ∷ script ∷ []) at answer)
 unfolding created
-noded_named told now command names at (Ok turns) so first = subst (λ (z : List Named). LeavesFirst told now z []) (sym (append-nil (map looked_up (files_of command)))) (so first)
-noded_named told now command names at (Err cause) so first = subst (λ (z : List Named). LeavesFirst told now z []) (sym (append-nil (map looked_up (files_of command)))) (so first)
+turns_named told now command profile script at (Ok turns) is first =
+    subst (λ (names : List (List ℕ)). LeavesFirst told now (map looked_up names ++ created (acts_of turns)) (acts_of turns)) (sym is) first
+turns_named told now command profile script at (Err cause) is first =
+    subst (λ (z : List Named). LeavesFirst told now z []) (sym (append-nil (map looked_up (files_of command))))
+    (subst (λ (names : List (List ℕ)). LooksUpFirst told now names) (sym is) first)
+
+noded_named : (told now : Option Told) (command : Option Command) (profile script : List ℕ) (at : Address) (says : Result Profile Fault) (then : Profile → Result (List Turn) Fault)
+    → files_of command ≡ profile ∷ script ∷ [] → IsNamed told now command (noded (names_by says profile script) at (says >>= then))
+unfolding created
+noded_named told now command profile script at (Ok by) then is first = turns_named told now command profile script at (then by) is first
+noded_named told now command profile script at (Err cause) then is first =
+    subst (λ (z : List Named). LeavesFirst told now z []) (sym (append-nil (map looked_up (files_of command))))
+    (subst (λ (names : List (List ℕ)). LooksUpFirst told now names) (sym is) (names_more (Err cause) profile script told now first))
 
 demo_named : (told now : Option Told) (command : Option Command) (names : List (List ℕ)) (answer : Result demos.Play Fault)
     → (LooksUpFirst told now names → LooksUpFirst told now (files_of command)) → IsNamed told now command (demo_played names answer)
@@ -155,13 +170,13 @@ verdict_named told now (Some (Trial profile draws)) verdict is =
     subst (IsNamed told.files now (Some (Trial profile draws))) (sym is.2)
     (settled_named told.files now (Some (Trial profile draws)) reads_first (profile ∷ []) (tried is.0 draws) (λ first. first))
 verdict_named told now (Some (Serve profile script at)) verdict is =
-    let names = names_by (profile_in is.0) profile script in
     subst (IsNamed told.files now (Some (Serve profile script at))) (sym is.8)
-    (noded_named told.files now (Some (Serve profile script at)) names at (served is.0 is.1 is.4 is.6) (names_more (profile_in is.0) profile script told.files now))
+    (noded_named told.files now (Some (Serve profile script at)) profile script at (profile_in is.0)
+    (λ by. events_in kinds.Serve is.1 >>= (λ events. Ok (turns_of most_turns server_rules (new_node (new_server by places) events) is.4 is.6))) refl)
 verdict_named told now (Some (Join profile script at server)) verdict is =
-    let names = names_by (profile_in is.0) profile script in
     subst (IsNamed told.files now (Some (Join profile script at server))) (sym is.8)
-    (noded_named told.files now (Some (Join profile script at server)) names at (joined server is.0 is.1 is.4 is.6) (names_more (profile_in is.0) profile script told.files now))
+    (noded_named told.files now (Some (Join profile script at server)) profile script at (profile_in is.0)
+    (λ by. events_in kinds.Join is.1 >>= (λ events. Ok (client_turns (client_of by server events) events is.4 is.6))) refl)
 verdict_named told now (Some (Play profile demo)) verdict is =
     let names = names_by (profile_in is.0) profile demo in
     subst (IsNamed told.files now (Some (Play profile demo))) (sym is.4)

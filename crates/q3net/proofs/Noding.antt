@@ -1,13 +1,19 @@
 -- How a node ends: a server, or a client, over a wire.
-use Rattle.std.proofs.Common.{◌≡◌, ℕ, Bool, true, false, List, [], ◌∷◌, ◌++◌, Option, Some, None, Result, Ok, Err, refl, sym, ap, subst, ◌∙◌, append_assoc, inl, inr, arith}
-use Rattle.std.specs.List.{flat_map}
+use Rattle.std.proofs.Common.{◌≡◌, ℕ, Bool, true, false, List, [], ◌∷◌, ◌++◌, Option, Some, None, Result, Ok, Err, refl, sym, ap, subst, ◌∙◌, append_assoc, inl, inr, arith, ◌≢◌, ◌||◌, map, ap₂, cond, drop}
+use Rattle.std.specs.List.{flat_map, count_by}
+use Rattle.std.specs.Option.{option_to_list}
 use Rattle.std.proofs.lemmas.Grind.{flat_map-append}
+use Rattle.std.proofs.lemmas.List.{append-nil, drop-drop}
+use Rattle.std.proofs.lemmas.List.Folds.{list_any-append}
+use Rattle.std.proofs.lemmas.List.Sums.{sum_by-append}
 use Rattle.q3_bits.specs.ResultBind.{◌>>=◌}
 use Rattle.q3_io.specs.declared.address.Address.{Address}
 use Rattle.q3_io.specs.Laws.{TextsFollow}
-use Rattle.q3_io.specs.Told.{Told}
+use Rattle.q3_io.specs.Told.{Told, Named}
 use Rattle.q3_io.specs.Traffic.{Parcel, Traffic}
-use Rattle.q3_io.specs.Written.{Written}
+use Rattle.q3_io.specs.Written.{Written, Wrote}
+use Rattle.q3_io.specs.Acts.{FileAct, ActsOn}
+use Rattle.q3_io.specs.declared.sink.Failed.{Failed}
 use Rattle.q3_profile.specs.declared.profile.Profile.{Profile}
 use Rattle.q3_script.specs.declared.event.Event.{Event}
 use Rattle.q3_script.specs.declared.event.Event.TheVariants as events
@@ -17,20 +23,21 @@ use Rattle.q3_script.specs.Grammar.{IsOneClient}
 use Rattle.q3_server.specs.Server.{places, new_server}
 use Rattle.q3_node.specs.declared.error.NodeError.{NodeError}
 use Rattle.q3_node.specs.declared.error.NodeError.TheVariants as node
-use Rattle.q3_node.specs.Node.{Turn, Node, Rules, most_turns, new_node, turns_of, did_end, answer_text, text_of}
+use Rattle.q3_node.specs.Node.{Turn, Node, Rules, most_turns, new_node, turns_of, did_end, answer_text, text_of, parcels_of, acts_of, want_memory}
 use Rattle.q3_node.specs.AtServer.{server_rules}
 use Rattle.q3_node.specs.AtClient.{ClientEnd, client_of, client_rules}
-use Rattle.q3_node.specs.Running.{ToArrive, ToRead, at_bound, WireFails, Ran, RanBound, StaysFlushed, WireCause as NodeWireCause, WriteCause as NodeWriteCause}
+use Rattle.q3_node.specs.Running.{ToArrive, ToRead, Effects, effects, all_acts, failed_act, at_bound, traffic_behind, wire_behind, Leaves, Ran, RanBound, StaysFlushed, WireCause as NodeWireCause, WriteCause as NodeWriteCause, FileCause as NodeFileCause}
 use Rattle.q3net.specs.declared.fault.Fault.{Fault}
 use Rattle.q3net.specs.declared.fault.Fault.TheVariants as faults
 use Rattle.q3net.specs.Command.{Command, Serve, Join}
-use Rattle.q3net.specs.Faults.{Gets, IsOutside, node_fault, ReadCause, WriteCause, WireCause}
-use Rattle.q3net.specs.Input.{IsFront, Holds, looked_up, Touches, Gives}
-use Rattle.q3net.specs.Verdict.{Verdict, Outside, IsVerdict, names_by, profile_in, events_in, ending_of, noded, served, client_turns, joined, GetsFrom}
+use Rattle.q3net.specs.Faults.{Gets, IsOutside, node_fault, ReadCause, WriteCause, FileCause, WireCause}
+use Rattle.q3net.specs.Input.{IsFront, Holds, looked_up, created, LeavesTold, LeavesFirst, LooksUpTold, LooksUpFirst, Touches, Gives}
+use Rattle.q3net.specs.Verdict.{Verdict, Outside, IsVerdict, memory_by, names_by, profile_in, events_in, ending_of, noded, served, client_turns, joined, GetsFrom}
 use Rattle.q3net.specs.Run.{ComesBehind, place_of, StopsIn, ExecutesWired, LeavesFiles, MayBind}
 use Rattle.q3net.proofs.Loading.{held}
-use Rattle.q3net.proofs.Looking.{got_ok, gave, leaves_then, first_then, profile_names}
-use Rattle.q3net.proofs.Replaying.{same_held}
+use Rattle.q3net.proofs.Acting.{none_on, both_on, first_more, all_left, first_left}
+use Rattle.q3net.proofs.Looking.{got_ok, gave, gave_first, came_outside, profile_names}
+use Rattle.q3net.proofs.Replaying.{same_held, script_names, writes_some}
 use Rattle.q3net.proofs.Outside.{profile_of_input, events_of_input}
 use Rattle.q3net.proofs.Refusing.{OfInput}
 
@@ -126,8 +133,12 @@ comes_before command told names at (Ok turns) fault outside comes follow old is 
 comes_before command told names at (Err e) fault outside comes follow old is =
     (noded names at (Err e), is, inl ([], inr (fault, refl, comes), refl, follow.none, tt))
 
+memory_comes : (wants : Bool) (text : List ℕ) → ComesBehind (memory_by wants) [] text
+memory_comes true text = (text, refl)
+memory_comes false text = refl
+
 noded_memory : (names : List (List ℕ)) (at : Address) (answer : Result (List Turn) Fault) → ComesBehind (place_of (noded names at answer).stops faults.NoMemory) [] (noded names at answer).text
-noded_memory names at (Ok turns) = refl
+noded_memory names at (Ok turns) = memory_comes (want_memory turns) (text_of turns)
 noded_memory names at (Err e) = ([], refl)
 
 noded_reads : (names : List (List ℕ)) (at : Address) (answer : Result (List Turn) Fault) → ComesBehind (place_of (noded names at answer).stops faults.Read) [] (noded names at answer).text
@@ -154,23 +165,18 @@ part_executes follow command told old names at answer said e is so gets =
       ]
     ]
 
-noded_touches : {A : Type 0} (ended : Result A Fault) (names : List (List ℕ)) (at : Address) (answer : Result (List Turn) Fault) (told now : Option Told) → Gives ended names told now
-    → Touches ended (noded names at answer).named (noded names at answer).acts told now
-noded_touches ended names at (Ok turns) told now gives = gives
-noded_touches ended names at (Err cause) told now gives = gives
-
--- what is left of the files, by the file that holds the profile
-node_given : (told : Outside) (command : Option Command) (kind : ScriptKind) (profile script : List ℕ) (at : Address) (turns : TurnsBy) (now : Option Told) (file : Option (List ℕ)) (ended : Result (Unit {0}) Fault)
-    → IsNodes told command kind profile script at turns → Holds told.files profile file → Gives ended (names_by (profile_in file) profile script) told.files now → LeavesFiles command told now ended
-node_given told command kind profile script at turns now file ended nodes holds gives =
-    let other = held told.files script in
-    let readings = some_read told.clock in
-    let arrivals = some_arrive told.wire in
-    let names = names_by (profile_in file) profile script in (
-      noded names at (turns file other.0 readings.0 arrivals.0),
-      nodes.verdict file other.0 holds other.1 readings.0 readings.1 arrivals.0 arrivals.1,
-      noded_touches ended names at (turns file other.0 readings.0 arrivals.0) told.files now gives,
-    )
+-- what is left of the files before its turns, by its input or by what comes from outside
+part_given : {A : Type 0} (said : Result A Fault) (e : Fault) (names : List (List ℕ)) (at : Address) (answer : Result (List Turn) Fault) (told now : Option Told) → Gets said (Err e) → (said ≡ Err e → answer ≡ Err e)
+    → Gives {A = Unit {0}} (Err e) names told now → Touches {A = Unit {0}} (Err e) (noded names at answer).named (noded names at answer).acts told now
+part_given {A} said e names at answer told now gets so gives =
+    elim gets [
+      | inl by_input ↦ subst (λ (a : Result (List Turn) Fault). Touches {A = Unit {0}} (Err e) (noded names at a).named (noded names at a).acts told now) (sym (so (sym by_input))) gives
+      | inr outside ↦ inr (came_outside {A = A} e (Err e) refl outside, early_given names answer (gave_first {A = Unit {0}} (Err e) names told now gives))
+    ]
+  where
+    early_given : (names : List (List ℕ)) (answer : Result (List Turn) Fault) → LooksUpFirst told now names → LeavesFirst told now (noded names at answer).named (noded names at answer).acts
+    early_given names (Ok turns) first = first_more told now (map looked_up names) (created (acts_of turns)) [] (acts_of turns) first
+    early_given names (Err cause) first = first
 
 -- ---- without a profile
 
@@ -186,7 +192,16 @@ no_profile_executes follow told command kind profile script at turns old e nodes
 pub no_profile_given : (told : Outside) (command : Option Command) (kind : ScriptKind) (profile script : List ℕ) (at : Address) (turns : TurnsBy) (now : Option Told) (e : Fault)
     → IsNodes told command kind profile script at turns → GetsFrom profile_in told.files profile (Err e) → Gives {A = Profile} (Err e) (profile ∷ []) told.files now → LeavesFiles command told now (Err e)
 no_profile_given told command kind profile script at turns now e nodes gets gives =
-    node_given told command kind profile script at turns now gets.0 (Err e) nodes gets.1 (profile_names gets.0 e profile script told.files now gets.2 gives)
+    let s = held told.files script in
+    let readings = some_read told.clock in
+    let arrivals = some_arrive told.wire in
+    let names = names_by (profile_in gets.0) profile script in
+    let answer = turns gets.0 s.0 readings.0 arrivals.0 in (
+      noded names at answer,
+      nodes.verdict gets.0 s.0 gets.1 s.1 readings.0 readings.1 arrivals.0 arrivals.1,
+      part_given (profile_in gets.0) e names at answer told.files now gets.2 (nodes.no_profile gets.0 s.0 readings.0 arrivals.0 e)
+          (profile_names gets.0 e profile script told.files now gets.2 gives),
+    )
 
 -- ---- without a script
 
@@ -201,29 +216,25 @@ no_script_executes follow told command kind profile script at turns mid by old e
     (nodes.verdict passes.0 gets.0 passes.1 of_script readings.0 readings.1 arrivals.0 arrivals.1)
     (nodes.no_events passes.0 gets.0 readings.0 arrivals.0 by e (got_ok (profile_in passes.0) by passes.2)) gets.2
 
-passed_given : (told : Outside) (command : Option Command) (kind : ScriptKind) (profile script : List ℕ) (at : Address) (turns : TurnsBy) (now : Option Told) (by : Profile) (ended : Result (Unit {0}) Fault)
-    → IsNodes told command kind profile script at turns → GetsFrom profile_in told.files profile (Ok by) → Gives ended (profile ∷ script ∷ []) told.files now → LeavesFiles command told now ended
-passed_given told command kind profile script at turns now by ended nodes passes gives =
-    node_given told command kind profile script at turns now passes.0 ended nodes passes.1
-    (subst (λ (says : Result Profile Fault). Gives ended (names_by says profile script) told.files now) (sym (got_ok (profile_in passes.0) by passes.2)) gives)
-
 pub no_script_given : (told : Outside) (command : Option Command) (kind : ScriptKind) (profile script : List ℕ) (at : Address) (turns : TurnsBy) (mid now : Option Told) (by : Profile) (e : Fault)
-    → IsNodes told command kind profile script at turns → GetsFrom profile_in told.files profile (Ok by) → Gives (Ok by) (profile ∷ []) told.files mid → Gives {A = Unit {0}} (Err e) (script ∷ []) mid now
-    → LeavesFiles command told now (Err e)
-no_script_given told command kind profile script at turns mid now by e nodes passes first second =
-    passed_given told command kind profile script at turns now by (Err e) nodes passes (elim second [
-      | inl all ↦ inl (leaves_then told.files mid now (looked_up profile) (looked_up script ∷ []) (gave by (profile ∷ []) told.files mid first) all)
-      | inr early ↦ inr (early.0, first_then told.files mid now (looked_up profile) (looked_up script ∷ []) (gave by (profile ∷ []) told.files mid first) early.1)
-    ])
+    → IsNodes told command kind profile script at turns → GetsFrom profile_in told.files profile (Ok by) → Gives (Ok by) (profile ∷ []) told.files mid → GetsFrom (events_in kind) mid script (Err e)
+    → Gives {A = Unit {0}} (Err e) (script ∷ []) mid now → LeavesFiles command told now (Err e)
+no_script_given told command kind profile script at turns mid now by e nodes passes first gets second =
+    let looked = gave by (profile ∷ []) told.files mid first in
+    let of_script = same_held told.files mid (profile ∷ []) script gets.0 looked gets.1 in
+    let is = got_ok (profile_in passes.0) by passes.2 in
+    let readings = some_read told.clock in
+    let arrivals = some_arrive told.wire in
+    let names = names_by (profile_in passes.0) profile script in
+    let answer = turns passes.0 gets.0 readings.0 arrivals.0 in
+    let given = subst (λ (says : Result Profile Fault). Gives {A = Unit {0}} (Err e) (names_by says profile script) told.files now) (sym is)
+    (script_names told.files mid now profile script by e looked second) in (
+      noded names at answer,
+      nodes.verdict passes.0 gets.0 passes.1 of_script readings.0 readings.1 arrivals.0 arrivals.1,
+      part_given (events_in kind gets.0) e names at answer told.files now gets.2 (nodes.no_events passes.0 gets.0 readings.0 arrivals.0 by e is) given,
+    )
 
 -- ---- with both
-
-pub both_given : {B : Type 0} (told : Outside) (command : Option Command) (kind : ScriptKind) (profile script : List ℕ) (at : Address) (turns : TurnsBy) (mid now : Option Told) (by : Profile) (events : B) (ended : Result (Unit {0}) Fault)
-    → IsNodes told command kind profile script at turns → GetsFrom profile_in told.files profile (Ok by) → Gives (Ok by) (profile ∷ []) told.files mid → Gives (Ok events) (script ∷ []) mid now
-    → LeavesFiles command told now ended
-both_given told command kind profile script at turns mid now by events ended nodes passes first second =
-    passed_given told command kind profile script at turns now by ended nodes passes
-    (inl (leaves_then told.files mid now (looked_up profile) (looked_up script ∷ []) (gave by (profile ∷ []) told.files mid first) (gave events (script ∷ []) mid now second)))
 
 -- both were read: by what is to come, the verdict is that of these turns
 pub record Passed (told : Outside) (command : Option Command) (profile script : List ℕ) (at : Address) (turns : List ℕ → List (Option Parcel) → List Turn) : Type 0 where
@@ -284,68 +295,261 @@ text_last turns first rest last is =
     ∙ flat_map-append (λ (turn : Turn). answer_text turn.answer) (first ++ (last ∷ [])) rest
     ∙ ap (λ (text : List ℕ). text ++ text_of rest) (flat_map-append (λ (turn : Turn). answer_text turn.answer) first (last ∷ []))
 
--- the wire failed
-stops_in : (turns : List Turn) (now clock : Option (List ℕ)) (old mid : Option Written) (were are : Option Traffic) → (ran : WireFails turns clock now old mid were are) → StopsIn turns were are (text_of ran.first)
-stops_in turns now clock old mid were are ran =
-    record { first = ran.first; last = ran.last; rest = ran.rest; whole = ran.whole; uses = ran.uses; printed = refl; wire = ran.leaves.wire }
+-- the wire behind turns, and then others
+behind_both : (traffic : Traffic) (turns more : List Turn) → traffic_behind (traffic_behind traffic turns) more ≡ traffic_behind traffic (turns ++ more)
+behind_both traffic turns more =
+    ap₂ (λ (arrivals : List (Option Parcel)) (sent : List Parcel). record traffic { arrivals = arrivals; sent = sent })
+    (drop-drop (count_by (λ (t : Turn). t.received) more) (count_by (λ (t : Turn). t.received) turns) traffic.arrivals
+    ∙ ap (λ (n : ℕ). drop n traffic.arrivals) (sym (sum_by-append (λ (t : Turn). cond t.received 1 0) turns more)))
+    (append_assoc traffic.sent (parcels_of turns) (parcels_of more) ∙ ap (λ (sent : List Parcel). traffic.sent ++ sent) (sym (flat_map-append (λ (t : Turn). option_to_list t.sends) turns more)))
+
+wire_both : (told : Option Traffic) (turns more : List Turn) → wire_behind (wire_behind told turns) more ≡ wire_behind told (turns ++ more)
+wire_both None turns more = refl
+wire_both (Some traffic) turns more = ap Some (behind_both traffic turns more)
+
+-- one of them wants memory, or does something to files
+last_wants : (turns first rest : List Turn) (last : Turn) → turns ≡ first ++ last ∷ rest → last.memory ≡ true → want_memory turns ≡ true
+last_wants turns first rest last is wants =
+    ap want_memory is ∙ (list_any-append (λ (turn : Turn). turn.memory) first (last ∷ rest) ∙ rw wants (of_first (want_memory first)))
+  where
+    of_first : (first : Bool) → (first || true) ≡ true
+    of_first true = refl
+    of_first false = refl
+
+acts_whole : (turns first rest : List Turn) (last : Turn) → turns ≡ first ++ last ∷ rest → acts_of turns ≡ acts_of first ++ (last.acts ++ acts_of rest)
+acts_whole turns first rest last is = ap acts_of is ∙ flat_map-append (λ (turn : Turn). turn.acts) first (last ∷ rest)
+
+none_last : (first acts rest : List FileAct) → first ++ (acts ++ rest) ≡ [] → acts ≡ []
+none_last [] [] rest none = refl
+none_last [] (act ∷ acts) rest none = absurd cc
+none_last (act ∷ first) acts rest none = absurd cc
+
+last_acts : (turns first rest : List Turn) (last : Turn) → turns ≡ first ++ last ∷ rest → last.acts ≢ [] → acts_of turns ≢ []
+last_acts turns first rest last is some none = some (none_last (acts_of first) last.acts (acts_of rest) (sym (acts_whole turns first rest last is) ∙ none))
+
+-- want of memory comes where a turn wants some
+memory_behind : (wants : Bool) (printed text : List ℕ) → wants ≡ true → IsFront printed text → ComesBehind (memory_by wants) printed text
+memory_behind true printed text is front = front
+memory_behind false printed text is front = absurd cc
+
+-- the text of the turns that passed
+printed_first : (first : List Turn) (before mid : Effects) (after : Option Written) → Leaves first true before mid → after ≡ mid.written → Wrote before.written after (text_of first) true
+printed_first first before mid after passed same = rw same passed.printed
 
 -- a node's loop ended early
-ran_failed : (follow : TextsFollow) (told : Outside) (command : Option Command) (profile script : List ℕ) (at : Address) (turns : List Turn) (clock : Option (List ℕ)) (old now : Option Written) (are : Option Traffic) (e : NodeError)
-    → IsVerdict told command (of_turns profile script at turns) → Ran turns told.clock clock old now (at_bound told.wire at) are (Err e) → StaysFlushed {T = Unit {0}} old now (Err e)
-    → ExecutesWired command told old now are (Err (node_fault e))
-ran_failed follow told command profile script at turns clock old now are node.NoMemory is ran flushed = absurd ran
-ran_failed follow told command profile script at turns clock old now are node.WireFault is ran flushed =
-    let front = text_front turns ran.first (ran.last ∷ ran.rest) ran.whole in (
+ran_failed : (follow : TextsFollow) (told : Outside) (command : Option Command) (profile script : List ℕ) (at : Address) (turns : List Turn) (clock : Option (List ℕ)) (before after : Effects) (e : NodeError)
+    → IsVerdict told command (of_turns profile script at turns) → before.wire ≡ at_bound told.wire at → Ran turns told.clock clock before after (Err e) → StaysFlushed {T = Unit {0}} before.written after.written (Err e)
+    → ExecutesWired command told before.written after.written after.wire (Err (node_fault e))
+ran_failed follow told command profile script at turns clock before after node.NoMemory is bound ran flushed =
+    let front = text_front turns ran.first (ran.last ∷ ran.rest) ran.whole in
+    let stays : after ≡ ran.mid = ran.stops.1 in (
       of_turns profile script at turns,
       is,
-      inl (text_of ran.first, inr (faults.Wire, refl, front), inr (inr (refl, stops_in turns clock told.clock old now (at_bound told.wire at) are ran)), ran.leaves.printed, flushed),
+      inl (
+        text_of ran.first,
+        inr (faults.NoMemory, refl, memory_behind (want_memory turns) (text_of ran.first) (text_of turns) (last_wants turns ran.first ran.rest ran.last ran.whole ran.stops.0) front),
+        inr (inr (faults.NoMemory, refl, record {
+          first = ran.first;
+          last = ran.last;
+          rest = ran.rest;
+          whole = ran.whole;
+          stops = ran.stops.0;
+          printed = refl;
+          wire = ap (λ (x : Effects). x.wire) stays ∙ (ran.passed.wire ∙ ap (λ (w : Option Traffic). wire_behind w ran.first) bound);
+        })),
+        printed_first ran.first before ran.mid after.written ran.passed (ap (λ (x : Effects). x.written) stays),
+        flushed,
+      ),
     )
-ran_failed follow told command profile script at turns clock old now are node.WriteFault is ran flushed =
+ran_failed follow told command profile script at turns clock before after node.WireFault is bound ran flushed =
+    let front = text_front turns ran.first (ran.last ∷ ran.rest) ran.whole in
+    let stays : after ≡ ran.mid = ran.stops.1 in (
+      of_turns profile script at turns,
+      is,
+      inl (
+        text_of ran.first,
+        inr (faults.Wire, refl, front),
+        inr (inr (faults.Wire, refl, record {
+          first = ran.first;
+          last = ran.last;
+          rest = ran.rest;
+          whole = ran.whole;
+          stops = ran.stops.0;
+          printed = refl;
+          wire = ap (λ (x : Effects). x.wire) stays ∙ (ran.passed.wire ∙ ap (λ (w : Option Traffic). wire_behind w ran.first) bound);
+        })),
+        printed_first ran.first before ran.mid after.written ran.passed (ap (λ (x : Effects). x.written) stays),
+        flushed,
+      ),
+    )
+ran_failed follow told command profile script at turns clock before after node.WriteFault is bound ran flushed =
     let all = text_last turns ran.first ran.rest ran.last ran.whole in (
       of_turns profile script at turns,
       is,
       inr (
         refl,
-        follow.early (text_of ran.rest) (follow.more ran.passed.printed ran.fails.printed refl) all,
-        (ran.first, ran.last, ran.rest, ran.whole, ran.mid, ran.mids, ran.flushed, ran.passed, ran.fails),
+        follow.early (text_of ran.rest) (follow.more ran.passed.printed ran.stops.printed refl) all,
+        (
+          ran.first,
+          ran.last,
+          ran.rest,
+          ran.whole,
+          ran.mid.written,
+          ran.flushed,
+          ran.passed.printed,
+          subst (λ (text : List ℕ). Wrote ran.mid.written after.written text false) (append-nil (answer_text ran.last.answer)) ran.stops.printed,
+          ran.stops.wire
+              ∙ (ap (λ (w : Option Traffic). wire_behind w (ran.last ∷ [])) (ran.passed.wire ∙ ap (λ (w : Option Traffic). wire_behind w ran.first) bound)
+              ∙ wire_both (at_bound told.wire at) ran.first (ran.last ∷ [])),
+        ),
       ),
     )
-ran_failed follow told command profile script at turns clock old now are node.Turns is ran flushed =
-    let ends = sym (ending_so turns false ran.0) in
-    (of_turns profile script at turns, is, inl (text_of turns, inl (ends, refl), inl (ends, ran.1.leaves.wire), ran.1.leaves.printed, flushed))
+ran_failed follow told command profile script at turns clock before after node.FileFault is bound ran flushed =
+    let front = text_front turns ran.first (ran.last ∷ ran.rest) ran.whole in (
+      of_turns profile script at turns,
+      is,
+      inl (
+        text_of ran.first,
+        inr (faults.FileWrite, refl, writes_some (acts_of turns) (text_of ran.first) (text_of turns) (last_acts turns ran.first ran.rest ran.last ran.whole ran.stops.0) front),
+        inr (inr (faults.FileWrite, refl, record {
+          first = ran.first;
+          last = ran.last;
+          rest = ran.rest;
+          whole = ran.whole;
+          stops = ran.stops.0;
+          printed = refl;
+          wire = ran.stops.2 ∙ ap (λ (w : Option Traffic). wire_behind w (ran.last ∷ [])) (ran.passed.wire ∙ ap (λ (w : Option Traffic). wire_behind w ran.first) bound);
+        })),
+        printed_first ran.first before ran.mid after.written ran.passed ran.stops.1,
+        flushed,
+      ),
+    )
+ran_failed follow told command profile script at turns clock before after node.Turns is bound ran flushed =
+    let ends = sym (ending_so turns false ran.0) in (
+      of_turns profile script at turns,
+      is,
+      inl (text_of turns, inl (ends, refl), inl (ends, ran.1.leaves.wire ∙ ap (λ (w : Option Traffic). wire_behind w turns) bound), ran.1.leaves.printed, flushed),
+    )
 
 pub loop_failed : {S : Type 0} (follow : TextsFollow) (told : Outside) (command : Option Command) (profile script : List ℕ) (at : Address) (rules : Rules S) (first : Node S) (bound : Bool)
-    (clock : Option (List ℕ)) (old now : Option Written) (are : Option Traffic) (e : NodeError) → Passed told command profile script at (turns_of most_turns rules first)
-    → RanBound bound rules first at told.clock clock old now told.wire are (Err e) → StaysFlushed {T = Unit {0}} old now (Err e)
-    → ExecutesWired command told old now are (Err (node_fault e))
-loop_failed follow told command profile script at rules first true clock old now are e passed ran flushed =
-    ran_failed follow told command profile script at (turns_of most_turns rules first ran.0 ran.2) clock old now are e (passed.is ran.0 ran.1 ran.2 (arrive_bound told.wire at ran.2 ran.3)) ran.4 flushed
-loop_failed follow told command profile script at rules first false clock old now are node.NoMemory passed ran flushed =
+    (clock : Option (List ℕ)) (old : Option Written) (looked : Option Told) (after : Effects) (e : NodeError) → Passed told command profile script at (turns_of most_turns rules first)
+    → RanBound bound rules first at told.clock clock (effects old told.wire looked) after (Err e) → StaysFlushed {T = Unit {0}} old after.written (Err e)
+    → ExecutesWired command told old after.written after.wire (Err (node_fault e))
+loop_failed follow told command profile script at rules first true clock old looked after e passed ran flushed =
+    ran_failed follow told command profile script at (turns_of most_turns rules first ran.0 ran.2) clock (effects old (at_bound told.wire at) looked) after e
+    (passed.is ran.0 ran.1 ran.2 (arrive_bound told.wire at ran.2 ran.3)) refl ran.4 flushed
+loop_failed follow told command profile script at rules first false clock old looked after node.NoMemory passed ran flushed =
     let readings = some_read told.clock in
     let arrivals = some_arrive told.wire in
     let turns = turns_of most_turns rules first readings.0 arrivals.0 in
-    rw (ran.2, ran.3) (comes_before command told (profile ∷ script ∷ []) at (Ok turns) faults.NoMemory tt refl follow old (passed.is readings.0 readings.1 arrivals.0 arrivals.1))
-loop_failed follow told command profile script at rules first false clock old now are node.WireFault passed ran flushed =
+    rw ran.2 (comes_before command told (profile ∷ script ∷ []) at (Ok turns) faults.NoMemory tt (memory_comes (want_memory turns) (text_of turns)) follow old (passed.is readings.0 readings.1 arrivals.0 arrivals.1))
+loop_failed follow told command profile script at rules first false clock old looked after node.WireFault passed ran flushed =
     let readings = some_read told.clock in
     let arrivals = some_arrive told.wire in
     let turns = turns_of most_turns rules first readings.0 arrivals.0 in
-    rw (ran.2, ran.3) (comes_before command told (profile ∷ script ∷ []) at (Ok turns) faults.Wire tt (text_of turns, refl) follow old (passed.is readings.0 readings.1 arrivals.0 arrivals.1))
-loop_failed follow told command profile script at rules first false clock old now are node.WriteFault passed ran flushed = absurd ran.0
-loop_failed follow told command profile script at rules first false clock old now are node.Turns passed ran flushed = absurd ran.0
+    rw ran.2 (comes_before command told (profile ∷ script ∷ []) at (Ok turns) faults.Wire tt (text_of turns, refl) follow old (passed.is readings.0 readings.1 arrivals.0 arrivals.1))
+loop_failed follow told command profile script at rules first false clock old looked after node.WriteFault passed ran flushed = absurd ran.0
+loop_failed follow told command profile script at rules first false clock old looked after node.FileFault passed ran flushed = absurd ran.0
+loop_failed follow told command profile script at rules first false clock old looked after node.Turns passed ran flushed = absurd ran.0
 
 -- or with `end`
 pub loop_done : {S : Type 0} (told : Outside) (command : Option Command) (profile script : List ℕ) (at : Address) (rules : Rules S) (first : Node S) (bound : Bool)
-    (clock : Option (List ℕ)) (old now : Option Written) (are : Option Traffic) → Passed told command profile script at (turns_of most_turns rules first)
-    → RanBound bound rules first at told.clock clock old now told.wire are (Ok tt) → StaysFlushed {T = Unit {0}} old now (Ok tt)
-    → ExecutesWired command told old now are (Ok tt)
-loop_done told command profile script at rules first true clock old now are passed ran flushed =
+    (clock : Option (List ℕ)) (old : Option Written) (looked : Option Told) (after : Effects) → Passed told command profile script at (turns_of most_turns rules first)
+    → RanBound bound rules first at told.clock clock (effects old told.wire looked) after (Ok tt) → StaysFlushed {T = Unit {0}} old after.written (Ok tt)
+    → ExecutesWired command told old after.written after.wire (Ok tt)
+loop_done told command profile script at rules first true clock old looked after passed ran flushed =
     let turns = turns_of most_turns rules first ran.0 ran.2 in
     let ends = sym (ending_so turns true ran.4.0) in (
       of_turns profile script at turns,
       passed.is ran.0 ran.1 ran.2 (arrive_bound told.wire at ran.2 ran.3),
       inl (text_of turns, inl (ends, refl), inl (ends, ran.4.1.leaves.wire), ran.4.1.leaves.printed, flushed),
     )
-loop_done told command profile script at rules first false clock old now are passed ran flushed = absurd ran.0
+loop_done told command profile script at rules first false clock old looked after passed ran flushed = absurd ran.0
+
+-- ---- what it leaves of the files
+
+-- what the first of these turns did, or a part of the one behind them
+turns_left : (told looked now : Option Told) (names : List Named) (turns : List Turn) (done rest : List FileAct) (result : Result (Unit {0}) Failed) → LeavesTold told looked names []
+    → ActsOn looked now done result → acts_of turns ≡ done ++ rest → LeavesFirst told now (names ++ created (acts_of turns)) (acts_of turns)
+turns_left told looked now names turns done rest result before acts whole = first_left told looked now names (acts_of turns) done rest result before acts whole
+
+ran_left : (told looked : Option Told) (names : List Named) (turns : List Turn) (clock now : Option (List ℕ)) (before after : Effects) (e : NodeError) → LeavesTold told looked names [] → before.files ≡ looked
+    → Ran turns clock now before after (Err e) → Touches {A = Unit {0}} (Err (node_fault e)) (names ++ created (acts_of turns)) (acts_of turns) told after.files
+ran_left told looked names turns clock now before after node.NoMemory left same ran =
+    let files : ActsOn looked after.files (acts_of ran.first) all_acts =
+    subst (λ (x : Effects). ActsOn looked x.files (acts_of ran.first) all_acts) (sym ran.stops.1) (subst (λ (f : Option Told). ActsOn f ran.mid.files (acts_of ran.first) all_acts) same ran.passed.files) in
+    inr (tt, turns_left told looked after.files names turns (acts_of ran.first) (ran.last.acts ++ acts_of ran.rest) all_acts left files (acts_whole turns ran.first ran.rest ran.last ran.whole))
+ran_left told looked names turns clock now before after node.WireFault left same ran =
+    let files : ActsOn looked after.files (acts_of ran.first) all_acts =
+    subst (λ (x : Effects). ActsOn looked x.files (acts_of ran.first) all_acts) (sym ran.stops.1) (subst (λ (f : Option Told). ActsOn f ran.mid.files (acts_of ran.first) all_acts) same ran.passed.files) in
+    inr (tt, turns_left told looked after.files names turns (acts_of ran.first) (ran.last.acts ++ acts_of ran.rest) all_acts left files (acts_whole turns ran.first ran.rest ran.last ran.whole))
+ran_left told looked names turns clock now before after node.WriteFault left same ran =
+    let first = subst (λ (f : Option Told). ActsOn f ran.mid.files (acts_of ran.first) all_acts) same ran.passed.files in
+    let last = subst (λ (acts : List FileAct). ActsOn ran.mid.files after.files acts all_acts) (append-nil ran.last.acts) ran.stops.files in
+    let both = both_on looked ran.mid.files after.files (acts_of ran.first) ran.last.acts all_acts first last in
+    inr (tt, turns_left told looked after.files names turns (acts_of ran.first ++ ran.last.acts) (acts_of ran.rest) all_acts left both (acts_whole turns ran.first ran.rest ran.last ran.whole ∙ sym (append_assoc (acts_of ran.first) ran.last.acts (acts_of ran.rest))))
+ran_left told looked names turns clock now before after node.FileFault left same ran =
+    let first = subst (λ (f : Option Told). ActsOn f ran.mid.files (acts_of ran.first) all_acts) same ran.passed.files in
+    let both = both_on looked ran.mid.files after.files (acts_of ran.first) ran.last.acts failed_act first ran.stops.3 in
+    inr (tt, turns_left told looked after.files names turns (acts_of ran.first ++ ran.last.acts) (acts_of ran.rest) failed_act left both (acts_whole turns ran.first ran.rest ran.last ran.whole ∙ sym (append_assoc (acts_of ran.first) ran.last.acts (acts_of ran.rest))))
+ran_left told looked names turns clock now before after node.Turns left same ran =
+    inl (all_left told looked after.files names (acts_of turns) left (subst (λ (f : Option Told). ActsOn f after.files (acts_of turns) all_acts) same ran.1.leaves.files))
+
+-- both names were looked up, and then the node ran, or not
+pub loop_left : {S : Type 0} (told : Outside) (command : Option Command) (profile script : List ℕ) (at : Address) (rules : Rules S) (first : Node S) (bound : Bool)
+    (clock : Option (List ℕ)) (old : Option Written) (looked : Option Told) (after : Effects) (e : NodeError) → Passed told command profile script at (turns_of most_turns rules first)
+    → LooksUpTold told.files looked (profile ∷ script ∷ []) → RanBound bound rules first at told.clock clock (effects old told.wire looked) after (Err e)
+    → LeavesFiles command told after.files (Err (node_fault e))
+loop_left told command profile script at rules first true clock old looked after e passed left ran =
+    let turns = turns_of most_turns rules first ran.0 ran.2 in (
+      of_turns profile script at turns,
+      passed.is ran.0 ran.1 ran.2 (arrive_bound told.wire at ran.2 ran.3),
+      ran_left told.files looked (map looked_up (profile ∷ script ∷ [])) turns told.clock clock (effects old (at_bound told.wire at) looked) after e left refl ran.4,
+    )
+loop_left told command profile script at rules first false clock old looked after node.NoMemory passed left ran =
+    let readings = some_read told.clock in
+    let arrivals = some_arrive told.wire in
+    let turns = turns_of most_turns rules first readings.0 arrivals.0 in (
+      of_turns profile script at turns,
+      passed.is readings.0 readings.1 arrivals.0 arrivals.1,
+      inr (tt, turns_left told.files looked after.files (map looked_up (profile ∷ script ∷ [])) turns [] (acts_of turns) all_acts left (rw ran.2 (none_on looked)) refl),
+    )
+loop_left told command profile script at rules first false clock old looked after node.WireFault passed left ran =
+    let readings = some_read told.clock in
+    let arrivals = some_arrive told.wire in
+    let turns = turns_of most_turns rules first readings.0 arrivals.0 in (
+      of_turns profile script at turns,
+      passed.is readings.0 readings.1 arrivals.0 arrivals.1,
+      inr (tt, turns_left told.files looked after.files (map looked_up (profile ∷ script ∷ [])) turns [] (acts_of turns) all_acts left (rw ran.2 (none_on looked)) refl),
+    )
+loop_left told command profile script at rules first false clock old looked after node.WriteFault passed left ran = absurd ran.0
+loop_left told command profile script at rules first false clock old looked after node.FileFault passed left ran = absurd ran.0
+loop_left told command profile script at rules first false clock old looked after node.Turns passed left ran = absurd ran.0
+
+pub loop_all : {S : Type 0} (told : Outside) (command : Option Command) (profile script : List ℕ) (at : Address) (rules : Rules S) (first : Node S) (bound : Bool)
+    (clock : Option (List ℕ)) (old : Option Written) (looked : Option Told) (after : Effects) → Passed told command profile script at (turns_of most_turns rules first)
+    → LooksUpTold told.files looked (profile ∷ script ∷ []) → RanBound bound rules first at told.clock clock (effects old told.wire looked) after (Ok tt)
+    → LeavesFiles command told after.files (Ok tt)
+loop_all told command profile script at rules first true clock old looked after passed left ran =
+    let turns = turns_of most_turns rules first ran.0 ran.2 in (
+      of_turns profile script at turns,
+      passed.is ran.0 ran.1 ran.2 (arrive_bound told.wire at ran.2 ran.3),
+      inl (all_left told.files looked after.files (map looked_up (profile ∷ script ∷ [])) (acts_of turns) left ran.4.1.leaves.files),
+    )
+loop_all told command profile script at rules first false clock old looked after passed left ran = absurd ran.0
+
+-- a server does nothing to files
+pub served_left : (told : Outside) (command : Option Command) (profile script : List ℕ) (at : Address) (turns : List ℕ → List (Option Parcel) → List Turn) (looked : Option Told) (ended : Result (Unit {0}) Fault)
+    → Passed told command profile script at turns → LooksUpTold told.files looked (profile ∷ script ∷ []) → ((readings : List ℕ) (arrivals : List (Option Parcel)) → acts_of (turns readings arrivals) ≡ [])
+    → LeavesFiles command told looked ended
+served_left told command profile script at turns looked ended passed left none =
+    let readings = some_read told.clock in
+    let arrivals = some_arrive told.wire in (
+      of_turns profile script at (turns readings.0 arrivals.0),
+      passed.is readings.0 readings.1 arrivals.0 arrivals.1,
+      inl (all_left told.files looked looked (map looked_up (profile ∷ script ∷ [])) (acts_of (turns readings.0 arrivals.0)) left
+          (subst (λ (acts : List FileAct). ActsOn looked looked acts all_acts) (sym (none readings.0 arrivals.0)) (none_on looked))),
+    )
 
 -- its verdict binds an address
 pub passed_binds : (told : Outside) (command : Option Command) (profile script : List ℕ) (at : Address) (turns : List ℕ → List (Option Parcel) → List Turn) → Passed told command profile script at turns
@@ -361,19 +565,44 @@ pub node_read_cause : (before now : ℕ) (e : NodeError) → now ≡ before → 
 node_read_cause before now node.NoMemory same = same
 node_read_cause before now node.WireFault same = same
 node_read_cause before now node.WriteFault same = same
+node_read_cause before now node.FileFault same = same
 node_read_cause before now node.Turns same = same
 
 pub node_write_cause : (before now : ℕ) (e : NodeError) → NodeWriteCause {T = Unit {0}} before now (Err e) → WriteCause before now (Err (node_fault e))
 node_write_cause before now node.NoMemory cause = cause
 node_write_cause before now node.WireFault cause = cause
 node_write_cause before now node.WriteFault cause = cause
+node_write_cause before now node.FileFault cause = cause
 node_write_cause before now node.Turns cause = cause
 
 pub node_wire_cause : (before now : ℕ) (e : NodeError) → NodeWireCause {T = Unit {0}} before now (Err e) → WireCause before now (Err (node_fault e))
 node_wire_cause before now node.NoMemory cause = cause
 node_wire_cause before now node.WireFault cause = cause
 node_wire_cause before now node.WriteFault cause = cause
+node_wire_cause before now node.FileFault cause = cause
 node_wire_cause before now node.Turns cause = cause
+
+pub node_file_cause : (before now : ℕ) (e : NodeError) → NodeFileCause {T = Unit {0}} before now (Err e) → FileCause before now (Err (node_fault e))
+node_file_cause before now node.NoMemory cause = cause
+node_file_cause before now node.WireFault cause = cause
+node_file_cause before now node.WriteFault cause = cause
+node_file_cause before now node.FileFault cause = cause
+node_file_cause before now node.Turns cause = cause
+
+-- a part that reads a file fails by no write
+pub part_file_cause : {A : Type 0} (said : Result A Fault) (e : Fault) (before now : ℕ) → Gets said (Err e) → (said ≡ Err faults.FileWrite → ⊥) → now ≡ before → FileCause before now (Err e)
+part_file_cause said faults.FileWrite before now gets never same =
+    absurd (elim gets [
+      | inl by_input ↦ never (sym by_input)
+      | inr outside ↦ elim outside [ inl memory ↦ (cc) | inr read ↦ (cc) ]
+    ])
+part_file_cause said other before now gets never same = same
+
+pub no_profile_written : (file : Option (List ℕ)) → profile_in file ≡ Err faults.FileWrite → ⊥
+no_profile_written file is = subst (λ (answer : Result Profile Fault). OfInput answer) is (profile_of_input file)
+
+pub no_events_written : (kind : ScriptKind) (file : Option (List ℕ)) → events_in kind file ≡ Err faults.FileWrite → ⊥
+no_events_written kind file is = subst (λ (answer : Result (List Event) Fault). OfInput answer) is (events_of_input kind file)
 
 -- a part that reads a file fails by no wire
 pub part_wire_cause : {A : Type 0} (said : Result A Fault) (e : Fault) (before now : ℕ) → Gets said (Err e) → (said ≡ Err faults.Wire → ⊥) → now ≡ before → WireCause before now (Err e)

@@ -201,22 +201,6 @@ trial_makes_nothing told profile draws verdict is = (
   no_writes verdict reads_first (profile ∷ []) (tried is.0 draws) is.2 (λ none. none),
 )
 
-node_writes : (names : List (List ℕ)) (at : Address) (answer : Result (List Turn) Fault) → Comes (noded names at answer).stops.writes → ⊥
-node_writes names at (Ok turns) comes = comes
-node_writes names at (Err e) comes = comes
-
-pub serve_makes_nothing : (told : Outside) (profile script : List ℕ) (at : Address) → Never (Some (Serve profile script at)) told faults.FileWrite
-serve_makes_nothing told profile script at verdict is = (
-  not_decided told (Serve profile script at) verdict faults.FileWrite is (λ none. none),
-  λ comes. node_writes (names_by (profile_in is.0) profile script) at (served is.0 is.1 is.4 is.6) (subst (λ (v : Verdict). Comes v.stops.writes) is.8 comes),
-)
-
-pub join_makes_nothing : (told : Outside) (profile script : List ℕ) (at server : Address) → Never (Some (Join profile script at server)) told faults.FileWrite
-join_makes_nothing told profile script at server verdict is = (
-  not_decided told (Join profile script at server) verdict faults.FileWrite is (λ none. none),
-  λ comes. node_writes (names_by (profile_in is.0) profile script) at (joined server is.0 is.1 is.4 is.6) (subst (λ (v : Verdict). Comes v.stops.writes) is.8 comes),
-)
-
 demo_writes : (names : List (List ℕ)) (answer : Result demos.Play Fault) → Comes (demo_played names answer).stops.writes → ⊥
 demo_writes names (Ok play) comes = comes
 demo_writes names (Err e) comes = comes

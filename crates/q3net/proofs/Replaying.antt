@@ -149,7 +149,7 @@ memory_ended follow told profile script by events old read =
 -- ---- its events
 
 -- a file fails only where something is done to files
-writes_some : (acts : List FileAct) (printed text : List ℕ) → acts ≢ [] → IsFront printed text → ComesBehind (writes_by acts) printed text
+pub writes_some : (acts : List FileAct) (printed text : List ℕ) → acts ≢ [] → IsFront printed text → ComesBehind (writes_by acts) printed text
 writes_some [] printed text some front = absurd (some refl)
 writes_some (act ∷ acts) printed text some front = front
 
@@ -211,7 +211,7 @@ profile_gives told now profile script e gets gives =
     )
 
 -- a profile was read, and no script
-script_names : (told mid now : Option Told) (profile script : List ℕ) (by : Profile) (e : Fault) → LooksUpTold told mid (profile ∷ []) → Gives {A = Unit {0}} (Err e) (script ∷ []) mid now
+pub script_names : (told mid now : Option Told) (profile script : List ℕ) (by : Profile) (e : Fault) → LooksUpTold told mid (profile ∷ []) → Gives {A = Unit {0}} (Err e) (script ∷ []) mid now
     → Gives {A = Unit {0}} (Err e) (profile ∷ script ∷ []) told now
 script_names told mid now profile script by e first second =
     elim second [

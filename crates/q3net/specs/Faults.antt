@@ -28,6 +28,7 @@ abbrev pub node_fault : NodeError → Fault
 node_fault node.NoMemory = NoMemory
 node_fault node.WireFault = Wire
 node_fault node.WriteFault = Write
+node_fault node.FileFault = FileWrite
 node_fault node.Turns = Turns
 
 abbrev pub demo_fault : DemoError → Fault

@@ -6,8 +6,8 @@ use Rattle.q3_io.specs.declared.address.Address.{Address}
 use Rattle.q3_io.specs.Acts.{FileAct, ActsOn}
 use Rattle.q3_io.specs.Told.{Told}
 use Rattle.q3_io.specs.Traffic.{Traffic}
-use Rattle.q3_node.specs.Node.{Turn, uses_wire, text_of}
-use Rattle.q3_node.specs.Running.{wire_behind, at_bound, Leaves}
+use Rattle.q3_node.specs.Node.{Turn, uses_wire, answer_text, text_of}
+use Rattle.q3_node.specs.Running.{wire_behind, at_bound}
 use Rattle.q3_io.specs.Written.{Written, Wrote, NothingWaits}
 use Rattle.q3_report.specs.Answers.{Answered}
 use Rattle.q3_report.specs.AnswerLines.{lines_of}
@@ -75,23 +75,36 @@ abbrev pub wire_by : Option Traffic → Option Address → List Turn → Option 
 wire_by told None turns = told
 wire_by told (Some at) turns = wire_behind (at_bound told at) turns
 
--- the wire failed in a turn that uses it, behind the first of these turns, whose text was printed
-pub record StopsIn (turns : List Turn) (bound now : Option Traffic) (text : List ℕ) : Type 0 where
+-- a fault that may end a node in a turn: want of memory in one that wants some, a fault of the wire in one that uses it, and of a file in
+-- one that does something to files
+abbrev pub StopsTurn : Fault → Turn → Type 0
+StopsTurn NoMemory turn = turn.memory ≡ true
+StopsTurn Wire turn = uses_wire turn ≡ true
+StopsTurn FileWrite turn = turn.acts ≢ []
+StopsTurn other turn = ⊥
+
+-- what is told of the wire then: where a file failed, what the turn received is gone; otherwise it did nothing
+abbrev pub wire_in : Fault → Turn → Option Traffic → Option Traffic
+wire_in FileWrite turn told = wire_behind told (turn ∷ [])
+wire_in other turn told = told
+
+-- the node ended so in a turn, behind the first of these turns, whose text was printed
+pub record StopsIn (turns : List Turn) (fault : Fault) (bound now : Option Traffic) (text : List ℕ) : Type 0 where
   pub first : List Turn
   pub last : Turn
   pub rest : List Turn
   pub whole : turns ≡ first ++ last ∷ rest
-  pub uses : uses_wire last ≡ true
+  pub stops : StopsTurn fault last
   pub printed : text ≡ text_of first
-  pub wire : now ≡ wire_behind bound first
+  pub wire : now ≡ wire_in fault last (wire_behind bound first)
 
--- of a node all turns were had, or it ended early before an address was bound, or the wire failed in one of them; of any other command the
--- wire stays
+-- of a node all turns were had, or it ended early before an address was bound, or in one of them; of any other command the wire stays
 abbrev pub WiredBy : Option Address → Verdict → Result (Unit {0}) Fault → List ℕ → Option Traffic → Option Traffic → Type 0
 WiredBy None verdict ended printed told now = now ≡ told
 WiredBy (Some at) verdict ended printed told now =
     ((ended ≡ verdict.ending) × (now ≡ wire_by told (Some at) verdict.turns))
-    ⊎ ((IsEarly ended × (printed ≡ []) × (now ≡ told)) ⊎ ((ended ≡ Err Wire) × StopsIn verdict.turns (at_bound told at) now printed))
+    ⊎ ((IsEarly ended × (printed ≡ []) × (now ≡ told))
+    ⊎ ((fault : Fault) × (ended ≡ Err fault) × StopsIn verdict.turns fault (at_bound told at) now printed))
 
 -- the lines of its turns were handed on, where nothing waited before
 abbrev pub HandedOn : Option Address → Option Written → Option Written → Type 0
@@ -103,8 +116,8 @@ abbrev pub FailsBy : Option Address → List Turn → Option Written → Option 
 FailsBy None turns old now told wired = wired ≡ told
 FailsBy (Some at) turns old now told wired =
     (first : List Turn) × (last : Turn) × (rest : List Turn) × (turns ≡ first ++ last ∷ rest)
-    × (mid : Option Written) × (mids : Option Traffic) × (NothingWaits old → NothingWaits mid)
-    × Leaves first true old mid (at_bound told at) mids × Leaves (last ∷ []) false mid now mids wired
+    × (mid : Option Written) × (NothingWaits old → NothingWaits mid) × Wrote old mid (text_of first) true × Wrote mid now (answer_text last.answer) false
+    × (wired ≡ wire_behind (at_bound told at) (first ++ last ∷ []))
 
 -- what the sink took of a command by then, and what it left of the wire
 abbrev pub ExecutesWired : Option Command → Outside → Option Written → Option Written → Option Traffic → Result (Unit {0}) Fault → Type 0

@@ -14,7 +14,7 @@ use Rattle.q3_io.specs.Acts.{FileAct}
 use Rattle.q3_io.specs.Told.{Told, Named}
 use Rattle.q3_io.specs.Traffic.{Parcel, Traffic}
 use Rattle.q3_server.specs.Server.{places, new_server}
-use Rattle.q3_node.specs.Node.{Turn, most_turns, new_node, turns_of, did_end, text_of}
+use Rattle.q3_node.specs.Node.{Turn, most_turns, new_node, turns_of, did_end, text_of, acts_of, want_memory}
 use Rattle.q3_node.specs.AtServer.{server_rules}
 use Rattle.q3_node.specs.AtClient.{ClientEnd, client_of, client_rules}
 use Rattle.q3_node.specs.Running.{ToRead, ToArrive}
@@ -70,10 +70,6 @@ takes_memory = record stops_nowhere { memory = Anywhere }
 abbrev pub reads_first : Stops
 reads_first = record takes_memory { reads = First }
 
--- and what has all its memory before its first line, and goes on over a wire
-abbrev pub goes_on_wire : Stops
-goes_on_wire = record { memory = First; reads = First; writes = Nowhere; wire = Anywhere }
-
 -- and what has all its memory before its first line, and goes on reading
 abbrev pub goes_on_reading : Stops
 goes_on_reading = record { memory = First; reads = Anywhere; writes = Nowhere; wire = Nowhere }
@@ -85,6 +81,15 @@ writes_by (act ∷ acts) = Anywhere
 
 abbrev pub goes_on_writing : List FileAct → Stops
 goes_on_writing acts = record reads_first { writes = writes_by acts }
+
+-- and what goes on over a wire: it has all its memory before its first line, unless one of its turns wants some, and it writes files, if it
+-- does something to them
+abbrev pub memory_by : Bool → Place
+memory_by true = Anywhere
+memory_by false = First
+
+abbrev pub goes_on_wire : List Turn → Stops
+goes_on_wire turns = record { memory = memory_by (want_memory turns); reads = First; writes = writes_by (acts_of turns); wire = Anywhere }
 
 -- of a command that does nothing to files: it looks up these names, and prints a text, and behind it may come a cause
 abbrev pub printing : Stops → List (List ℕ) → List ℕ → Result (Unit {0}) Fault → Verdict
@@ -154,7 +159,13 @@ ending_of false = Err Turns
 
 -- of a node at an address with these turns; of none, by a cause
 abbrev pub noded : List (List ℕ) → Address → Result (List Turn) Fault → Verdict
-noded names at (Ok turns) = record (printing goes_on_wire names (text_of turns) (ending_of (did_end turns))) { at = Some at; turns = turns }
+noded names at (Ok turns) =
+    record (printing (goes_on_wire turns) names (text_of turns) (ending_of (did_end turns))) {
+      named = map looked_up names ++ created (acts_of turns);
+      acts = acts_of turns;
+      at = Some at;
+      turns = turns;
+    }
 noded names at (Err cause) = printing reads_first names [] (Err cause)
 
 -- the turns of a server by the script in one file and the profile in another, where these readings and arrivals are to come

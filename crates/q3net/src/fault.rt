@@ -318,6 +318,7 @@ impl From<NodeError> for Fault {
             NodeError::NoMemory => Fault::NoMemory,
             NodeError::WireFault => Fault::Wire,
             NodeError::WriteFault => Fault::Write,
+            NodeError::FileFault => Fault::FileWrite,
             NodeError::Turns => Fault::Turns,
         }
     }

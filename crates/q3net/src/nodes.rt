@@ -2,13 +2,14 @@
 
 ghost use Rattle.std.specs.Prelude.{◌≡◌, Some, true, false};
 ghost use Rattle.q3net.specs.Command.{Serve, Join};
-ghost use Rattle.q3net.specs.Faults.{ReadCause, WriteCause, WireCause};
+ghost use Rattle.q3net.specs.Faults.{ReadCause, WriteCause, FileCause, WireCause};
 ghost use Rattle.q3net.specs.Verdict.{outside};
 ghost use Rattle.q3net.specs.Run.{ExecutesWired, LeavesFiles, MayBind};
 
 use crate::fault::Fault;
 use crate::input::{load_events, load_profile};
 use q3_io::{Address, Clock, Files, Sink, Wire};
+use q3_node::laws::server_keeps_files;
 use q3_node::{join_loop, serve_loop};
 use q3_script::ScriptKind;
 use std::alloc::Global;
@@ -30,7 +31,7 @@ pub fn serve<F: Files, W: Wire, C: Clock, O: Sink>(
     ensures gives { LeavesFiles (Some (Serve profile.now script.now at)) (outside (F.told files.old) (W.told wire.old) (C.readings clock.old)) (F.told files.new) result }
     ensures binds { W.bound wire.new ≡ true → MayBind (Some (Serve profile.now script.now at)) (outside (F.told files.old) (W.told wire.old) (C.readings clock.old)) }
     ensures unbound { W.bound wire.new ≡ false → clock.new ≡ clock.old }
-    ensures writes { F.write_faults files.new ≡ F.write_faults files.old }
+    ensures file_cause { FileCause (F.write_faults files.old) (F.write_faults files.new) result }
     ensures read_cause { ReadCause (F.faults files.old) (F.faults files.new) result }
     ensures write_cause { WriteCause (O.faults out.old) (O.faults out.new) result }
     ensures wire_cause { WireCause (W.faults wire.old) (W.faults wire.new) result }
@@ -38,11 +39,12 @@ pub fn serve<F: Files, W: Wire, C: Clock, O: Sink>(
     q3_io::laws::texts_follow();
     let profile = load_profile(alloc, profile, files)?;
     let events = load_events(alloc, ScriptKind::Serve, script, files)?;
+    server_keeps_files();
     serve_loop(alloc, &profile, &events, at, wire, clock, out)?;
     Ok(())
 }
 
-/// Is a client at an address, of the server at another, likewise.
+/// Is a client at an address, of the server at another, likewise, and writes what it records.
 pub fn join<F: Files, W: Wire, C: Clock, O: Sink>(
     alloc: Global,
     profile: &str,
@@ -60,7 +62,7 @@ pub fn join<F: Files, W: Wire, C: Clock, O: Sink>(
     ensures gives { LeavesFiles (Some (Join profile.now script.now at server)) (outside (F.told files.old) (W.told wire.old) (C.readings clock.old)) (F.told files.new) result }
     ensures binds { W.bound wire.new ≡ true → MayBind (Some (Join profile.now script.now at server)) (outside (F.told files.old) (W.told wire.old) (C.readings clock.old)) }
     ensures unbound { W.bound wire.new ≡ false → clock.new ≡ clock.old }
-    ensures writes { F.write_faults files.new ≡ F.write_faults files.old }
+    ensures file_cause { FileCause (F.write_faults files.old) (F.write_faults files.new) result }
     ensures read_cause { ReadCause (F.faults files.old) (F.faults files.new) result }
     ensures write_cause { WriteCause (O.faults out.old) (O.faults out.new) result }
     ensures wire_cause { WireCause (W.faults wire.old) (W.faults wire.new) result }
@@ -68,6 +70,8 @@ pub fn join<F: Files, W: Wire, C: Clock, O: Sink>(
     q3_io::laws::texts_follow();
     let profile = load_profile(alloc, profile, files)?;
     let events = load_events(alloc, ScriptKind::Join, script, files)?;
-    join_loop(alloc, &profile, &events, at, server, wire, clock, out)?;
+    join_loop(
+        alloc, &profile, &events, at, server, files, wire, clock, out,
+    )?;
     Ok(())
 }

@@ -6,7 +6,7 @@ use Rattle.q3net.specs.Lines.{help_text, version_text}
 use Rattle.q3net.specs.Verdict.{outside, of_files, stops_nowhere, takes_memory}
 use Rattle.q3net.proofs.Ending.{none_executes, text_executes}
 use Rattle.q3net.proofs.Looking.{none_given, text_given}
-use Rattle.q3net.proofs.Outside.{no_file_fails, no_read_fails, no_wire_fails, wire_stays, executes_of, make_makes_nothing, trial_makes_nothing, serve_makes_nothing, join_makes_nothing, play_makes_nothing, play_wires_nothing, replay_wires_nothing, make_wires_nothing, trial_wires_nothing, make_reads_nothing}
+use Rattle.q3net.proofs.Outside.{no_file_fails, no_read_fails, no_wire_fails, wire_stays, executes_of, make_makes_nothing, trial_makes_nothing, play_makes_nothing, play_wires_nothing, replay_wires_nothing, make_wires_nothing, trial_wires_nothing, make_reads_nothing}
 use Rattle.q3net.proofs.run.execute.Goals as goal
 
 pub returns-in-None-clause-gives : goal.returns-in-None-clause-gives
@@ -89,14 +89,6 @@ pub returns-in-Some-Trial-clause-executes : goal.returns-in-Some-Trial-clause-ex
 returns-in-Some-Trial-clause-executes g c =
     let e = rw c.in-Some-Trial.field-0-is at c.in-Some-Trial.ensures.value in
     rw (← e) (wire_stays (Some (Trial c.in-Some-Trial.profile.now c.in-Some-Trial.draws)) (outside (g.F.Files.told c.args.files.now) (g.W.Wire.told c.args.wire.now) (g.C.Clock.readings c.args.clock.now)) (g.O.Sink.written c.args.out.now) (g.O.Sink.written c.trial.new.out) c.trial.result tt c.trial.ensures.executes)
-
-pub returns-in-Some-Serve-clause-file_cause : goal.returns-in-Some-Serve-clause-file_cause
-returns-in-Some-Serve-clause-file_cause g c =
-    no_file_fails (Some (Serve c.in-Some-Serve.profile.now c.in-Some-Serve.script.now c.in-Some-Serve.at)) (outside (g.F.Files.told c.args.files.now) (g.W.Wire.told c.args.wire.now) (g.C.Clock.readings c.args.clock.now)) (g.O.Sink.written c.args.out.now) (g.O.Sink.written c.serve.new.out) c.serve.result (g.F.Files.write_faults c.args.files.now) (g.F.Files.write_faults c.serve.new.files) (serve_makes_nothing (outside (g.F.Files.told c.args.files.now) (g.W.Wire.told c.args.wire.now) (g.C.Clock.readings c.args.clock.now)) c.in-Some-Serve.profile.now c.in-Some-Serve.script.now c.in-Some-Serve.at) (executes_of (Some (Serve c.in-Some-Serve.profile.now c.in-Some-Serve.script.now c.in-Some-Serve.at)) (outside (g.F.Files.told c.args.files.now) (g.W.Wire.told c.args.wire.now) (g.C.Clock.readings c.args.clock.now)) (g.O.Sink.written c.args.out.now) (g.O.Sink.written c.serve.new.out) (g.W.Wire.told c.serve.new.wire) c.serve.result c.serve.ensures.executes) c.serve.ensures.writes
-
-pub returns-in-Some-Join-clause-file_cause : goal.returns-in-Some-Join-clause-file_cause
-returns-in-Some-Join-clause-file_cause g c =
-    no_file_fails (Some (Join c.in-Some-Join.profile.now c.in-Some-Join.script.now c.in-Some-Join.at c.in-Some-Join.server)) (outside (g.F.Files.told c.args.files.now) (g.W.Wire.told c.args.wire.now) (g.C.Clock.readings c.args.clock.now)) (g.O.Sink.written c.args.out.now) (g.O.Sink.written c.join.new.out) c.join.result (g.F.Files.write_faults c.args.files.now) (g.F.Files.write_faults c.join.new.files) (join_makes_nothing (outside (g.F.Files.told c.args.files.now) (g.W.Wire.told c.args.wire.now) (g.C.Clock.readings c.args.clock.now)) c.in-Some-Join.profile.now c.in-Some-Join.script.now c.in-Some-Join.at c.in-Some-Join.server) (executes_of (Some (Join c.in-Some-Join.profile.now c.in-Some-Join.script.now c.in-Some-Join.at c.in-Some-Join.server)) (outside (g.F.Files.told c.args.files.now) (g.W.Wire.told c.args.wire.now) (g.C.Clock.readings c.args.clock.now)) (g.O.Sink.written c.args.out.now) (g.O.Sink.written c.join.new.out) (g.W.Wire.told c.join.new.wire) c.join.result c.join.ensures.executes) c.join.ensures.writes
 
 pub returns-in-Some-Play-clause-file_cause : goal.returns-in-Some-Play-clause-file_cause
 returns-in-Some-Play-clause-file_cause g c =

@@ -1,0 +1,28 @@
+-- A server wants no memory, and does nothing to files.
+use Rattle.std.proofs.Common.{◌≡◌, ℕ, false, [], Option, Some, None, refl}
+use Rattle.q3_io.specs.Traffic.{Parcel}
+use Rattle.q3_script.specs.declared.event.Event.{Event}
+use Rattle.q3_script.specs.declared.event.Event.TheVariants.{Client, Port, Map, Entity, Remove, Baseline, Player, Area, Time, Config, Say, TypeText, Move, Serve, Send, Deliver, RecordTo, Stop, Show, Bytes, Toclient, Toserver, At, End}
+use Rattle.q3_server.specs.Server.{ServerState}
+use Rattle.q3_ends.specs.AtServer.{ServerStep, server_line}
+use Rattle.q3_node.specs.Node.{LineDone}
+use Rattle.q3_node.specs.AtServer.{game_done, line_done, server_rules}
+use Rattle.q3_node.specs.Laws.{KeepsFiles}
+use Rattle.q3_node.proofs.Turning.{keeps_files}
+
+-- what it does at any line
+pub record IsFrugal (done : LineDone ServerState) : Type 0 where
+  pub acts : done.acts ≡ []
+  pub memory : done.memory ≡ false
+
+game : (server : ServerState) (step : Option ServerStep) → IsFrugal (game_done server step)
+game server None = record { acts = refl; memory = refl }
+game server (Some step) = record { acts = refl; memory = refl }
+
+pub frugal : (server : ServerState) (event : Event) (number : ℕ) → IsFrugal (line_done server event number)
+frugal server (Client c challenge qport dup address) number = record { acts = refl; memory = refl }
+frugal server (Serve c) number = record { acts = refl; memory = refl }
+frugal server event number = game server (server_line server event)
+
+pub server_keeps_files : KeepsFiles server_rules
+server_keeps_files = keeps_files server_rules (λ server event number. (frugal server event number).acts) (λ server parcel. refl)
