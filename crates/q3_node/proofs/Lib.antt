@@ -2,3 +2,4 @@ mod Parts
 mod Turning
 mod Reaching
 mod Serving
+mod Joining

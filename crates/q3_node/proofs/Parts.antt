@@ -1,5 +1,6 @@
 -- The parts of a turn: a line that is done, and a receive.
 use Rattle.std.proofs.Common.{◌≡◌, ℕ, ◌+◌, ◌-◌, ◌<◌, ◌≤◌, Bool, true, false, ◌||◌, if◌then◌else◌, List, [], ◌∷◌, length, take, drop, min, Option, Some, None, option_map, is_some, Result, Ok, Err, ◌⊎◌, inl, inr, refl, sym, ap, ap₂, subst, ◌∙◌, true≢false, arith}
+use Rattle.std.specs.Prelude.{IfErr, IsErrOf}
 use Rattle.std.proofs.lemmas.List.{append-nil, drop-drop, take_all, length-take}
 use Rattle.std.proofs.lemmas.Bool.{cases_lt}
 use Rattle.q3_io.specs.declared.address.Address.{Address}
@@ -7,14 +8,14 @@ use Rattle.q3_io.specs.Readings.{Reads}
 use Rattle.q3_io.specs.Traffic.{Parcel, Traffic, next_of, after_receive, Binds, Receives, Fills}
 use Rattle.q3_io.specs.Written.{Wrote}
 use Rattle.q3_io.specs.Laws.{TextsFollow}
-use Rattle.q3_io.specs.Acts.{ActsOn, after_acts}
+use Rattle.q3_io.specs.Acts.{FileAct, ActsOn, after_acts}
 use Rattle.q3_io.specs.Told.{Told}
 use Rattle.q3_script.specs.declared.event.Event.{Event}
 use Rattle.q3_node.specs.declared.error.NodeError.{NodeError}
 use Rattle.q3_node.specs.declared.error.NodeError.TheVariants.{NoMemory, WireFault, WriteFault, FileFault, Turns}
 use Rattle.q3_node.specs.declared.turns.Course.{Course}
 use Rattle.q3_node.specs.Node.{Rules, Turn, Turned, uses_wire, receive_room, cut_to_room, time_behind, is_end, start_at, made_with, due, line_turn, receive_turn, turn_of, answer_text, text_of, acts_of}
-use Rattle.q3_node.specs.Running.{at_bound, Effects, all_acts, DoesArrival, Leaves, wire_behind, sent_on, DoesLine, Finds, DoesTurn, TakesTurn, node_of}
+use Rattle.q3_node.specs.Running.{at_bound, Effects, all_acts, DoesActs, DoesArrival, Leaves, wire_behind, sent_on, DoesLine, Finds, DoesTurn, TakesTurn, node_of}
 
 -- ---- files
 
@@ -27,6 +28,16 @@ nothing_done (Some told) = refl
 -- acts of a turn are those of the turn alone
 one_acts : (now : Turn) → acts_of (now ∷ []) ≡ now.acts
 one_acts now = append-nil now.acts
+
+-- acts were done, and only the sink may have failed behind them
+pub acts_told : {T : Type 0} (told now : Option Told) (acts : List FileAct) (result : Result T NodeError) → ActsOn told now acts all_acts → IfErr result (λ e. e ≡ WriteFault) → DoesActs told now acts result
+acts_told told now acts (Ok x) done only = done
+acts_told told now acts (Err e) done only = rw only done
+
+-- where only the sink may have failed, memory didn't run out
+pub memory_stays : {T : Type 0} (result : Result T NodeError) → IfErr result (λ e. e ≡ WriteFault) → IsErrOf result NoMemory → ⊥
+memory_stays (Ok x) only ran = absurd cc
+memory_stays (Err e) only ran = absurd cc
 
 -- ---- what one turn leaves
 
@@ -105,20 +116,17 @@ pub line_stopped : {S : Type 0} (rules : Rules S) (end new : S) (events : List E
     → DoesTurn (line_turn rules (node_of end events course) event) found (node_of new events after_course) before after (Err e)
 line_stopped {S} rules end new events course after_course event found before after NoMemory does =
     let now : Turned S = line_turn rules (node_of end events course) event in
-    (finds_nothing now.turn before.wire found refl, does.memory refl, same_effects before after does.told.0 does.told.1 does.files)
+    (finds_nothing now.turn before.wire found refl, (does.memory refl, same_effects before after does.told.0 does.told.1 does.files))
 line_stopped {S} rules end new events course after_course event found before after WireFault does =
     let now : Turned S = line_turn rules (node_of end events course) event in
-    (finds_nothing now.turn before.wire found refl, sends_wire now.turn does.told.0, same_effects before after does.told.1 does.told.2 does.files)
+    (finds_nothing now.turn before.wire found refl, (sends_wire now.turn does.told.0, same_effects before after does.told.1 does.told.2 does.files))
 line_stopped {S} rules end new events course after_course event found before after WriteFault does =
     let now : Turned S = line_turn rules (node_of end events course) event in
     (finds_nothing now.turn before.wire found refl, line_leaves now.turn false before after refl does.told.0 does.told.1 does.files)
 line_stopped {S} rules end new events course after_course event found before after FileFault does =
     let now : Turned S = line_turn rules (node_of end events course) event in (
       finds_nothing now.turn before.wire found refl,
-      does.files.0,
-      does.told.0,
-      does.told.1 ∙ wire_line before.wire now.turn now.turn.sends refl refl,
-      does.files.1,
+      (does.files.0, does.told.0, does.told.1 ∙ wire_line before.wire now.turn now.turn.sends refl refl, does.files.1),
     )
 line_stopped {S} rules end new events course after_course event found before after Turns does = absurd does.told
 
@@ -136,7 +144,7 @@ take_min : {A : Type 0} (n : ℕ) (bytes : List A) → take (min (length bytes) 
 take_min n bytes = take_least n bytes (cases_lt (length bytes) n)
 
 -- what is told to come next
-abbrev found_next : Option Traffic → Option Parcel
+abbrev pub found_next : Option Traffic → Option Parcel
 found_next None = None
 found_next (Some traffic) = next_of traffic.arrivals
 
@@ -224,10 +232,7 @@ received_stopped {S} rules end new events course before after from bytes WriteFa
 received_stopped {S} rules end new events course before after from bytes FileFault one does =
     let now : Turned S = receive_turn rules (node_of end events course) (Some one.parcel) in (
       finds_next now.turn before.wire (Some one.parcel) one.finds,
-      rw one.cut does.files.0,
-      does.printed,
-      one.gone ∙ wire_receive before.wire now.turn refl refl,
-      rw one.cut does.files.1,
+      (rw one.cut does.files.0, does.printed, one.gone ∙ wire_receive before.wire now.turn refl refl, rw one.cut does.files.1),
     )
 received_stopped {S} rules end new events course before after from bytes Turns one does = absurd does.printed
 
@@ -238,13 +243,13 @@ pub receive_failed : {S : Type 0} (rules : Rules S) (end new : S) (events : List
 receive_failed {S} rules end new events course before after old into written files receives =
     let now : Turned S = receive_turn rules (node_of end events course) (found_next before.wire) in (
       finds_next now.turn before.wire (found_next before.wire) (λ traffic is. sym (ap (λ (told : Option Traffic). found_next told) is)),
-      receives_so (found_next before.wire),
-      same_effects before after written (stayed before.wire after.wire receives) files,
+      (receives_so (found_next before.wire), same_effects before after written (stayed before.wire after.wire receives) files),
     )
   where
     receives_so : (found : Option Parcel) → uses_wire (receive_turn rules (node_of end events course) found).turn ≡ true
     receives_so None = refl
     receives_so (Some parcel) = refl
+
     stayed : (were are : Option Traffic) → Receives were are old into (Err (record {})) → are ≡ were
     stayed None are receives = receives
     stayed (Some traffic) are receives = receives

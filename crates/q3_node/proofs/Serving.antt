@@ -1,8 +1,8 @@
 -- A server wants no memory, and does nothing to files.
 use Rattle.std.proofs.Common.{◌≡◌, ℕ, false, [], Option, Some, None, refl}
-use Rattle.q3_io.specs.Traffic.{Parcel}
+use Rattle.q3_io.specs.declared.address.Address.{Address}
 use Rattle.q3_script.specs.declared.event.Event.{Event}
-use Rattle.q3_script.specs.declared.event.Event.TheVariants.{Client, Port, Map, Entity, Remove, Baseline, Player, Area, Time, Config, Say, TypeText, Move, Serve, Send, Deliver, RecordTo, Stop, Show, Bytes, Toclient, Toserver, At, End}
+use Rattle.q3_script.specs.declared.event.Event.TheVariants.{Client, Serve}
 use Rattle.q3_server.specs.Server.{ServerState}
 use Rattle.q3_ends.specs.AtServer.{ServerStep, server_line}
 use Rattle.q3_node.specs.Node.{LineDone}
@@ -26,3 +26,10 @@ frugal server event number = game server (server_line server event)
 
 pub server_keeps_files : KeepsFiles server_rules
 server_keeps_files = keeps_files server_rules (λ server event number. (frugal server event number).acts) (λ server parcel. refl)
+
+-- a line that is neither of these two is one of the game
+pub game_line : (server : ServerState) (event : Event) (number : ℕ) → ((c challenge qport dup : ℕ) (address : Address) → event ≡ Client c challenge qport dup address → ⊥) → ((c : ℕ) → event ≡ Serve c → ⊥)
+    → line_done server event number ≡ game_done server (server_line server event)
+game_line server (Client c challenge qport dup address) number client serve = absurd (client c challenge qport dup address refl)
+game_line server (Serve c) number client serve = absurd (serve c refl)
+game_line server event number client serve = refl

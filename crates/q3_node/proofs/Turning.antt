@@ -387,12 +387,13 @@ none_wants {S} rules none (suc count) node readings arrivals =
     let here : now.turn.memory ≡ false =
     no_turn_wants rules none (record node { start = Some (start_at node.start (reading_of readings)) })
     (due node.time (reading_of readings - start_at node.start (reading_of readings)) node.left) (next_of arrivals) in
-    rw here (behind now now.turn.ended)
+    let rest = turns_of count rules now.node (readings_after readings) (arrivals_after now.turn arrivals) in
+    let others : want_memory rest ≡ false = none_wants rules none count now.node (readings_after readings) (arrivals_after now.turn arrivals) in
+    rw here (behind rest now.turn.ended others)
   where
-    behind : (now : Turned S) (ended : Bool)
-        → want_memory (if ended then [] else turns_of count rules now.node (readings_after readings) (arrivals_after now.turn arrivals)) ≡ false
-    behind now true = refl
-    behind now false = none_wants rules none count now.node (readings_after readings) (arrivals_after now.turn arrivals)
+    behind : (rest : List Turn) (ended : Bool) → want_memory rest ≡ false → want_memory (if ended then [] else rest) ≡ false
+    behind rest true others = refl
+    behind rest false others = others
 
 -- so it doesn't run out of it behind its address
 pub keeps_memory : {S : Type 0} (rules : Rules S) → ((end : S) (event : Event) (number : ℕ) → (rules.line end event number).memory ≡ false)
@@ -426,8 +427,10 @@ keeps_files {S} rules none none_arrives (suc count) node readings arrivals =
     let here : now.turn.acts ≡ [] =
     no_turn_acts rules none none_arrives (record node { start = Some (start_at node.start (reading_of readings)) })
     (due node.time (reading_of readings - start_at node.start (reading_of readings)) node.left) (next_of arrivals) in
-    rw here (behind now now.turn.ended)
+    let rest = turns_of count rules now.node (readings_after readings) (arrivals_after now.turn arrivals) in
+    let others : acts_of rest ≡ [] = keeps_files rules none none_arrives count now.node (readings_after readings) (arrivals_after now.turn arrivals) in
+    rw here (behind rest now.turn.ended others)
   where
-    behind : (now : Turned S) (ended : Bool) → acts_of (if ended then [] else turns_of count rules now.node (readings_after readings) (arrivals_after now.turn arrivals)) ≡ []
-    behind now true = refl
-    behind now false = keeps_files rules none none_arrives count now.node (readings_after readings) (arrivals_after now.turn arrivals)
+    behind : (rest : List Turn) (ended : Bool) → acts_of rest ≡ [] → acts_of (if ended then [] else rest) ≡ []
+    behind rest true others = refl
+    behind rest false others = others

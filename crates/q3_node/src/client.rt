@@ -5,9 +5,9 @@ ghost use Rattle.q3_profile.specs.Profile.{IsProfile};
 ghost use Rattle.q3_client.specs.Client.{new_client};
 ghost use Rattle.q3_ends.specs.Recording.{HasFile};
 ghost use Rattle.q3_node.specs.Running.{effects, DoesLine, WireCause, WriteCause, FileCause};
-ghost use Rattle.q3_node.specs.AtClient.{client_rules, new_end, send, record_to, stop, finish, is_address};
+ghost use Rattle.q3_node.specs.AtClient.{client_rules, client_of, new_end, send, record_to, stop, finish, is_address};
 
-use crate::end::{End, hand_over, tell};
+use crate::end::{End, hand_over, tell, tell_line};
 use crate::error::NodeError;
 use q3_bits::NoMemory;
 use q3_chan::Datagram;
@@ -50,10 +50,11 @@ fn is_address(one: Address, other: Address) -> bool
 }
 
 impl ClientEnd {
-    ghost use Rattle.std.specs.Prelude.{ℕ, true, Option, None, OnOk};
+    ghost use Rattle.std.specs.Prelude.{ℕ, true, Option, Some, None, OnOk};
     ghost use Rattle.q3_io.specs.Told.{Told};
     ghost use Rattle.q3_io.specs.Traffic.{Traffic};
     ghost use Rattle.q3_io.specs.Written.{Written, NothingWaits};
+    ghost use Rattle.q3_script.specs.Grammar.{IsOneClient};
 
     /// A client that has taken nothing, of the server at this address. Each message repeats the moves of `dup` messages before it.
     /// `Err` is want of memory.
@@ -79,6 +80,34 @@ impl ClientEnd {
             recording: None,
             log,
         })
+    }
+
+    /// The client of a script, which its first line joins. `Err` is want of memory.
+    pub(crate) fn of_script(
+        alloc: Global,
+        profile: &Profile,
+        events: &[Event],
+        server: Address,
+    ) -> Result<ClientEnd, NoMemory>
+        requires profile { IsProfile profile.now }
+        requires client { IsOneClient events.now }
+        ensures made { IfOk result (λ made. client_of profile.now server events.now ≡ Some made) }
+        ensures none { IfOk result (λ made. made.recording ≡ None) }
+    {
+        let [
+            Event::Client {
+                c,
+                challenge,
+                qport,
+                dup,
+                ..
+            },
+            ..
+        ] = events
+        else {
+            unreachable!()
+        };
+        ClientEnd::new(alloc, profile, *c, *challenge, *qport, *dup, server)
     }
 
     /// Makes a datagram, and sends it to the server.
@@ -134,8 +163,7 @@ impl ClientEnd {
         else {
             return Err(NodeError::FileFault);
         };
-        tell(&Answer::HandedIn(HandedIn::Record { c, outcome }), out)?;
-        Ok(false)
+        tell_line(&Answer::HandedIn(HandedIn::Record { c, outcome }), out)
     }
 
     /// Ends the recording.
@@ -159,8 +187,7 @@ impl ClientEnd {
         let Ok(outcome) = recording::stop(&mut self.recording, file, files) else {
             return Err(NodeError::FileFault);
         };
-        tell(&Answer::HandedIn(HandedIn::Stop { c, outcome }), out)?;
-        Ok(false)
+        tell_line(&Answer::HandedIn(HandedIn::Stop { c, outcome }), out)
     }
 
     /// Ends the recording, if one goes on, with the node's own end.
@@ -194,28 +221,29 @@ impl End for ClientEnd {
         wire: &mut W,
         out: &mut O,
     ) -> Result<bool, NodeError> {
-        let handed = match event {
-            Event::Send { c } => return self.send(*c, number, wire, out),
-            Event::RecordTo { c, name } => {
-                return self.record(alloc, *c, name, file, files, out);
-            }
-            Event::Stop { c } => return self.stop(*c, *file, files, out),
-            Event::End { .. } => return self.finish(*file, files),
+        match event {
+            Event::Send { c } => self.send(*c, number, wire, out),
+            Event::RecordTo { c, name } => self.record(alloc, *c, name, file, files, out),
+            Event::Stop { c } => self.stop(*c, *file, files, out),
+            Event::End { .. } => self.finish(*file, files),
             Event::Show { c } => {
                 let shown = show(&self.client);
-                tell(&Answer::Show { c: *c, shown }, out)?;
-                return Ok(false);
+                tell_line(&Answer::Show { c: *c, shown }, out)
             }
-            Event::Client { c, .. } => HandedIn::Client {
-                c: *c,
-                outcome: Ok(()),
-            },
-            Event::TypeText { c, text } => type_text(&mut self.client, *c, text),
-            Event::Move { c, one } => add_move(&mut self.client, *c, one),
-            _ => return Ok(false),
-        };
-        tell(&Answer::HandedIn(handed), out)?;
-        Ok(false)
+            Event::Client { c, .. } => {
+                let outcome = Ok(());
+                tell_line(&Answer::HandedIn(HandedIn::Client { c: *c, outcome }), out)
+            }
+            Event::TypeText { c, text } => {
+                let handed = type_text(&mut self.client, *c, text);
+                tell_line(&Answer::HandedIn(handed), out)
+            }
+            Event::Move { c, one } => {
+                let handed = add_move(&mut self.client, *c, one);
+                tell_line(&Answer::HandedIn(handed), out)
+            }
+            _ => Ok(false),
+        }
     }
 
     fn arrive<F: Files, O: Sink>(

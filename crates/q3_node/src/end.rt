@@ -1,7 +1,8 @@
 //! What a node asks of its end.
 
-ghost use Rattle.std.specs.Prelude.{◌≡◌, ℕ, true, [], Option, Some, OnOk, IfErr};
+ghost use Rattle.std.specs.Prelude.{◌≡◌, ℕ, true, [], Option, None, Some, OnOk, IfErr, IsErrOf};
 ghost use Rattle.q3_io.specs.Told.{Told};
+ghost use Rattle.q3_io.specs.Traffic.{Traffic};
 ghost use Rattle.q3_io.specs.Written.{NothingWaits};
 ghost use Rattle.q3_script.specs.Grammar.{IsInRange};
 ghost use Rattle.q3_chan.specs.Sending.{Piece, HandsOut};
@@ -80,6 +81,20 @@ pub(crate) fn tell<O: Sink>(answer: &Answer, out: &mut O) -> Result<(), NodeErro
     }
 }
 
+/// Tells the answer of a line that makes no datagram, and answers that.
+pub(crate) fn tell_line<O: Sink>(answer: &Answer, out: &mut O) -> Result<bool, NodeError>
+    ensures told { (traffic : Option Traffic) → Tells (Some (answered_of answer.now)) None (O.written out.old) (O.written out.new) traffic traffic result }
+    ensures files { (told : Option Told) → DoesActs told told [] result }
+    ensures only { IfErr result (λ e. e ≡ NodeError.WriteFault) }
+    ensures flushed { OnOk result (NothingWaits (O.written out.new)) }
+    ensures wire_cause { (faults : ℕ) → WireCause faults faults result }
+    ensures write_cause { WriteCause (O.faults out.old) (O.faults out.new) result }
+    ensures file_cause { (faults : ℕ) → FileCause faults faults result }
+{
+    tell(answer, out)?;
+    Ok(false)
+}
+
 /// Sends what was handed out, if anything was, to an address, if there is one, and then tells the answer. Answers whether it sent any.
 pub(crate) fn hand_over<W: Wire, O: Sink>(
     to: Option<Address>,
@@ -93,6 +108,7 @@ pub(crate) fn hand_over<W: Wire, O: Sink>(
     ensures told { (piece : Option Piece) → HandsOut piece made.now.items
         → Tells (Some (answered_of answer.now)) (parcel_to to piece) (O.written out.old) (O.written out.new) (W.told wire.old) (W.told wire.new) result }
     ensures files { (told : Option Told) → DoesActs told told [] result }
+    ensures memory { IsErrOf result NodeError.NoMemory → ⊥ }
     ensures flushed { OnOk result (NothingWaits (O.written out.new)) }
     ensures wire_cause { WireCause (W.faults wire.old) (W.faults wire.new) result }
     ensures write_cause { WriteCause (O.faults out.old) (O.faults out.new) result }

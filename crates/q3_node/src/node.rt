@@ -51,7 +51,16 @@ pub fn serve_loop<W: Wire, C: Clock, O: Sink>(
 {
     events_are_in_range();
     let mut end = ServerEnd::new(alloc, profile)?;
-    run(alloc, &mut end, events, at, &mut NullFiles, wire, clock, out)
+    run(
+        alloc,
+        &mut end,
+        events,
+        at,
+        &mut NullFiles,
+        wire,
+        clock,
+        out,
+    )
 }
 
 /// Runs a client of the server at `server`, likewise. The client is that of the first line. An arrival from another address isn't taken.
@@ -84,20 +93,7 @@ pub fn join_loop<F: Files, W: Wire, C: Clock, O: Sink>(
     ensures no_memory { IsErrOf result NodeError.NoMemory → W.bound wire.new ≡ false → wire.new ≡ wire.old }
 {
     events_are_in_range();
-    let [
-        Event::Client {
-            c,
-            challenge,
-            qport,
-            dup,
-            ..
-        },
-        ..
-    ] = events
-    else {
-        unreachable!()
-    };
-    let mut end = ClientEnd::new(alloc, profile, *c, *challenge, *qport, *dup, server)?;
+    let mut end = ClientEnd::of_script(alloc, profile, events, server)?;
     run(alloc, &mut end, events, at, files, wire, clock, out)
 }
 

@@ -4,9 +4,9 @@ ghost use Rattle.std.specs.Prelude.{◌≡◌, IfOk};
 ghost use Rattle.q3_profile.specs.Profile.{IsProfile};
 ghost use Rattle.q3_server.specs.Server.{places, new_server};
 ghost use Rattle.q3_node.specs.Running.{effects, DoesLine, WireCause, WriteCause, FileCause};
-ghost use Rattle.q3_node.specs.AtServer.{server_rules, serve};
+ghost use Rattle.q3_node.specs.AtServer.{server_rules, serve, game_done};
 
-use crate::end::{End, hand_over, tell};
+use crate::end::{End, hand_over, tell, tell_line};
 use crate::error::NodeError;
 use q3_bits::NoMemory;
 use q3_chan::Datagram;
@@ -37,7 +37,10 @@ impl Model for ServerEnd {
 impl ServerEnd {
     ghost use Rattle.std.specs.Prelude.{ℕ, true, Option, OnOk};
     ghost use Rattle.q3_io.specs.Told.{Told};
+    ghost use Rattle.q3_io.specs.Traffic.{Traffic};
     ghost use Rattle.q3_io.specs.Written.{NothingWaits};
+    ghost use Rattle.q3_script.specs.Grammar.{IsInRange};
+    ghost use Rattle.q3_ends.specs.AtServer.{server_line};
 
     /// A server by this profile, with no client. `Err` is want of memory.
     pub(crate) fn new(alloc: Global, profile: &Profile) -> Result<ServerEnd, NoMemory>
@@ -77,6 +80,22 @@ impl ServerEnd {
         };
         hand_over(to, &made, &answer, wire, out)
     }
+
+    /// Does a line of the game, if it is one, and tells its answer.
+    fn game_line<O: Sink>(&mut self, event: &Event, out: &mut O) -> Result<bool, NodeError>
+        requires event { IsInRange event.now }
+        ensures does { (wire : Option Traffic) (told : Option Told) → DoesLine (game_done self.old (server_line self.old event.now)) self.new
+            (effects (O.written out.old) wire told) (effects (O.written out.new) wire told) result }
+        ensures flushed { NothingWaits (O.written out.old) → OnOk result (NothingWaits (O.written out.new)) }
+        ensures wire_cause { (faults : ℕ) → WireCause faults faults result }
+        ensures write_cause { WriteCause (O.faults out.old) (O.faults out.new) result }
+        ensures file_cause { (faults : ℕ) → FileCause faults faults result }
+    {
+        let Some(handed) = server_line(&mut self.server, event) else {
+            return Ok(false);
+        };
+        tell_line(&Answer::HandedIn(handed), out)
+    }
 }
 
 impl End for ServerEnd {
@@ -101,16 +120,10 @@ impl End for ServerEnd {
                 ..
             } => {
                 let outcome = self.server.add_client(*c, *challenge, *qport, *address);
-                tell(&Answer::HandedIn(HandedIn::Client { c: *c, outcome }), out)?;
-                Ok(false)
+                tell_line(&Answer::HandedIn(HandedIn::Client { c: *c, outcome }), out)
             }
             Event::Serve { c } => self.serve(*c, number, wire, out),
-            _ => {
-                if let Some(handed) = server_line(&mut self.server, event) {
-                    tell(&Answer::HandedIn(handed), out)?;
-                }
-                Ok(false)
-            }
+            _ => self.game_line(event, out),
         }
     }
 

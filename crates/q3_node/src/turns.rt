@@ -140,7 +140,16 @@ pub(crate) fn run_turns<E: End, F: Files, W: Wire, C: Clock, O: Sink>(
     let mut file = 0;
     for _ in 0..MOST_TURNS {
         if turn(
-            alloc, end, events, &mut course, buffer, &mut file, files, wire, clock, out,
+            alloc,
+            end,
+            events,
+            &mut course,
+            buffer,
+            &mut file,
+            files,
+            wire,
+            clock,
+            out,
         )? {
             return Ok(());
         }

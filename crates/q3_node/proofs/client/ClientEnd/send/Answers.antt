@@ -1,0 +1,5 @@
+use Rattle.std.proofs.Common.{rules}
+use Rattle.q3_node.proofs.client.ClientEnd.send.Goals as goal
+
+pub returns-clause-does : goal.returns-clause-does
+returns-clause-does g c = λ told. let files = c.hand_over.ensures.files told in search rules
