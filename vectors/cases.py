@@ -6,7 +6,7 @@ import pathlib
 import sys
 
 # the folders beside this file whose cases need peers: check-nodes runs them, and check the others
-WITH_PEERS = {'server-and-client'}
+WITH_PEERS = {'server-and-client', 'recording-clients'}
 
 
 def command_line(text, with_peers):
