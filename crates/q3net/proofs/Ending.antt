@@ -6,7 +6,7 @@ use Rattle.q3_io.specs.declared.address.Address.{Address}
 use Rattle.q3_io.specs.Laws.{TextsFollow}
 use Rattle.q3_io.specs.Traffic.{Traffic}
 use Rattle.q3_io.specs.Written.{Written, Wrote}
-use Rattle.q3_node.specs.Node.{Turn, text_of, answer_text}
+use Rattle.q3_node.specs.Node.{Turn, answer_text}
 use Rattle.q3net.specs.declared.fault.Fault.{Fault}
 use Rattle.q3net.specs.declared.fault.Fault.TheVariants as faults
 use Rattle.q3net.specs.Command.{Command}

@@ -33,7 +33,7 @@ use Rattle.q3net.specs.Command.{Command, Serve, Join}
 use Rattle.q3net.specs.Faults.{Gets, IsOutside, node_fault, ReadCause, WriteCause, FileCause, WireCause}
 use Rattle.q3net.specs.Input.{IsFront, Holds, looked_up, created, LeavesTold, LeavesFirst, LooksUpTold, LooksUpFirst, Touches, Gives}
 use Rattle.q3net.specs.Verdict.{Verdict, Outside, IsVerdict, memory_by, names_by, profile_in, events_in, ending_of, noded, served, client_turns, joined, GetsFrom}
-use Rattle.q3net.specs.Run.{ComesBehind, place_of, StopsIn, ExecutesWired, LeavesFiles, MayBind}
+use Rattle.q3net.specs.Run.{ComesBehind, place_of, ExecutesWired, LeavesFiles, MayBind}
 use Rattle.q3net.proofs.Loading.{held}
 use Rattle.q3net.proofs.Acting.{none_on, both_on, first_more, all_left, first_left}
 use Rattle.q3net.proofs.Looking.{got_ok, gave, gave_first, came_outside, profile_names}
@@ -348,15 +348,19 @@ ran_failed follow told command profile script at turns clock before after node.N
       inl (
         text_of ran.first,
         inr (faults.NoMemory, refl, memory_behind (want_memory turns) (text_of ran.first) (text_of turns) (last_wants turns ran.first ran.rest ran.last ran.whole ran.stops.0) front),
-        inr (inr (faults.NoMemory, refl, record {
-          first = ran.first;
-          last = ran.last;
-          rest = ran.rest;
-          whole = ran.whole;
-          stops = ran.stops.0;
-          printed = refl;
-          wire = ap (λ (x : Effects). x.wire) stays ∙ (ran.passed.wire ∙ ap (λ (w : Option Traffic). wire_behind w ran.first) bound);
-        })),
+        inr (inr (
+          faults.NoMemory,
+          refl,
+          record {
+            first = ran.first;
+            last = ran.last;
+            rest = ran.rest;
+            whole = ran.whole;
+            stops = ran.stops.0;
+            printed = refl;
+            wire = ap (λ (x : Effects). x.wire) stays ∙ (ran.passed.wire ∙ ap (λ (w : Option Traffic). wire_behind w ran.first) bound);
+          },
+        )),
         printed_first ran.first before ran.mid after.written ran.passed (ap (λ (x : Effects). x.written) stays),
         flushed,
       ),
@@ -369,15 +373,19 @@ ran_failed follow told command profile script at turns clock before after node.W
       inl (
         text_of ran.first,
         inr (faults.Wire, refl, front),
-        inr (inr (faults.Wire, refl, record {
-          first = ran.first;
-          last = ran.last;
-          rest = ran.rest;
-          whole = ran.whole;
-          stops = ran.stops.0;
-          printed = refl;
-          wire = ap (λ (x : Effects). x.wire) stays ∙ (ran.passed.wire ∙ ap (λ (w : Option Traffic). wire_behind w ran.first) bound);
-        })),
+        inr (inr (
+          faults.Wire,
+          refl,
+          record {
+            first = ran.first;
+            last = ran.last;
+            rest = ran.rest;
+            whole = ran.whole;
+            stops = ran.stops.0;
+            printed = refl;
+            wire = ap (λ (x : Effects). x.wire) stays ∙ (ran.passed.wire ∙ ap (λ (w : Option Traffic). wire_behind w ran.first) bound);
+          },
+        )),
         printed_first ran.first before ran.mid after.written ran.passed (ap (λ (x : Effects). x.written) stays),
         flushed,
       ),
@@ -411,15 +419,19 @@ ran_failed follow told command profile script at turns clock before after node.F
       inl (
         text_of ran.first,
         inr (faults.FileWrite, refl, writes_some (acts_of turns) (text_of ran.first) (text_of turns) (last_acts turns ran.first ran.rest ran.last ran.whole ran.stops.0) front),
-        inr (inr (faults.FileWrite, refl, record {
-          first = ran.first;
-          last = ran.last;
-          rest = ran.rest;
-          whole = ran.whole;
-          stops = ran.stops.0;
-          printed = refl;
-          wire = ran.stops.2 ∙ ap (λ (w : Option Traffic). wire_behind w (ran.last ∷ [])) (ran.passed.wire ∙ ap (λ (w : Option Traffic). wire_behind w ran.first) bound);
-        })),
+        inr (inr (
+          faults.FileWrite,
+          refl,
+          record {
+            first = ran.first;
+            last = ran.last;
+            rest = ran.rest;
+            whole = ran.whole;
+            stops = ran.stops.0;
+            printed = refl;
+            wire = ran.stops.2 ∙ ap (λ (w : Option Traffic). wire_behind w (ran.last ∷ [])) (ran.passed.wire ∙ ap (λ (w : Option Traffic). wire_behind w ran.first) bound);
+          },
+        )),
         printed_first ran.first before ran.mid after.written ran.passed ran.stops.1,
         flushed,
       ),
@@ -582,12 +594,15 @@ node_wire_cause before now node.WriteFault cause = cause
 node_wire_cause before now node.FileFault cause = cause
 node_wire_cause before now node.Turns cause = cause
 
-pub node_file_cause : (before now : ℕ) (e : NodeError) → NodeFileCause {T = Unit {0}} before now (Err e) → FileCause before now (Err (node_fault e))
-node_file_cause before now node.NoMemory cause = cause
-node_file_cause before now node.WireFault cause = cause
-node_file_cause before now node.WriteFault cause = cause
-node_file_cause before now node.FileFault cause = cause
-node_file_cause before now node.Turns cause = cause
+by_file : (before now : ℕ) (e : NodeError) → NodeFileCause {T = Unit {0}} before now (Err e) → FileCause before now (Err (node_fault e))
+by_file before now node.NoMemory cause = cause
+by_file before now node.WireFault cause = cause
+by_file before now node.WriteFault cause = cause
+by_file before now node.FileFault cause = cause
+by_file before now node.Turns cause = cause
+
+pub node_file_cause : (before mid now : ℕ) (e : NodeError) → mid ≡ before → NodeFileCause {T = Unit {0}} mid now (Err e) → FileCause before now (Err (node_fault e))
+node_file_cause before mid now e same cause = by_file before now e (subst (λ (count : ℕ). NodeFileCause {T = Unit {0}} count now (Err e)) same cause)
 
 -- a part that reads a file fails by no write
 pub part_file_cause : {A : Type 0} (said : Result A Fault) (e : Fault) (before now : ℕ) → Gets said (Err e) → (said ≡ Err faults.FileWrite → ⊥) → now ≡ before → FileCause before now (Err e)

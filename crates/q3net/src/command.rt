@@ -6,8 +6,8 @@ ghost use Rattle.q3_text.specs.Decimals.{number_at};
 ghost use Rattle.q3net.specs.Command.{AreDraws, MayDraw, command_of, command_value, draws_at};
 
 use q3_io::Address;
-use q3_words::read_address;
 use q3_text::decimal_within;
+use q3_words::read_address;
 
 /// How many events the generator may draw.
 const MOST_DRAWN: u32 = 65_000;

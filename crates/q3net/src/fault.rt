@@ -13,8 +13,8 @@ use q3_io::{Failed, Piece, Sink, print_all};
 use q3_node::NodeError;
 use q3_profile::{Key, ProfileError};
 use q3_script::ScriptError;
-use q3_words::LineCause;
 use q3_svmsg::{Illegible, cause_number};
+use q3_words::LineCause;
 use q3_world::StepError;
 
 /// Why a run ended early.

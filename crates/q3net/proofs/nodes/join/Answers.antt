@@ -1,12 +1,10 @@
-use Rattle.std.proofs.Common.{Some, Ok, ◌∙◌}
+use Rattle.std.proofs.Common.{Some, ◌∙◌}
 use Rattle.std.proofs.lemmas.Result.{err_from_is_err_and}
 use Rattle.q3_script.specs.declared.cause.ScriptKind.TheVariants as kinds
-use Rattle.q3_server.specs.Server.{places, new_server}
 use Rattle.q3_node.specs.Node.{new_node}
 use Rattle.q3_node.specs.Running.{effects}
-use Rattle.q3_node.specs.AtServer.{server_rules}
 use Rattle.q3_node.specs.AtClient.{client_rules}
-use Rattle.q3net.specs.Command.{Serve, Join}
+use Rattle.q3net.specs.Command.{Join}
 use Rattle.q3net.specs.Verdict.{outside, joined, profile_in, events_in}
 use Rattle.q3net.proofs.Noding.{joins, one_client, no_profile_executes, no_profile_given, no_script_executes, no_script_given, join_passed, loop_failed, loop_done, loop_left, loop_all, passed_binds, node_read_cause, node_write_cause, node_wire_cause, node_file_cause, part_file_cause, no_profile_written, no_events_written}
 use Rattle.q3net.proofs.Replaying.{both_looked}
@@ -90,7 +88,8 @@ returns-in_err-join_loop-clause-wire_cause g c =
 pub returns-in_err-join_loop-clause-file_cause : goal.returns-in_err-join_loop-clause-file_cause
 returns-in_err-join_loop-clause-file_cause g c =
     let p = err_from_is_err_and c.from_residual-in_err-join_loop.result c.from_residual-in_err-join_loop.ensures.1 in
-    rw (p.1, p.2) (node_file_cause (g.F.Files.write_faults c.args.files.now) (g.F.Files.write_faults c.join_loop.new.files) c.in_err-join_loop.field-0.0 (rw (c.in_ok-events.ensures.writes ∙ c.in_ok-profile.ensures.writes) at c.in_err-join_loop.ensures.file_cause))
+    rw (p.1, p.2) (node_file_cause (g.F.Files.write_faults c.args.files.now) (g.F.Files.write_faults c.load_events.new.files) (g.F.Files.write_faults c.join_loop.new.files) c.in_err-join_loop.field-0.0
+    (c.in_ok-events.ensures.writes ∙ c.in_ok-profile.ensures.writes) c.in_err-join_loop.ensures.file_cause)
 
 pub returns-in_err-profile-clause-file_cause : goal.returns-in_err-profile-clause-file_cause
 returns-in_err-profile-clause-file_cause g c =

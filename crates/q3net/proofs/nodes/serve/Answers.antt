@@ -82,7 +82,8 @@ returns-in_err-serve_loop-clause-wire_cause g c =
 pub returns-in_err-serve_loop-clause-file_cause : goal.returns-in_err-serve_loop-clause-file_cause
 returns-in_err-serve_loop-clause-file_cause g c =
     let p = err_from_is_err_and c.from_residual-in_err-serve_loop.result c.from_residual-in_err-serve_loop.ensures.1 in
-    rw (p.1, p.2) (node_file_cause (g.F.Files.write_faults c.args.files.now) (g.F.Files.write_faults c.load_events.new.files) c.in_err-serve_loop.field-0.0 (rw (c.in_ok-events.ensures.writes ∙ c.in_ok-profile.ensures.writes) (c.in_err-serve_loop.ensures.file_cause (g.F.Files.write_faults c.args.files.now))))
+    rw (p.1, p.2) (node_file_cause (g.F.Files.write_faults c.args.files.now) (g.F.Files.write_faults c.load_events.new.files) (g.F.Files.write_faults c.load_events.new.files) c.in_err-serve_loop.field-0.0
+    (c.in_ok-events.ensures.writes ∙ c.in_ok-profile.ensures.writes) (c.in_err-serve_loop.ensures.file_cause (g.F.Files.write_faults c.load_events.new.files)))
 
 pub returns-in_err-profile-clause-file_cause : goal.returns-in_err-profile-clause-file_cause
 returns-in_err-profile-clause-file_cause g c =

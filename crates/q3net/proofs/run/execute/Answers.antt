@@ -1,12 +1,12 @@
-use Rattle.std.proofs.Common.{Some, None, [], Err, refl}
+use Rattle.std.proofs.Common.{Some, None, [], refl}
 use Rattle.q3_make.specs.Printed.{script_text}
 use Rattle.q3_make.specs.Generated.{generated}
-use Rattle.q3net.specs.Command.{Help, Version, Replay, Make, Trial, Serve, Join, Play}
+use Rattle.q3net.specs.Command.{Help, Version, Replay, Make, Trial, Play}
 use Rattle.q3net.specs.Lines.{help_text, version_text}
 use Rattle.q3net.specs.Verdict.{outside, of_files, stops_nowhere, takes_memory}
 use Rattle.q3net.proofs.Ending.{none_executes, text_executes}
 use Rattle.q3net.proofs.Looking.{none_given, text_given}
-use Rattle.q3net.proofs.Outside.{no_file_fails, no_read_fails, no_wire_fails, wire_stays, executes_of, make_makes_nothing, trial_makes_nothing, play_makes_nothing, play_wires_nothing, replay_wires_nothing, make_wires_nothing, trial_wires_nothing, make_reads_nothing}
+use Rattle.q3net.proofs.Outside.{no_file_fails, no_read_fails, no_wire_fails, wire_stays, make_makes_nothing, trial_makes_nothing, play_makes_nothing, play_wires_nothing, replay_wires_nothing, make_wires_nothing, trial_wires_nothing, make_reads_nothing}
 use Rattle.q3net.proofs.run.execute.Goals as goal
 
 pub returns-in-None-clause-gives : goal.returns-in-None-clause-gives
