@@ -1,11 +1,10 @@
 //! Prints events as the lines of a script.
 
-ghost use Rattle.std.specs.Prelude.{◌≡◌, ◌≤◌, [], ◌∷◌, ◌++◌, length, All, codes, decimal};
+ghost use Rattle.std.specs.Prelude.{◌≤◌, [], ◌∷◌, ◌++◌, length, All, codes, decimal};
 ghost use Rattle.std.specs.List.{concat};
 ghost use Rattle.q3_io.specs.Faults.{HasCause};
 ghost use Rattle.q3_io.specs.Written.{Adds};
 ghost use Rattle.q3_clmsg.specs.Report.{move_words, spaced};
-ghost use Rattle.q3_io.specs.Print.{hex_word};
 ghost use Rattle.q3_script.specs.Grammar.{IsReplayEvent, SpellsScript};
 ghost use Rattle.q3_script.specs.Script.{longest_script, most_events};
 ghost use Rattle.q3_entity.specs.Report.{fields_text};
