@@ -1,6 +1,6 @@
 -- A node goes on turn by turn, and how it ends.
 use Rattle.std.proofs.Common.{◌≡◌, ℕ, zero, suc, ◌+◌, ◌-◌, ◌<◌, ◌≤◌, Bool, true, false, if◌then◌else◌, cond, List, [], ◌∷◌, ◌++◌, length, drop, Option, Some, None, Ok, Err, refl, sym, ap, ap₂, subst, ◌∙◌, append_assoc, true≢false, ◌||◌, arith}
-use Rattle.std.specs.List.{flat_map, list_any, count_by}
+use Rattle.std.specs.List.{count_by}
 use Rattle.std.specs.Option.{option_to_list}
 use Rattle.std.proofs.lemmas.List.{append-nil, drop-drop, length-append}
 use Rattle.std.proofs.lemmas.List.Sums.{sum_by-append}
@@ -18,7 +18,6 @@ use Rattle.q3_node.specs.declared.error.NodeError.{NodeError}
 use Rattle.q3_node.specs.declared.error.NodeError.TheVariants.{NoMemory, WireFault, WriteFault, FileFault, Turns}
 use Rattle.q3_node.specs.Node.{Rules, Node, Turn, Turned, cut_to_room, due, start_at, turn_of, turn_at, most_turns, turns_of, arrivals_after, did_end, answer_text, parcels_of, acts_of, want_memory}
 use Rattle.q3_node.specs.Running.{ToArrive, ToRead, Effects, all_acts, wire_behind, traffic_behind, Leaves, readings_behind, clock_behind, Ran, EndsIn, RanNode, RanBound, StaysFlushed, Finds, TakesTurn}
-use Rattle.q3_node.specs.Laws.{KeepsFiles}
 use Rattle.q3_node.proofs.Parts.{nothing_done}
 
 -- ---- what is still to come, before a turn
@@ -378,7 +377,7 @@ no_turn_wants rules none node (Some event) found = none node.end event (node.mad
 no_turn_wants rules none node None None = refl
 no_turn_wants rules none node None (Some parcel) = refl
 
-none_wants : {S : Type 0} (rules : Rules S) → ((end : S) (event : Event) (number : ℕ) → (rules.line end event number).memory ≡ false)
+pub none_wants : {S : Type 0} (rules : Rules S) → ((end : S) (event : Event) (number : ℕ) → (rules.line end event number).memory ≡ false)
     → (count : ℕ) (node : Node S) (readings : List ℕ) (arrivals : List (Option Parcel)) → want_memory (turns_of count rules node readings arrivals) ≡ false
 unfolding turns_of
 none_wants rules none zero node readings arrivals = refl
@@ -419,7 +418,7 @@ no_turn_acts rules none none_arrives node None None = refl
 no_turn_acts rules none none_arrives node None (Some parcel) = none_arrives node.end (cut_to_room parcel)
 
 pub keeps_files : {S : Type 0} (rules : Rules S) → ((end : S) (event : Event) (number : ℕ) → (rules.line end event number).acts ≡ []) → ((end : S) (parcel : Parcel) → (rules.arrives end parcel).acts ≡ [])
-    → KeepsFiles rules
+    → (count : ℕ) (node : Node S) (readings : List ℕ) (arrivals : List (Option Parcel)) → acts_of (turns_of count rules node readings arrivals) ≡ []
 unfolding turns_of
 keeps_files rules none none_arrives zero node readings arrivals = refl
 keeps_files {S} rules none none_arrives (suc count) node readings arrivals =

@@ -10,10 +10,10 @@ use Rattle.q3_client.specs.Sending.{emit_at}
 use Rattle.q3_report.specs.declared.answer.HandedIn.TheVariants as handed
 use Rattle.q3_report.specs.declared.answer.Front.TheVariants.{Arrive}
 use Rattle.q3_report.specs.declared.answer.TakeRefused.TheVariants.{Stranger}
-use Rattle.q3_report.specs.Answers.{Answered, Given, SentOut, Untaken, Shown}
+use Rattle.q3_report.specs.Answers.{Given, SentOut, Untaken, Shown}
 use Rattle.q3_ends.specs.AtClient.{ClientStep, type_text, add_move, showing, taken_by_client}
 use Rattle.q3_ends.specs.Recording.{RecordingState, asking, new_recording, begin_at, stop_at, note_taken}
-use Rattle.q3_node.specs.Node.{LineDone, Arrived, Rules, parcel_to}
+use Rattle.q3_node.specs.Node.{LineDone, Arrived, Rules, answers, parcel_to}
 
 -- a client, its number in its script, the address of its server, and its recording, if one goes on
 pub record ClientEnd : Type 0 where
@@ -31,12 +31,9 @@ abbrev pub client_of : Profile → Address → List Event → Option ClientEnd
 client_of profile server (events.Client c challenge qport dup address ∷ others) = Some (new_end c (new_client profile challenge qport dup) server)
 client_of profile server other = None
 
-abbrev pub answers : ClientEnd → Answered → LineDone ClientEnd
-answers end answer = record { end = end; answer = Some answer; sends = None; acts = []; memory = false }
-
 -- a command or a move is issued
 abbrev pub issued : ClientEnd → ClientStep → LineDone ClientEnd
-issued end step = answers (record end { client = step.client }) (Given step.answer)
+issued end step = answers (record end { client = step.client }) (Some (Given step.answer))
 
 -- a datagram is made, and sent to the server; it asks for whole snapshots exactly while a recording waits
 abbrev pub send : ClientEnd → ℕ → ℕ → LineDone ClientEnd
@@ -70,15 +67,15 @@ finish end =
 
 -- a line of a client's script; any other does nothing
 abbrev pub line_done : ClientEnd → Event → ℕ → LineDone ClientEnd
-line_done end (events.Client c challenge qport dup address) number = answers end (Given (handed.Client c (Ok tt)))
+line_done end (events.Client c challenge qport dup address) number = answers end (Some (Given (handed.Client c (Ok tt))))
 line_done end (events.TypeText c text) number = issued end (type_text end.client c text)
 line_done end (events.Move c one) number = issued end (add_move end.client c one)
 line_done end (events.Send c) number = send end c number
 line_done end (events.RecordTo c name) number = record_to end c name
 line_done end (events.Stop c) number = stop end c
-line_done end (events.Show c) number = answers end (Shown c (showing end.client))
+line_done end (events.Show c) number = answers end (Some (Shown c (showing end.client)))
 line_done end (events.End ms) number = finish end
-line_done end other number = record { end = end; answer = None; sends = None; acts = []; memory = false }
+line_done end other number = answers end None
 
 abbrev pub is_address : Address → Address → Bool
 is_address one other = (one.host == other.host) && (one.port == other.port)
@@ -96,4 +93,4 @@ arrived end parcel =
     else record { end = end; answer = Untaken Arrive (Stranger end.c); acts = [] }
 
 abbrev pub client_rules : Rules ClientEnd
-client_rules = record { line = line_done; arrives = arrived; recording = λ end. end.recording }
+client_rules = record { line = line_done; arrives = arrived }

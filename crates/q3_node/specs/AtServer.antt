@@ -11,13 +11,13 @@ use Rattle.q3_report.specs.declared.answer.HandedIn.TheVariants as handed
 use Rattle.q3_report.specs.declared.answer.Front.TheVariants.{Arrive}
 use Rattle.q3_report.specs.Answers.{Given, Served}
 use Rattle.q3_ends.specs.AtServer.{ServerStep, server_line, taken_by_server}
-use Rattle.q3_node.specs.Node.{LineDone, Arrived, Rules, parcel_to}
+use Rattle.q3_node.specs.Node.{LineDone, Arrived, Rules, answers, parcel_to}
 
 -- a client joins
 abbrev pub join : ServerState → ℕ → ℕ → ℕ → Address → LineDone ServerState
 join server c challenge qport address =
     let given = add_client_at server c challenge qport address in
-    record { end = given.server; answer = Some (Given (handed.Client c given.answer)); sends = None; acts = []; memory = false }
+    answers given.server (Some (Given (handed.Client c given.answer)))
 
 -- a datagram is made for a client, and sent to its address
 abbrev pub serve : ServerState → ℕ → ℕ → LineDone ServerState
@@ -33,8 +33,8 @@ serve server c number =
 
 -- a line of the game; any other does nothing
 abbrev pub game_done : ServerState → Option ServerStep → LineDone ServerState
-game_done server None = record { end = server; answer = None; sends = None; acts = []; memory = false }
-game_done server (Some step) = record { end = step.server; answer = Some (Given step.answer); sends = None; acts = []; memory = false }
+game_done server None = answers server None
+game_done server (Some step) = answers step.server (Some (Given step.answer))
 
 abbrev pub line_done : ServerState → Event → ℕ → LineDone ServerState
 line_done server (events.Client c challenge qport dup address) number = join server c challenge qport address
@@ -47,6 +47,5 @@ arrived server parcel =
     let taken = take_at server parcel.address parcel.bytes in
     record { end = taken.server; answer = taken_by_server Arrive taken; acts = [] }
 
--- and it records nothing
 abbrev pub server_rules : Rules ServerState
-server_rules = record { line = line_done; arrives = arrived; recording = λ server. None }
+server_rules = record { line = line_done; arrives = arrived }

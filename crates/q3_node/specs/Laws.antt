@@ -1,12 +1,12 @@
--- A node ends, where its clock gives it time to; and a server does nothing to files.
-use Rattle.std.specs.Prelude.{◌≡◌, ℕ, ◌+◌, ◌-◌, ◌≤◌, not, true, List, [], ◌∷◌, take, length, Option}
+-- A node ends, where its clock gives it time to; and a server does nothing to files, and wants no memory.
+use Rattle.std.specs.Prelude.{◌≡◌, ℕ, ◌+◌, ◌-◌, ◌≤◌, not, true, false, List, [], ◌∷◌, take, length, Option}
 use Rattle.std.specs.List.{count_by}
 use Rattle.q3_io.specs.Readings.{reading_of, DontFall}
 use Rattle.q3_io.specs.Traffic.{Parcel}
 use Rattle.q3_script.specs.declared.event.Event.{Event}
 use Rattle.q3_script.specs.declared.event.Event.TheVariants.{End}
 use Rattle.q3_script.specs.Grammar.{TimesRise, EndsLast}
-use Rattle.q3_node.specs.Node.{Rules, Node, Turn, start_at, turns_of, did_end, acts_of}
+use Rattle.q3_node.specs.Node.{Rules, Node, Turn, start_at, turns_of, did_end, acts_of, want_memory}
 use Rattle.q3_node.specs.Running.{readings_behind}
 
 -- the time of `end`, which is the last line
@@ -31,6 +31,7 @@ pub record EndIsDone {S : Type 0} (rules : Rules S) : Type 0 where
       → length node.left ≤ (count - behind) + lines_done (take behind (turns_of count rules node readings arrivals))
       → did_end (turns_of count rules node readings arrivals) ≡ true
 
--- none of its turns does anything to files
-abbrev pub KeepsFiles : {S : Type 0} → Rules S → Type 0
-KeepsFiles {S} rules = (count : ℕ) (node : Node S) (readings : List ℕ) (arrivals : List (Option Parcel)) → acts_of (turns_of count rules node readings arrivals) ≡ []
+-- none of its turns does anything to files, or wants memory
+pub record IsFrugal {S : Type 0} (rules : Rules S) : Type 0 where
+  pub acts : (count : ℕ) (node : Node S) (readings : List ℕ) (arrivals : List (Option Parcel)) → acts_of (turns_of count rules node readings arrivals) ≡ []
+  pub memory : (count : ℕ) (node : Node S) (readings : List ℕ) (arrivals : List (Option Parcel)) → want_memory (turns_of count rules node readings arrivals) ≡ false

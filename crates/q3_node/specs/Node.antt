@@ -11,7 +11,6 @@ use Rattle.q3_script.specs.declared.event.Event.TheVariants.{At, End}
 use Rattle.q3_report.specs.Answers.{Answered}
 use Rattle.q3_report.specs.AnswerLines.{lines_of}
 use Rattle.q3_io.specs.Acts.{FileAct}
-use Rattle.q3_ends.specs.Recording.{RecordingState}
 
 -- what an end does at a line: the end behind it, its answer, if it gives one, the datagram that it sends, if it makes one, and what it does
 -- to files; and whether it wants memory
@@ -28,11 +27,14 @@ pub record Arrived (S : Type 0) : Type 0 where
   pub answer : Answered
   pub acts : List FileAct
 
--- an end's rules: what it does at a line, where a datagram that it makes has this number, and at an arrival; and its recording, if one goes on
+-- an end's rules: what it does at a line, where a datagram that it makes has this number, and at an arrival
 pub record Rules (S : Type 0) : Type 0 where
   pub line : S → Event → ℕ → LineDone S
   pub arrives : S → Parcel → Arrived S
-  pub recording : S → Option RecordingState
+
+-- a line that makes no datagram, does nothing to files and wants no memory
+abbrev pub answers : {S : Type 0} → S → Option Answered → LineDone S
+answers end answer = record { end = end; answer = answer; sends = None; acts = []; memory = false }
 
 -- an end; the lines that are still to come, and the time that those before them said; the first reading of the clock, if one was taken;
 -- and how many datagrams were made

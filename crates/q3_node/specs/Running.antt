@@ -1,4 +1,4 @@
--- How a node runs: by its turns, over a wire, a clock and a sink.
+-- How a node runs: by its turns, over a wire, a clock, a sink and files.
 use Rattle.std.specs.Prelude.{◌≢◌, ◌≡◌, ℕ, zero, suc, ◌+◌, ◌<◌, ◌≤◌, Bool, true, false, List, [], ◌∷◌, ◌++◌, length, drop, Option, Some, None, option_map, is_some, Result, Ok, Err, OnOk, IsErrOf}
 use Rattle.std.specs.List.{count_by}
 use Rattle.q3_io.specs.declared.address.Address.{Address}

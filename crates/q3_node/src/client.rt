@@ -211,6 +211,8 @@ impl ClientEnd {
 impl End for ClientEnd {
     ghost rules = { client_rules };
 
+    ghost records = { λ end. end.recording };
+
     fn line<F: Files, W: Wire, O: Sink>(
         &mut self,
         alloc: Global,

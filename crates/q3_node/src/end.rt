@@ -7,7 +7,7 @@ ghost use Rattle.q3_io.specs.Written.{NothingWaits};
 ghost use Rattle.q3_script.specs.Grammar.{IsInRange};
 ghost use Rattle.q3_chan.specs.Sending.{Piece, HandsOut};
 ghost use Rattle.q3_report.specs.Tellings.{answered_of};
-ghost use Rattle.q3_ends.specs.Recording.{HasFile};
+ghost use Rattle.q3_ends.specs.Recording.{RecordingState, HasFile};
 ghost use Rattle.q3_node.specs.Node.{Rules, parcel_to};
 ghost use Rattle.q3_node.specs.Running.{effects, SendsParcel, PrintsAnswer, Tells, DoesActs, DoesLine, DoesArrival, WireCause, WriteCause, FileCause};
 
@@ -23,6 +23,9 @@ pub(crate) trait End {
     /// What it does.
     ghost rules: { Rules Self };
 
+    /// Its recording, if one goes on.
+    ghost records: { Self → Option RecordingState };
+
     /// Does a line of its script, and tells its answer. A datagram that it makes has this number, and is sent before it is told. `file` is
     /// the number of its recording's file, if one goes on. Answers whether it made a datagram.
     fn line<F: Files, W: Wire, O: Sink>(
@@ -37,11 +40,11 @@ pub(crate) trait End {
     ) -> Result<bool, NodeError>
         requires event { IsInRange event.now }
         requires bound { W.bound wire.old ≡ true }
-        requires file { HasFile (F.told files.old) (F.given files.old) file.old (rules.recording self.old) }
+        requires file { HasFile (F.told files.old) (F.given files.old) file.old (records self.old) }
         ensures bound { W.bound wire.new ≡ true }
         ensures does { DoesLine (rules.line self.old event.now number) self.new
             (effects (O.written out.old) (W.told wire.old) (F.told files.old)) (effects (O.written out.new) (W.told wire.new) (F.told files.new)) result }
-        ensures file { OnOk result (HasFile (F.told files.new) (F.given files.new) file.new (rules.recording self.new)) }
+        ensures file { OnOk result (HasFile (F.told files.new) (F.given files.new) file.new (records self.new)) }
         ensures flushed { NothingWaits (O.written out.old) → OnOk result (NothingWaits (O.written out.new)) }
         ensures wire_cause { WireCause (W.faults wire.old) (W.faults wire.new) result }
         ensures write_cause { WriteCause (O.faults out.old) (O.faults out.new) result }
@@ -57,10 +60,10 @@ pub(crate) trait End {
         files: &mut F,
         out: &mut O,
     ) -> Result<(), NodeError>
-        requires file { HasFile (F.told files.old) (F.given files.old) file (rules.recording self.old) }
+        requires file { HasFile (F.told files.old) (F.given files.old) file (records self.old) }
         ensures does { DoesArrival (rules.arrives self.old (record { address = from; bytes = bytes.now })) self.new
             (O.written out.old) (O.written out.new) (F.told files.old) (F.told files.new) result }
-        ensures file { OnOk result (HasFile (F.told files.new) (F.given files.new) file (rules.recording self.new)) }
+        ensures file { OnOk result (HasFile (F.told files.new) (F.given files.new) file (records self.new)) }
         ensures flushed { OnOk result (NothingWaits (O.written out.new)) }
         ensures write_cause { WriteCause (O.faults out.old) (O.faults out.new) result }
         ensures file_cause { FileCause (F.write_faults files.old) (F.write_faults files.new) result }

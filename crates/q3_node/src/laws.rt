@@ -1,6 +1,6 @@
 //! Laws of nodes, each the contract of a call that does nothing.
 
-ghost use Rattle.q3_node.specs.Laws.{EndIsDone, KeepsFiles};
+ghost use Rattle.q3_node.specs.Laws.{EndIsDone, IsFrugal};
 ghost use Rattle.q3_node.specs.AtServer.{server_rules};
 ghost use Rattle.q3_node.specs.AtClient.{client_rules};
 
@@ -11,7 +11,7 @@ pub fn end_is_done()
     ensures client { EndIsDone client_rules }
 {}
 
-/// A server does nothing to files.
-pub fn server_keeps_files()
-    ensures { KeepsFiles server_rules }
+/// A server does nothing to files, and wants no memory in its turns.
+pub fn server_is_frugal()
+    ensures { IsFrugal server_rules }
 {}

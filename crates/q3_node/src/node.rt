@@ -111,7 +111,7 @@ fn run<E: End, F: Files, W: Wire, C: Clock, O: Sink>(
     requires lines { All IsInRange events.now }
     requires few { length events.now ≤ most_events }
     requires unbound { W.bound wire.old ≡ false }
-    requires none { E.rules.recording end.old ≡ None }
+    requires none { E.records end.old ≡ None }
     ensures ran { RanBound (W.bound wire.new) E.rules (new_node end.old events.now) at (C.readings clock.old) (C.readings clock.new)
         (effects (O.written out.old) (W.told wire.old) (F.told files.old)) (effects (O.written out.new) (W.told wire.new) (F.told files.new)) result }
     ensures unbound { W.bound wire.new ≡ false → (clock.new ≡ clock.old) × (out.new ≡ out.old) }

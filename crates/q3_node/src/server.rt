@@ -1,6 +1,6 @@
 //! A server at its end of a wire.
 
-ghost use Rattle.std.specs.Prelude.{◌≡◌, IfOk};
+ghost use Rattle.std.specs.Prelude.{◌≡◌, None, IfOk};
 ghost use Rattle.q3_profile.specs.Profile.{IsProfile};
 ghost use Rattle.q3_server.specs.Server.{places, new_server};
 ghost use Rattle.q3_node.specs.Running.{effects, DoesLine, WireCause, WriteCause, FileCause};
@@ -100,6 +100,8 @@ impl ServerEnd {
 
 impl End for ServerEnd {
     ghost rules = { server_rules };
+
+    ghost records = { λ end. None };
 
     fn line<F: Files, W: Wire, O: Sink>(
         &mut self,

@@ -125,7 +125,7 @@ pub(crate) fn run_turns<E: End, F: Files, W: Wire, C: Clock, O: Sink>(
     requires lines { All IsInRange events.now }
     requires few { length events.now ≤ most_events }
     requires room { length buffer.old ≡ receive_room }
-    requires none { E.rules.recording end.old ≡ None }
+    requires none { E.records end.old ≡ None }
     ensures bound { W.bound wire.new ≡ true }
     ensures ran { RanNode E.rules (new_node end.old events.now) (C.readings clock.old) (C.readings clock.new)
         (effects (O.written out.old) (W.told wire.old) (F.told files.old)) (effects (O.written out.new) (W.told wire.new) (F.told files.new)) result }
@@ -175,11 +175,11 @@ fn turn<E: End, F: Files, W: Wire, C: Clock, O: Sink>(
     requires few { length events.now ≤ most_events }
     requires course { IsOn events.now course.old }
     requires room { length buffer.old ≡ receive_room }
-    requires file { HasFile (F.told files.old) (F.given files.old) file.old (E.rules.recording end.old) }
+    requires file { HasFile (F.told files.old) (F.given files.old) file.old (E.records end.old) }
     ensures bound { W.bound wire.new ≡ true }
     ensures room { length buffer.new ≡ length buffer.old }
     ensures course { OnOk result (IsOn events.now course.new) }
-    ensures file { OnOk result (HasFile (F.told files.new) (F.given files.new) file.new (E.rules.recording end.new)) }
+    ensures file { OnOk result (HasFile (F.told files.new) (F.given files.new) file.new (E.records end.new)) }
     ensures takes { TakesTurn E.rules (node_of end.old events.now course.old) (node_of end.new events.now course.new) (C.readings clock.old) (C.readings clock.new)
         (effects (O.written out.old) (W.told wire.old) (F.told files.old)) (effects (O.written out.new) (W.told wire.new) (F.told files.new)) result }
     ensures flushed { NothingWaits (O.written out.old) → OnOk result (NothingWaits (O.written out.new)) }
@@ -209,11 +209,11 @@ fn do_line<E: End, F: Files, W: Wire, O: Sink>(
     requires bound { W.bound wire.old ≡ true }
     requires event { IsInRange event.now }
     requires few { (course.old.next < most_events) × (course.old.made < most_events) }
-    requires file { HasFile (F.told files.old) (F.given files.old) file.old (E.rules.recording end.old) }
+    requires file { HasFile (F.told files.old) (F.given files.old) file.old (E.records end.old) }
     ensures bound { W.bound wire.new ≡ true }
     ensures next { OnOk result (course.new.next ≡ course.old.next + 1) }
     ensures made { OnOk result (course.new.made ≤ course.old.made + 1) }
-    ensures file { OnOk result (HasFile (F.told files.new) (F.given files.new) file.new (E.rules.recording end.new)) }
+    ensures file { OnOk result (HasFile (F.told files.new) (F.given files.new) file.new (E.records end.new)) }
     ensures does { (events : List EventValue) (found : Option Parcel) → DoesTurn (line_turn E.rules (node_of end.old events course.old) event.now) found (node_of end.new events course.new)
         (effects (O.written out.old) (W.told wire.old) (F.told files.old)) (effects (O.written out.new) (W.told wire.new) (F.told files.new)) result }
     ensures flushed { NothingWaits (O.written out.old) → OnOk result (NothingWaits (O.written out.new)) }
@@ -238,10 +238,10 @@ fn receive<E: End, F: Files, W: Wire, O: Sink>(
 ) -> Result<bool, NodeError>
     requires bound { W.bound wire.old ≡ true }
     requires room { length buffer.old ≡ receive_room }
-    requires file { HasFile (F.told files.old) (F.given files.old) file (E.rules.recording end.old) }
+    requires file { HasFile (F.told files.old) (F.given files.old) file (E.records end.old) }
     ensures bound { W.bound wire.new ≡ true }
     ensures room { length buffer.new ≡ length buffer.old }
-    ensures file { OnOk result (HasFile (F.told files.new) (F.given files.new) file (E.rules.recording end.new)) }
+    ensures file { OnOk result (HasFile (F.told files.new) (F.given files.new) file (E.records end.new)) }
     ensures does { (found : Option Parcel) × ((events : List EventValue) (course : CourseValue) → DoesTurn (receive_turn E.rules (node_of end.old events course) found) found (node_of end.new events course)
         (effects (O.written out.old) (W.told wire.old) (F.told files.old)) (effects (O.written out.new) (W.told wire.new) (F.told files.new)) result) }
     ensures flushed { NothingWaits (O.written out.old) → OnOk result (NothingWaits (O.written out.new)) }

@@ -9,7 +9,7 @@ ghost use Rattle.q3net.specs.Run.{ExecutesWired, LeavesFiles, MayBind};
 use crate::fault::Fault;
 use crate::input::{load_events, load_profile};
 use q3_io::{Address, Clock, Files, Sink, Wire};
-use q3_node::laws::server_keeps_files;
+use q3_node::laws::server_is_frugal;
 use q3_node::{join_loop, serve_loop};
 use q3_script::ScriptKind;
 use std::alloc::Global;
@@ -39,7 +39,7 @@ pub fn serve<F: Files, W: Wire, C: Clock, O: Sink>(
     q3_io::laws::texts_follow();
     let profile = load_profile(alloc, profile, files)?;
     let events = load_events(alloc, ScriptKind::Serve, script, files)?;
-    server_keeps_files();
+    server_is_frugal();
     serve_loop(alloc, &profile, &events, at, wire, clock, out)?;
     Ok(())
 }

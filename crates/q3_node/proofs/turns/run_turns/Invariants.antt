@@ -13,7 +13,7 @@ invariant-loop g l = record {
   bound : g.W.Wire.bound l.wire ≡ true;
   room : length l.buffer ≡ receive_room;
   on : IsOn l.events l.course;
-  file : HasFile (g.F.Files.told l.files) (g.F.Files.given l.files) l.file (g.E.End.rules.recording l.end);
+  file : HasFile (g.F.Files.told l.files) (g.F.Files.given l.files) l.file (g.E.End.records l.end);
   flushed : NothingWaits (g.O.Sink.written l.initial.out) → NothingWaits (g.O.Sink.written l.out);
   wire : g.W.Wire.faults l.wire ≡ g.W.Wire.faults l.initial.wire;
   sink : g.O.Sink.faults l.out ≡ g.O.Sink.faults l.initial.out;

@@ -56,13 +56,13 @@ pub returns-in_err-serve_loop-clause-gives : goal.returns-in_err-serve_loop-clau
 returns-in_err-serve_loop-clause-gives g c =
     let passed = serve_passed (outside (g.F.Files.told c.args.files.now) (g.W.Wire.told c.args.wire.now) (g.C.Clock.readings c.args.clock.now)) c.args.profile.now c.args.script.now c.args.at (g.F.Files.told c.load_profile.new.files) c.in_ok-profile.profile c.in_ok-events.events.items c.in_ok-profile.ensures.gets c.in_ok-profile.ensures.gives c.in_ok-events.ensures.gets in
     served_left (outside (g.F.Files.told c.args.files.now) (g.W.Wire.told c.args.wire.now) (g.C.Clock.readings c.args.clock.now)) (Some (Serve c.args.profile.now c.args.script.now c.args.at)) c.args.profile.now c.args.script.now c.args.at (turns_of most_turns server_rules (new_node (new_server c.in_ok-profile.profile places) c.in_ok-events.events.items)) (g.F.Files.told c.load_events.new.files) _ passed
-    (both_looked (g.F.Files.told c.args.files.now) (g.F.Files.told c.load_profile.new.files) (g.F.Files.told c.load_events.new.files) c.args.profile.now c.args.script.now c.in_ok-profile.profile c.in_ok-events.events c.in_ok-profile.ensures.gives c.in_ok-events.ensures.gives) (c.server_keeps_files.ensures most_turns (new_node (new_server c.in_ok-profile.profile places) c.in_ok-events.events.items))
+    (both_looked (g.F.Files.told c.args.files.now) (g.F.Files.told c.load_profile.new.files) (g.F.Files.told c.load_events.new.files) c.args.profile.now c.args.script.now c.in_ok-profile.profile c.in_ok-events.events c.in_ok-profile.ensures.gives c.in_ok-events.ensures.gives) (c.server_is_frugal.ensures.acts most_turns (new_node (new_server c.in_ok-profile.profile places) c.in_ok-events.events.items))
 
 pub returns-clause-gives : goal.returns-clause-gives
 returns-clause-gives g c =
     let passed = serve_passed (outside (g.F.Files.told c.args.files.now) (g.W.Wire.told c.args.wire.now) (g.C.Clock.readings c.args.clock.now)) c.args.profile.now c.args.script.now c.args.at (g.F.Files.told c.load_profile.new.files) c.in_ok-profile.profile c.in_ok-events.events.items c.in_ok-profile.ensures.gets c.in_ok-profile.ensures.gives c.in_ok-events.ensures.gets in
     served_left (outside (g.F.Files.told c.args.files.now) (g.W.Wire.told c.args.wire.now) (g.C.Clock.readings c.args.clock.now)) (Some (Serve c.args.profile.now c.args.script.now c.args.at)) c.args.profile.now c.args.script.now c.args.at (turns_of most_turns server_rules (new_node (new_server c.in_ok-profile.profile places) c.in_ok-events.events.items)) (g.F.Files.told c.load_events.new.files) (Ok tt) passed
-    (both_looked (g.F.Files.told c.args.files.now) (g.F.Files.told c.load_profile.new.files) (g.F.Files.told c.load_events.new.files) c.args.profile.now c.args.script.now c.in_ok-profile.profile c.in_ok-events.events c.in_ok-profile.ensures.gives c.in_ok-events.ensures.gives) (c.server_keeps_files.ensures most_turns (new_node (new_server c.in_ok-profile.profile places) c.in_ok-events.events.items))
+    (both_looked (g.F.Files.told c.args.files.now) (g.F.Files.told c.load_profile.new.files) (g.F.Files.told c.load_events.new.files) c.args.profile.now c.args.script.now c.in_ok-profile.profile c.in_ok-events.events c.in_ok-profile.ensures.gives c.in_ok-events.ensures.gives) (c.server_is_frugal.ensures.acts most_turns (new_node (new_server c.in_ok-profile.profile places) c.in_ok-events.events.items))
 
 pub returns-in_err-serve_loop-clause-read_cause : goal.returns-in_err-serve_loop-clause-read_cause
 returns-in_err-serve_loop-clause-read_cause g c =
