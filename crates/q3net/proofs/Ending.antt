@@ -4,16 +4,17 @@ use Rattle.std.specs.Prelude.{if◌then◌else◌}
 use Rattle.std.proofs.lemmas.List.{append-nil}
 use Rattle.q3_io.specs.declared.address.Address.{Address}
 use Rattle.q3_io.specs.Laws.{TextsFollow}
-use Rattle.q3_io.specs.Traffic.{Traffic}
 use Rattle.q3_io.specs.Written.{Written, Wrote}
-use Rattle.q3_node.specs.Node.{Turn, answer_text}
+use Rattle.q3_node.specs.declared.error.NodeError.{NodeError}
+use Rattle.q3_node.specs.declared.error.NodeError.TheVariants as node
+use Rattle.q3_node.specs.Node.{Turn, text_of}
 use Rattle.q3net.specs.declared.fault.Fault.{Fault}
 use Rattle.q3net.specs.declared.fault.Fault.TheVariants as faults
 use Rattle.q3net.specs.Command.{Command}
 use Rattle.q3net.specs.Lines.{fault_status, ending_status, ending_line}
-use Rattle.q3net.specs.Faults.{Gets, FileCause}
+use Rattle.q3net.specs.Faults.{Gets, node_fault, FileCause}
 use Rattle.q3net.specs.Verdict.{Place, Nowhere, First, Anywhere, Stops, Verdict, Outside, IsVerdict, stops_nowhere, settled}
-use Rattle.q3net.specs.Run.{Comes, ComesBehind, Executes, PrintsAll, HandsOn, Took, Prints, Reports, wire_by, WiredBy, FailsBy, ExecutesWired}
+use Rattle.q3net.specs.Run.{Comes, ComesBehind, Executes, PrintsAll, HandsOn, Took, Prints, Reports, wire_by, Left, WiredBy, FailsBy, ExecutesWired}
 
 -- ---- where something may stop a command
 
@@ -144,24 +145,34 @@ failed mid now ended status is took =
       | inr more ↦ (more.0, (false, subst (λ (z : List ℕ). Wrote mid now z false) none more.1))
     ]
 
-still_fails : (at : Option Address) (turns : List Turn) (old mid now : Option Written) (told wired : Option Traffic) (all : Bool) → Wrote mid now [] all
-    → FailsBy at turns old mid told wired → FailsBy at turns old now told wired
-still_fails None turns old mid now told wired all nothing fails = fails
-still_fails (Some at) turns old mid now told wired all nothing fails = (
-  fails.0,
-  fails.1,
-  fails.2,
-  fails.3,
-  fails.4,
-  fails.5,
-  fails.6,
-  nothing_more fails.4 mid now (answer_text fails.1.answer) all fails.7 nothing,
-  fails.8,
-)
+still_fails : (at : Option Address) (turns : List Turn) (told : Outside) (old mid now : Option Written) (left : Left) (all : Bool) → Wrote mid now [] all
+    → FailsBy at turns told old mid left → FailsBy at turns told old now left
+still_fails None turns told old mid now left all nothing fails = fails
+still_fails (Some at) turns told old mid now left all nothing fails = record {
+  looked = fails.looked;
+  given = fails.given;
+  looks = fails.looks;
+  clock = fails.clock;
+  ends = record {
+    first = fails.ends.first;
+    last = fails.ends.last;
+    rest = fails.ends.rest;
+    whole = fails.ends.whole;
+    mid = fails.ends.mid;
+    passed = fails.ends.passed;
+    flushed = fails.ends.flushed;
+    stops = record {
+      printed = nothing_more fails.ends.mid.written mid now (text_of (fails.ends.last ∷ [])) all fails.ends.stops.printed nothing;
+      wire = fails.ends.stops.wire;
+      files = fails.ends.stops.files;
+    };
+    read = fails.ends.read;
+  };
+}
 
-pub prints : (follow : TextsFollow) (command : Option Command) (told : Outside) (before after : ℕ) (old mid now : Option Written) (wired : Option Traffic) (ended : Result (Unit {0}) Fault) (status : ℕ)
-    → ExecutesWired command told old mid wired ended → FileCause before after ended → Took ended (ending_line ended) mid now status → Prints command told before after old now wired status
-prints follow command told before after old mid now wired ended status executes cause took =
+pub prints : (follow : TextsFollow) (command : Option Command) (told : Outside) (before after : ℕ) (old mid now : Option Written) (left : Left) (ended : Result (Unit {0}) Fault) (status : ℕ)
+    → ExecutesWired command told old mid left ended → FileCause before after ended → Took ended (ending_line ended) mid now status → Prints command told before after old now left status
+prints follow command told before after old mid now left ended status executes cause took =
     let verdict = executes.0 in
     elim executes.2 [
       | inl ends ↦ (verdict, executes.1, ended, cause, inl (ends.0, mid, ends.1, ends.2, ends.3, ends.4, took))
@@ -171,7 +182,7 @@ prints follow command told before after old mid now wired ended status executes 
             executes.1,
             ended,
             cause,
-            inr (so.0, no_more.0, nothing_more old mid now verdict.text no_more.1.0 so.1 no_more.1.1, still_fails verdict.at verdict.turns old mid now told.wire wired no_more.1.0 no_more.1.1 so.2),
+            inr (so.0, no_more.0, nothing_more old mid now verdict.text no_more.1.0 so.1 no_more.1.1, still_fails verdict.at verdict.turns told old mid now left no_more.1.0 no_more.1.1 so.2),
           )
     ]
 
@@ -193,20 +204,28 @@ none_is_done (Err e) none = absurd (no_status e none)
     no_status faults.Turns none = omega (arith, none)
     no_status (faults.Demo e) none = omega (arith, none)
 
-all_wired : (at : Option Address) (verdict : Verdict) (printed : List ℕ) (told wired : Option Traffic) → WiredBy at verdict (Ok tt) printed told wired → wired ≡ wire_by told at verdict.turns
-all_wired None verdict printed told wired by = by
-all_wired (Some at) verdict printed told wired by =
+no_early : (e : NodeError) (ended : Result (Unit {0}) Fault) → ended ≡ Ok tt → ended ≡ Err (node_fault e) → ⊥
+no_early node.NoMemory ended done is = cc
+no_early node.WireFault ended done is = cc
+no_early node.WriteFault ended done is = cc
+no_early node.FileFault ended done is = cc
+no_early node.Turns ended done is = cc
+
+all_wired : (at : Option Address) (verdict : Verdict) (printed : List ℕ) (told : Outside) (old now : Option Written) (left : Left) → WiredBy at verdict (Ok tt) printed told old now left
+    → left.wire ≡ wire_by told.wire at verdict.turns
+all_wired None verdict printed told old now left by = by
+all_wired (Some at) verdict printed told old now left by =
     elim by [
       | inl all ↦ all.1
       | inr early ↦ elim early [
         | inl before ↦ absurd before.0
-        | inr stops ↦ absurd (let no : Ok tt ≡ Err stops.0 = stops.1 in cc)
+        | inr stops ↦ absurd (no_early stops.0 (Ok tt) refl stops.1)
       ]
     ]
 
-done_reports : (follow : TextsFollow) (command : Option Command) (told : Outside) (old mid now : Option Written) (wired : Option Traffic)
-    → ExecutesWired command told old mid wired (Ok tt) → HandsOn mid now [] → Reports command told old now wired
-done_reports follow command told old mid now wired executes hands =
+done_reports : (follow : TextsFollow) (command : Option Command) (told : Outside) (old mid now : Option Written) (left : Left)
+    → ExecutesWired command told old mid left (Ok tt) → HandsOn mid now [] → Reports command told old now left.wire
+done_reports follow command told old mid now left executes hands =
     let verdict = executes.0 in
     elim executes.2 [
       | inl ends ↦ elim ends.1 [
@@ -215,20 +234,20 @@ done_reports follow command told old mid now wired executes hands =
           executes.1,
           sym said.0,
           (follow.more ends.3 hands.0 (sym said.1 ∙ sym (append-nil ends.0)), hands.1),
-          all_wired verdict.at verdict ends.0 told.wire wired ends.2,
+          all_wired verdict.at verdict ends.0 told old mid left ends.2,
         )
         | inr stopped ↦ absurd (let no : Ok tt ≡ Err stopped.0 = stopped.1 in cc)
       ]
       | inr failed ↦ absurd (let no : Ok tt ≡ Err faults.Write = failed.0 in cc)
     ]
 
-pub reports : (follow : TextsFollow) (command : Option Command) (told : Outside) (old mid now : Option Written) (wired : Option Traffic) (ended : Result (Unit {0}) Fault) (status : ℕ)
-    → ExecutesWired command told old mid wired ended → Took ended (ending_line ended) mid now status → status ≡ 0 → Reports command told old now wired
-reports follow command told old mid now wired ended status executes took none =
+pub reports : (follow : TextsFollow) (command : Option Command) (told : Outside) (old mid now : Option Written) (left : Left) (ended : Result (Unit {0}) Fault) (status : ℕ)
+    → ExecutesWired command told old mid left ended → Took ended (ending_line ended) mid now status → status ≡ 0 → Reports command told old now left.wire
+reports follow command told old mid now left ended status executes took none =
     elim took [
       | inl all ↦ (
           let done = none_is_done ended (sym all.0 ∙ none) in
-          done_reports follow command told old mid now wired (subst (λ (e : Result (Unit {0}) Fault). ExecutesWired command told old mid wired e) done executes)
+          done_reports follow command told old mid now left (subst (λ (e : Result (Unit {0}) Fault). ExecutesWired command told old mid left e) done executes)
           (subst (λ (e : Result (Unit {0}) Fault). HandsOn mid now (ending_line e)) done all.1)
           )
       | inr front ↦ absurd (omega (arith, front.0, none))

@@ -1,11 +1,9 @@
 -- How a node ends: a server, or a client, over a wire.
-use Rattle.std.proofs.Common.{◌≡◌, ℕ, Bool, true, false, List, [], ◌∷◌, ◌++◌, Option, Some, None, Result, Ok, Err, refl, sym, ap, subst, ◌∙◌, append_assoc, inl, inr, arith, ◌≢◌, ◌||◌, map, ap₂, cond, drop}
-use Rattle.std.specs.List.{flat_map, count_by}
-use Rattle.std.specs.Option.{option_to_list}
+use Rattle.std.proofs.Common.{◌≡◌, ℕ, Bool, true, false, List, [], ◌∷◌, ◌++◌, Option, Some, None, Result, Ok, Err, refl, sym, ap, subst, ◌∙◌, append_assoc, inl, inr, arith, ◌≢◌, ◌||◌, map}
+use Rattle.std.specs.List.{flat_map}
 use Rattle.std.proofs.lemmas.Grind.{flat_map-append}
-use Rattle.std.proofs.lemmas.List.{append-nil, drop-drop}
+use Rattle.std.proofs.lemmas.List.{append-nil}
 use Rattle.std.proofs.lemmas.List.Folds.{list_any-append}
-use Rattle.std.proofs.lemmas.List.Sums.{sum_by-append}
 use Rattle.q3_bits.specs.ResultBind.{◌>>=◌}
 use Rattle.q3_io.specs.declared.address.Address.{Address}
 use Rattle.q3_io.specs.Laws.{TextsFollow}
@@ -23,17 +21,17 @@ use Rattle.q3_script.specs.Grammar.{IsOneClient}
 use Rattle.q3_server.specs.Server.{places, new_server}
 use Rattle.q3_node.specs.declared.error.NodeError.{NodeError}
 use Rattle.q3_node.specs.declared.error.NodeError.TheVariants as node
-use Rattle.q3_node.specs.Node.{Turn, Node, Rules, most_turns, new_node, turns_of, did_end, answer_text, text_of, parcels_of, acts_of, want_memory}
+use Rattle.q3_node.specs.Node.{Turn, Node, Rules, most_turns, new_node, turns_of, did_end, answer_text, text_of, acts_of, want_memory}
 use Rattle.q3_node.specs.AtServer.{server_rules}
 use Rattle.q3_node.specs.AtClient.{ClientEnd, client_of, client_rules}
-use Rattle.q3_node.specs.Running.{ToArrive, ToRead, Effects, effects, all_acts, failed_act, at_bound, traffic_behind, wire_behind, Leaves, Ran, RanBound, StaysFlushed, WireCause as NodeWireCause, WriteCause as NodeWriteCause, FileCause as NodeFileCause}
+use Rattle.q3_node.specs.Running.{ToArrive, ToRead, Effects, effects, all_acts, failed_act, at_bound, Leaves, Passes, StopsBy, EndsIn, Ran, RanBound, StaysFlushed, WireCause as NodeWireCause, WriteCause as NodeWriteCause, FileCause as NodeFileCause}
 use Rattle.q3net.specs.declared.fault.Fault.{Fault}
 use Rattle.q3net.specs.declared.fault.Fault.TheVariants as faults
 use Rattle.q3net.specs.Command.{Command, Serve, Join}
-use Rattle.q3net.specs.Faults.{Gets, IsOutside, node_fault, ReadCause, WriteCause, FileCause, WireCause}
+use Rattle.q3net.specs.Faults.{Gets, node_fault, ReadCause, WriteCause, FileCause, WireCause}
 use Rattle.q3net.specs.Input.{IsFront, Holds, looked_up, created, LeavesTold, LeavesFirst, LooksUpTold, LooksUpFirst, Touches, Gives}
 use Rattle.q3net.specs.Verdict.{Verdict, Outside, IsVerdict, memory_by, names_by, profile_in, events_in, ending_of, noded, served, client_turns, joined, GetsFrom}
-use Rattle.q3net.specs.Run.{ComesBehind, place_of, ExecutesWired, LeavesFiles, MayBind}
+use Rattle.q3net.specs.Run.{ComesBehind, place_of, left_so, EndsEarly, IsBeforehand, ExecutesWired, LeavesFiles, MayBind}
 use Rattle.q3net.proofs.Loading.{held}
 use Rattle.q3net.proofs.Acting.{none_on, both_on, first_more, all_left, first_left}
 use Rattle.q3net.proofs.Looking.{got_ok, gave, gave_first, came_outside, profile_names}
@@ -119,15 +117,15 @@ one_client profile server other is = absurd is
 -- ---- before it ran
 
 -- by what the input says
-noded_refused : (follow : TextsFollow) (command : Option Command) (told : Outside) (old : Option Written) (names : List (List ℕ)) (at : Address) (answer : Result (List Turn) Fault) (e : Fault) → answer ≡ Err e
-    → IsVerdict told command (noded names at answer) → ExecutesWired command told old old told.wire (Err e)
+noded_refused : {files : Option Told} (follow : TextsFollow) (command : Option Command) (told : Outside) (old : Option Written) (names : List (List ℕ)) (at : Address) (answer : Result (List Turn) Fault) (e : Fault) → answer ≡ Err e
+    → IsVerdict told command (noded names at answer) → ExecutesWired command told old old (left_so told.wire files) (Err e)
 noded_refused follow command told old names at answer e refuses is =
     (noded names at (Err e), subst (λ (a : Result (List Turn) Fault). IsVerdict told command (noded names at a)) refuses is, inl ([], inl (refl, refl), refl, follow.none, tt))
 
 -- where memory ran out, a read failed, or the wire did before an address was bound
-comes_before : (command : Option Command) (told : Outside) (names : List (List ℕ)) (at : Address) (answer : Result (List Turn) Fault) (fault : Fault) → IsOutside fault
+comes_before : {files : Option Told} (command : Option Command) (told : Outside) (names : List (List ℕ)) (at : Address) (answer : Result (List Turn) Fault) (fault : Fault) → IsBeforehand (Err fault)
     → ComesBehind (place_of (noded names at answer).stops fault) [] (noded names at answer).text → (follow : TextsFollow) (old : Option Written) → IsVerdict told command (noded names at answer)
-    → ExecutesWired command told old old told.wire (Err fault)
+    → ExecutesWired command told old old (left_so told.wire files) (Err fault)
 comes_before command told names at (Ok turns) fault outside comes follow old is =
     (noded names at (Ok turns), is, inl ([], inr (fault, refl, comes), inr (inl (outside, refl, refl)), follow.none, λ nothing. nothing))
 comes_before command told names at (Err e) fault outside comes follow old is =
@@ -146,20 +144,20 @@ noded_reads names at (Ok turns) = refl
 noded_reads names at (Err e) = refl
 
 -- a part that reads a file ended it
-pub part_executes : {A : Type 0} (follow : TextsFollow) (command : Option Command) (told : Outside) (old : Option Written) (names : List (List ℕ)) (at : Address) (answer : Result (List Turn) Fault)
-    (said : Result A Fault) (e : Fault) → IsVerdict told command (noded names at answer) → (said ≡ Err e → answer ≡ Err e) → Gets said (Err e) → ExecutesWired command told old old told.wire (Err e)
-part_executes follow command told old names at answer said e is so gets =
+pub part_executes : {A : Type 0} {files : Option Told} (follow : TextsFollow) (command : Option Command) (told : Outside) (old : Option Written) (names : List (List ℕ)) (at : Address) (answer : Result (List Turn) Fault)
+    (said : Result A Fault) (e : Fault) → IsVerdict told command (noded names at answer) → (said ≡ Err e → answer ≡ Err e) → Gets said (Err e) → ExecutesWired command told old old (left_so told.wire files) (Err e)
+part_executes {files} follow command told old names at answer said e is so gets =
     elim gets [
       | inl by_input ↦ noded_refused follow command told old names at answer e (so (sym by_input)) is
       | inr outside ↦ elim outside [
         | inl memory ↦ (
             let so : e ≡ faults.NoMemory = cc in
-            subst (λ (d : Fault). ExecutesWired command told old old told.wire (Err d)) (sym so)
+            subst (λ (d : Fault). ExecutesWired command told old old (left_so told.wire files) (Err d)) (sym so)
             (comes_before command told names at answer faults.NoMemory tt (noded_memory names at answer) follow old is)
             )
         | inr read ↦ (
             let so : e ≡ faults.Read = cc in
-            subst (λ (d : Fault). ExecutesWired command told old old told.wire (Err d)) (sym so)
+            subst (λ (d : Fault). ExecutesWired command told old old (left_so told.wire files) (Err d)) (sym so)
             (comes_before command told names at answer faults.Read tt (noded_reads names at answer) follow old is)
             )
       ]
@@ -180,8 +178,8 @@ part_given {A} said e names at answer told now gets so gives =
 
 -- ---- without a profile
 
-pub no_profile_executes : (follow : TextsFollow) (told : Outside) (command : Option Command) (kind : ScriptKind) (profile script : List ℕ) (at : Address) (turns : TurnsBy) (old : Option Written) (e : Fault)
-    → IsNodes told command kind profile script at turns → GetsFrom profile_in told.files profile (Err e) → ExecutesWired command told old old told.wire (Err e)
+pub no_profile_executes : {files : Option Told} (follow : TextsFollow) (told : Outside) (command : Option Command) (kind : ScriptKind) (profile script : List ℕ) (at : Address) (turns : TurnsBy) (old : Option Written) (e : Fault)
+    → IsNodes told command kind profile script at turns → GetsFrom profile_in told.files profile (Err e) → ExecutesWired command told old old (left_so told.wire files) (Err e)
 no_profile_executes follow told command kind profile script at turns old e nodes gets =
     let s = held told.files script in
     let readings = some_read told.clock in
@@ -205,9 +203,9 @@ no_profile_given told command kind profile script at turns now e nodes gets give
 
 -- ---- without a script
 
-pub no_script_executes : (follow : TextsFollow) (told : Outside) (command : Option Command) (kind : ScriptKind) (profile script : List ℕ) (at : Address) (turns : TurnsBy) (mid : Option Told) (by : Profile) (old : Option Written) (e : Fault)
+pub no_script_executes : {files : Option Told} (follow : TextsFollow) (told : Outside) (command : Option Command) (kind : ScriptKind) (profile script : List ℕ) (at : Address) (turns : TurnsBy) (mid : Option Told) (by : Profile) (old : Option Written) (e : Fault)
     → IsNodes told command kind profile script at turns → GetsFrom profile_in told.files profile (Ok by) → Gives (Ok by) (profile ∷ []) told.files mid → GetsFrom (events_in kind) mid script (Err e)
-    → ExecutesWired command told old old told.wire (Err e)
+    → ExecutesWired command told old old (left_so told.wire files) (Err e)
 no_script_executes follow told command kind profile script at turns mid by old e nodes passes gives gets =
     let of_script = same_held told.files mid (profile ∷ []) script gets.0 (gave by (profile ∷ []) told.files mid gives) gets.1 in
     let readings = some_read told.clock in
@@ -295,18 +293,6 @@ text_last turns first rest last is =
     ∙ flat_map-append (λ (turn : Turn). answer_text turn.answer) (first ++ (last ∷ [])) rest
     ∙ ap (λ (text : List ℕ). text ++ text_of rest) (flat_map-append (λ (turn : Turn). answer_text turn.answer) first (last ∷ []))
 
--- the wire behind turns, and then others
-behind_both : (traffic : Traffic) (turns more : List Turn) → traffic_behind (traffic_behind traffic turns) more ≡ traffic_behind traffic (turns ++ more)
-behind_both traffic turns more =
-    ap₂ (λ (arrivals : List (Option Parcel)) (sent : List Parcel). record traffic { arrivals = arrivals; sent = sent })
-    (drop-drop (count_by (λ (t : Turn). t.received) more) (count_by (λ (t : Turn). t.received) turns) traffic.arrivals
-    ∙ ap (λ (n : ℕ). drop n traffic.arrivals) (sym (sum_by-append (λ (t : Turn). cond t.received 1 0) turns more)))
-    (append_assoc traffic.sent (parcels_of turns) (parcels_of more) ∙ ap (λ (sent : List Parcel). traffic.sent ++ sent) (sym (flat_map-append (λ (t : Turn). option_to_list t.sends) turns more)))
-
-wire_both : (told : Option Traffic) (turns more : List Turn) → wire_behind (wire_behind told turns) more ≡ wire_behind told (turns ++ more)
-wire_both None turns more = refl
-wire_both (Some traffic) turns more = ap Some (behind_both traffic turns more)
-
 -- one of them wants memory, or does something to files
 last_wants : (turns first rest : List Turn) (last : Turn) → turns ≡ first ++ last ∷ rest → last.memory ≡ true → want_memory turns ≡ true
 last_wants turns first rest last is wants =
@@ -332,143 +318,96 @@ memory_behind : (wants : Bool) (printed text : List ℕ) → wants ≡ true → 
 memory_behind true printed text is front = front
 memory_behind false printed text is front = absurd cc
 
--- the text of the turns that passed
-printed_first : (first : List Turn) (before mid : Effects) (after : Option Written) → Leaves first true before mid → after ≡ mid.written → Wrote before.written after (text_of first) true
-printed_first first before mid after passed same = rw same passed.printed
+-- a node's turns, in one of which it ended early
+abbrev ends_early : (told : Outside) (turns : List Turn) (at : Address) (looked : Option Told) (given : List Named) (clock : Option (List ℕ)) (old : Option Written) (after : Effects) (e : NodeError)
+    → LeavesTold told.files looked given [] → EndsIn turns e told.clock clock (effects old (at_bound told.wire at) looked) after → EndsEarly turns at told old after.written (left_so after.wire after.files) e
+ends_early told turns at looked given clock old after e looks ends = record { looked = looked; given = given; looks = looks; clock = clock; ends = ends }
 
--- a node's loop ended early
-ran_failed : (follow : TextsFollow) (told : Outside) (command : Option Command) (profile script : List ℕ) (at : Address) (turns : List Turn) (clock : Option (List ℕ)) (before after : Effects) (e : NodeError)
-    → IsVerdict told command (of_turns profile script at turns) → before.wire ≡ at_bound told.wire at → Ran turns told.clock clock before after (Err e) → StaysFlushed {T = Unit {0}} before.written after.written (Err e)
-    → ExecutesWired command told before.written after.written after.wire (Err (node_fault e))
-ran_failed follow told command profile script at turns clock before after node.NoMemory is bound ran flushed =
-    let front = text_front turns ran.first (ran.last ∷ ran.rest) ran.whole in
-    let stays : after ≡ ran.mid = ran.stops.1 in (
+-- the text of the turns that passed
+printed_first : (turns : List Turn) (e : NodeError) (clock now : Option (List ℕ)) (before after : Effects) → (ends : EndsIn turns e clock now before after) → after.written ≡ ends.mid.written
+    → Wrote before.written after.written (text_of ends.first) true
+printed_first turns e clock now before after ends same = rw same ends.passed.printed
+
+-- a node's loop ended early, of files that only these names were given to
+ran_failed : (follow : TextsFollow) (told : Outside) (command : Option Command) (profile script : List ℕ) (at : Address) (turns : List Turn) (clock : Option (List ℕ)) (old : Option Written) (looked : Option Told)
+    (after : Effects) (e : NodeError) → IsVerdict told command (of_turns profile script at turns) → LooksUpTold told.files looked (profile ∷ script ∷ [])
+    → Ran turns told.clock clock (effects old (at_bound told.wire at) looked) after (Err e) → StaysFlushed {T = Unit {0}} old after.written (Err e)
+    → ExecutesWired command told old after.written (left_so after.wire after.files) (Err (node_fault e))
+ran_failed follow told command profile script at turns clock old looked after node.NoMemory is looks ran flushed =
+    let front = text_front turns ran.first (ran.last ∷ ran.rest) ran.whole in (
       of_turns profile script at turns,
       is,
       inl (
         text_of ran.first,
         inr (faults.NoMemory, refl, memory_behind (want_memory turns) (text_of ran.first) (text_of turns) (last_wants turns ran.first ran.rest ran.last ran.whole ran.stops.0) front),
-        inr (inr (
-          faults.NoMemory,
-          refl,
-          record {
-            first = ran.first;
-            last = ran.last;
-            rest = ran.rest;
-            whole = ran.whole;
-            stops = ran.stops.0;
-            printed = refl;
-            wire = ap (λ (x : Effects). x.wire) stays ∙ (ran.passed.wire ∙ ap (λ (w : Option Traffic). wire_behind w ran.first) bound);
-          },
-        )),
-        printed_first ran.first before ran.mid after.written ran.passed (ap (λ (x : Effects). x.written) stays),
+        inr (inr (node.NoMemory, refl, ends_early told turns at looked (map looked_up (profile ∷ script ∷ [])) clock old after node.NoMemory looks ran, refl)),
+        printed_first turns node.NoMemory told.clock clock (effects old (at_bound told.wire at) looked) after ran (ap (λ (x : Effects). x.written) ran.stops.1),
         flushed,
       ),
     )
-ran_failed follow told command profile script at turns clock before after node.WireFault is bound ran flushed =
-    let front = text_front turns ran.first (ran.last ∷ ran.rest) ran.whole in
-    let stays : after ≡ ran.mid = ran.stops.1 in (
+ran_failed follow told command profile script at turns clock old looked after node.WireFault is looks ran flushed =
+    let front = text_front turns ran.first (ran.last ∷ ran.rest) ran.whole in (
       of_turns profile script at turns,
       is,
       inl (
         text_of ran.first,
         inr (faults.Wire, refl, front),
-        inr (inr (
-          faults.Wire,
-          refl,
-          record {
-            first = ran.first;
-            last = ran.last;
-            rest = ran.rest;
-            whole = ran.whole;
-            stops = ran.stops.0;
-            printed = refl;
-            wire = ap (λ (x : Effects). x.wire) stays ∙ (ran.passed.wire ∙ ap (λ (w : Option Traffic). wire_behind w ran.first) bound);
-          },
-        )),
-        printed_first ran.first before ran.mid after.written ran.passed (ap (λ (x : Effects). x.written) stays),
+        inr (inr (node.WireFault, refl, ends_early told turns at looked (map looked_up (profile ∷ script ∷ [])) clock old after node.WireFault looks ran, refl)),
+        printed_first turns node.WireFault told.clock clock (effects old (at_bound told.wire at) looked) after ran (ap (λ (x : Effects). x.written) ran.stops.1),
         flushed,
       ),
     )
-ran_failed follow told command profile script at turns clock before after node.WriteFault is bound ran flushed =
+ran_failed follow told command profile script at turns clock old looked after node.WriteFault is looks ran flushed =
     let all = text_last turns ran.first ran.rest ran.last ran.whole in (
       of_turns profile script at turns,
       is,
       inr (
         refl,
         follow.early (text_of ran.rest) (follow.more ran.passed.printed ran.stops.printed refl) all,
-        (
-          ran.first,
-          ran.last,
-          ran.rest,
-          ran.whole,
-          ran.mid.written,
-          ran.flushed,
-          ran.passed.printed,
-          subst (λ (text : List ℕ). Wrote ran.mid.written after.written text false) (append-nil (answer_text ran.last.answer)) ran.stops.printed,
-          ran.stops.wire
-              ∙ (ap (λ (w : Option Traffic). wire_behind w (ran.last ∷ [])) (ran.passed.wire ∙ ap (λ (w : Option Traffic). wire_behind w ran.first) bound)
-              ∙ wire_both (at_bound told.wire at) ran.first (ran.last ∷ [])),
-        ),
+        ends_early told turns at looked (map looked_up (profile ∷ script ∷ [])) clock old after node.WriteFault looks ran,
       ),
     )
-ran_failed follow told command profile script at turns clock before after node.FileFault is bound ran flushed =
+ran_failed follow told command profile script at turns clock old looked after node.FileFault is looks ran flushed =
     let front = text_front turns ran.first (ran.last ∷ ran.rest) ran.whole in (
       of_turns profile script at turns,
       is,
       inl (
         text_of ran.first,
         inr (faults.FileWrite, refl, writes_some (acts_of turns) (text_of ran.first) (text_of turns) (last_acts turns ran.first ran.rest ran.last ran.whole ran.stops.0) front),
-        inr (inr (
-          faults.FileWrite,
-          refl,
-          record {
-            first = ran.first;
-            last = ran.last;
-            rest = ran.rest;
-            whole = ran.whole;
-            stops = ran.stops.0;
-            printed = refl;
-            wire = ran.stops.2 ∙ ap (λ (w : Option Traffic). wire_behind w (ran.last ∷ [])) (ran.passed.wire ∙ ap (λ (w : Option Traffic). wire_behind w ran.first) bound);
-          },
-        )),
-        printed_first ran.first before ran.mid after.written ran.passed ran.stops.1,
+        inr (inr (node.FileFault, refl, ends_early told turns at looked (map looked_up (profile ∷ script ∷ [])) clock old after node.FileFault looks ran, refl)),
+        printed_first turns node.FileFault told.clock clock (effects old (at_bound told.wire at) looked) after ran ran.stops.1,
         flushed,
       ),
     )
-ran_failed follow told command profile script at turns clock before after node.Turns is bound ran flushed =
-    let ends = sym (ending_so turns false ran.0) in (
-      of_turns profile script at turns,
-      is,
-      inl (text_of turns, inl (ends, refl), inl (ends, ran.1.leaves.wire ∙ ap (λ (w : Option Traffic). wire_behind w turns) bound), ran.1.leaves.printed, flushed),
-    )
+ran_failed follow told command profile script at turns clock old looked after node.Turns is looks ran flushed =
+    let ends = sym (ending_so turns false ran.0) in
+    (of_turns profile script at turns, is, inl (text_of turns, inl (ends, refl), inl (ends, ran.1.leaves.wire), ran.1.leaves.printed, flushed))
 
 pub loop_failed : {S : Type 0} (follow : TextsFollow) (told : Outside) (command : Option Command) (profile script : List ℕ) (at : Address) (rules : Rules S) (first : Node S) (bound : Bool)
     (clock : Option (List ℕ)) (old : Option Written) (looked : Option Told) (after : Effects) (e : NodeError) → Passed told command profile script at (turns_of most_turns rules first)
-    → RanBound bound rules first at told.clock clock (effects old told.wire looked) after (Err e) → StaysFlushed {T = Unit {0}} old after.written (Err e)
-    → ExecutesWired command told old after.written after.wire (Err (node_fault e))
-loop_failed follow told command profile script at rules first true clock old looked after e passed ran flushed =
-    ran_failed follow told command profile script at (turns_of most_turns rules first ran.0 ran.2) clock (effects old (at_bound told.wire at) looked) after e
-    (passed.is ran.0 ran.1 ran.2 (arrive_bound told.wire at ran.2 ran.3)) refl ran.4 flushed
-loop_failed follow told command profile script at rules first false clock old looked after node.NoMemory passed ran flushed =
+    → LooksUpTold told.files looked (profile ∷ script ∷ []) → RanBound bound rules first at told.clock clock (effects old told.wire looked) after (Err e) → StaysFlushed {T = Unit {0}} old after.written (Err e)
+    → ExecutesWired command told old after.written (left_so after.wire after.files) (Err (node_fault e))
+loop_failed follow told command profile script at rules first true clock old looked after e passed looks ran flushed =
+    ran_failed follow told command profile script at (turns_of most_turns rules first ran.0 ran.2) clock old looked after e (passed.is ran.0 ran.1 ran.2 (arrive_bound told.wire at ran.2 ran.3)) looks ran.4 flushed
+loop_failed follow told command profile script at rules first false clock old looked after node.NoMemory passed looks ran flushed =
     let readings = some_read told.clock in
     let arrivals = some_arrive told.wire in
     let turns = turns_of most_turns rules first readings.0 arrivals.0 in
-    rw ran.2 (comes_before command told (profile ∷ script ∷ []) at (Ok turns) faults.NoMemory tt (memory_comes (want_memory turns) (text_of turns)) follow old (passed.is readings.0 readings.1 arrivals.0 arrivals.1))
-loop_failed follow told command profile script at rules first false clock old looked after node.WireFault passed ran flushed =
+    rw ran.2 (comes_before {files = looked} command told (profile ∷ script ∷ []) at (Ok turns) faults.NoMemory tt (memory_comes (want_memory turns) (text_of turns)) follow old (passed.is readings.0 readings.1 arrivals.0 arrivals.1))
+loop_failed follow told command profile script at rules first false clock old looked after node.WireFault passed looks ran flushed =
     let readings = some_read told.clock in
     let arrivals = some_arrive told.wire in
     let turns = turns_of most_turns rules first readings.0 arrivals.0 in
-    rw ran.2 (comes_before command told (profile ∷ script ∷ []) at (Ok turns) faults.Wire tt (text_of turns, refl) follow old (passed.is readings.0 readings.1 arrivals.0 arrivals.1))
-loop_failed follow told command profile script at rules first false clock old looked after node.WriteFault passed ran flushed = absurd ran.0
-loop_failed follow told command profile script at rules first false clock old looked after node.FileFault passed ran flushed = absurd ran.0
-loop_failed follow told command profile script at rules first false clock old looked after node.Turns passed ran flushed = absurd ran.0
+    rw ran.2 (comes_before {files = looked} command told (profile ∷ script ∷ []) at (Ok turns) faults.Wire tt (text_of turns, refl) follow old (passed.is readings.0 readings.1 arrivals.0 arrivals.1))
+loop_failed follow told command profile script at rules first false clock old looked after node.WriteFault passed looks ran flushed = absurd ran.0
+loop_failed follow told command profile script at rules first false clock old looked after node.FileFault passed looks ran flushed = absurd ran.0
+loop_failed follow told command profile script at rules first false clock old looked after node.Turns passed looks ran flushed = absurd ran.0
 
 -- or with `end`
 pub loop_done : {S : Type 0} (told : Outside) (command : Option Command) (profile script : List ℕ) (at : Address) (rules : Rules S) (first : Node S) (bound : Bool)
     (clock : Option (List ℕ)) (old : Option Written) (looked : Option Told) (after : Effects) → Passed told command profile script at (turns_of most_turns rules first)
     → RanBound bound rules first at told.clock clock (effects old told.wire looked) after (Ok tt) → StaysFlushed {T = Unit {0}} old after.written (Ok tt)
-    → ExecutesWired command told old after.written after.wire (Ok tt)
+    → ExecutesWired command told old after.written (left_so after.wire after.files) (Ok tt)
 loop_done told command profile script at rules first true clock old looked after passed ran flushed =
     let turns = turns_of most_turns rules first ran.0 ran.2 in
     let ends = sym (ending_so turns true ran.4.0) in (
@@ -549,6 +488,72 @@ loop_all told command profile script at rules first true clock old looked after 
       inl (all_left told.files looked after.files (map looked_up (profile ∷ script ∷ [])) (acts_of turns) left ran.4.1.leaves.files),
     )
 loop_all told command profile script at rules first false clock old looked after passed left ran = absurd ran.0
+
+-- ---- a node that does nothing to files, and is told of none
+
+-- none of the first turns does something, nor the one behind them
+none_first : (turns first rest : List Turn) (last : Turn) → turns ≡ first ++ last ∷ rest → acts_of turns ≡ [] → (acts_of first ≡ []) × (last.acts ≡ [])
+none_first turns first rest last is none =
+    let all = sym (acts_whole turns first rest last is) ∙ none in
+    (front_none (acts_of first) (last.acts ++ acts_of rest) all, none_last (acts_of first) last.acts (acts_of rest) all)
+  where
+    front_none : (first more : List FileAct) → first ++ more ≡ [] → first ≡ []
+    front_none [] more none = refl
+    front_none (act ∷ first) more none = absurd cc
+
+with_files : Effects → Option Told → Effects
+with_files shown files = record shown { files = files }
+
+still_leaves : (turns : List Turn) (all : Bool) (before after : Effects) (files : Option Told) → acts_of turns ≡ [] → Leaves turns all before after → Leaves turns all (with_files before files) (with_files after files)
+unfolding with_files
+still_leaves turns all before after files none leaves =
+    record { printed = leaves.printed; wire = leaves.wire; files = subst (λ (acts : List FileAct). ActsOn files files acts all_acts) (sym none) (none_on files) }
+
+still_stops : (e : NodeError) (turn : Turn) (before after : Effects) (files : Option Told) → turn.acts ≡ [] → StopsBy e turn before after → StopsBy e turn (with_files before files) (with_files after files)
+unfolding with_files
+still_stops node.NoMemory turn before after files none stops = (stops.0, ap (λ (x : Effects). with_files x files) stops.1)
+still_stops node.WireFault turn before after files none stops = (stops.0, ap (λ (x : Effects). with_files x files) stops.1)
+still_stops node.WriteFault turn before after files none stops = still_leaves (turn ∷ []) false before after files (append-nil turn.acts ∙ none) stops
+still_stops node.FileFault turn before after files none stops = absurd (stops.0 none)
+still_stops node.Turns turn before after files none stops = absurd stops
+
+still_ends : (turns : List Turn) (e : NodeError) (clock now : Option (List ℕ)) (before after : Effects) (files : Option Told) → acts_of turns ≡ [] → EndsIn turns e clock now before after
+    → EndsIn turns e clock now (with_files before files) (with_files after files)
+unfolding with_files
+still_ends turns e clock now before after files none ends =
+    let both = none_first turns ends.first ends.rest ends.last ends.whole none in
+    record {
+      first = ends.first;
+      last = ends.last;
+      rest = ends.rest;
+      whole = ends.whole;
+      mid = with_files ends.mid files;
+      passed = still_leaves ends.first true before ends.mid files both.0 ends.passed;
+      flushed = ends.flushed;
+      stops = still_stops e ends.last ends.mid after files both.1 ends.stops;
+      read = ends.read;
+    }
+
+still_passes : (turns : List Turn) (clock now : Option (List ℕ)) (before after : Effects) (files : Option Told) → acts_of turns ≡ [] → Passes turns clock now before after
+    → Passes turns clock now (with_files before files) (with_files after files)
+still_passes turns clock now before after files none passes = record { leaves = still_leaves turns true before after files none passes.leaves; read = passes.read }
+
+still_ran : (turns : List Turn) (clock now : Option (List ℕ)) (before after : Effects) (files : Option Told) (result : Result (Unit {0}) NodeError) → acts_of turns ≡ [] → Ran turns clock now before after result
+    → Ran turns clock now (with_files before files) (with_files after files) result
+still_ran turns clock now before after files (Ok x) none ran = (ran.0, still_passes turns clock now before after files none ran.1)
+still_ran turns clock now before after files (Err node.Turns) none ran = (ran.0, still_passes turns clock now before after files none ran.1)
+still_ran turns clock now before after files (Err node.NoMemory) none ran = still_ends turns node.NoMemory clock now before after files none ran
+still_ran turns clock now before after files (Err node.WireFault) none ran = still_ends turns node.WireFault clock now before after files none ran
+still_ran turns clock now before after files (Err node.WriteFault) none ran = still_ends turns node.WriteFault clock now before after files none ran
+still_ran turns clock now before after files (Err node.FileFault) none ran = still_ends turns node.FileFault clock now before after files none ran
+
+pub still_bound : {S : Type 0} (rules : Rules S) (first : Node S) (at : Address) (bound : Bool) (clock now : Option (List ℕ)) (old written : Option Written) (were are : Option Traffic) (files : Option Told)
+    (result : Result (Unit {0}) NodeError) → ((readings : List ℕ) (arrivals : List (Option Parcel)) → acts_of (turns_of most_turns rules first readings arrivals) ≡ [])
+    → RanBound bound rules first at clock now (effects old were None) (effects written are None) result → RanBound bound rules first at clock now (effects old were files) (effects written are files) result
+unfolding with_files
+still_bound rules first at true clock now old written were are files result none ran =
+    (ran.0, ran.1, ran.2, ran.3, still_ran (turns_of most_turns rules first ran.0 ran.2) clock now (effects old (at_bound were at) None) (effects written are None) files result (none ran.0 ran.2) ran.4)
+still_bound rules first at false clock now old written were are files result none ran = (ran.0, ran.1, ap (λ (x : Effects). with_files x files) ran.2)
 
 -- a server does nothing to files
 pub served_left : (told : Outside) (command : Option Command) (profile script : List ℕ) (at : Address) (turns : List ℕ → List (Option Parcel) → List Turn) (looked : Option Told) (ended : Result (Unit {0}) Fault)

@@ -5,9 +5,10 @@ use Rattle.std.specs.Result.{result_map_both}
 use Rattle.q3_bits.specs.ResultBind.{◌>>=◌}
 use Rattle.std.proofs.lemmas.Bool.{cases_lt}
 use Rattle.q3_io.specs.Faults.{Rose, last_count}
+use Rattle.q3_io.specs.Told.{Told}
 use Rattle.q3_io.specs.Written.{Written}
 use Rattle.q3_io.specs.declared.address.Address.{Address}
-use Rattle.q3_io.specs.Traffic.{Parcel, Traffic}
+use Rattle.q3_io.specs.Traffic.{Parcel}
 use Rattle.q3_server.specs.Server.{places, new_server}
 use Rattle.q3_node.specs.Node.{Turn, most_turns, new_node, turns_of, did_end}
 use Rattle.q3_node.specs.AtServer.{server_rules}
@@ -29,7 +30,7 @@ use Rattle.q3net.specs.Command.{Command, Help, Version, Replay, Make, Trial, Ser
 use Rattle.q3net.specs.Faults.{demo_fault, ReadCause, WriteCause, FileCause, WireCause}
 use Rattle.q3net.specs.Lines.{help_text, version_text, fault_status, ending_status}
 use Rattle.q3net.specs.Verdict.{Stops, Verdict, Outside, IsVerdict, stops_nowhere, takes_memory, reads_first, Schedule, settled, profile_in, events_in, replayed, replay_done, names_by, summary, tried, ending_of, noded, served, client_turns, joined, played, demo_played}
-use Rattle.q3net.specs.Run.{Comes, ComesBehind, place_of, Executes, FilesFail, IsEarlyStatus, IsDecided, IsComplete, WiredBy, HandedOn, FailsBy, ExecutesWired}
+use Rattle.q3net.specs.Run.{Left, left_so, Comes, ComesBehind, place_of, Executes, FilesFail, IsEarlyStatus, IsDecided, IsComplete, WiredBy, HandedOn, FailsBy, ExecutesWired}
 use Rattle.q3net.proofs.Ending.{comes_behind, settled_writes, settled_wire}
 use Rattle.q3net.proofs.Looking.{schedules}
 use Rattle.q3net.proofs.Refusing.{OfFault, OfInput, play_refuses}
@@ -403,22 +404,22 @@ binds_nothing told (Some (Serve profile script at)) verdict nodeless is = absurd
 binds_nothing told (Some (Join profile script at server)) verdict nodeless is = absurd nodeless
 
 -- leaves the wire as it was
-pub wire_stays : (command : Option Command) (told : Outside) (old now : Option Written) (ended : Result (Unit {0}) Fault) → IsNodeless command → Executes command told old now ended
-    → ExecutesWired command told old now told.wire ended
-wire_stays command told old now ended nodeless executes =
+pub wire_stays : {files : Option Told} (command : Option Command) (told : Outside) (old now : Option Written) (ended : Result (Unit {0}) Fault) → IsNodeless command → Executes command told old now ended
+    → ExecutesWired command told old now (left_so told.wire files) ended
+wire_stays {files} command told old now ended nodeless executes =
     let none = binds_nothing told command executes.0 nodeless executes.1 in (
       executes.0,
       executes.1,
       elim executes.2 [
-        | inl done ↦ inl (done.0, done.1, subst (λ (at : Option Address). WiredBy at executes.0 ended done.0 told.wire told.wire) (sym none) refl, done.2, subst (λ (at : Option Address). HandedOn at old now) (sym none) tt)
-        | inr failed ↦ inr (failed.0, failed.1, subst (λ (at : Option Address). FailsBy at executes.0.turns old now told.wire told.wire) (sym none) refl)
+        | inl done ↦ inl (done.0, done.1, subst (λ (at : Option Address). WiredBy at executes.0 ended done.0 told old now (left_so told.wire files)) (sym none) refl, done.2, subst (λ (at : Option Address). HandedOn at old now) (sym none) tt)
+        | inr failed ↦ inr (failed.0, failed.1, subst (λ (at : Option Address). FailsBy at executes.0.turns told old now (left_so told.wire files)) (sym none) refl)
       ],
     )
 
 -- what was printed, whatever was left of the wire
-pub executes_of : (command : Option Command) (told : Outside) (old now : Option Written) (wired : Option Traffic) (ended : Result (Unit {0}) Fault) → ExecutesWired command told old now wired ended
+pub executes_of : (command : Option Command) (told : Outside) (old now : Option Written) (left : Left) (ended : Result (Unit {0}) Fault) → ExecutesWired command told old now left ended
     → Executes command told old now ended
-executes_of command told old now wired ended executes =
+executes_of command told old now left ended executes =
     (executes.0, executes.1, elim executes.2 [ inl done ↦ inl (done.0, done.1, done.3) | inr failed ↦ inr (failed.0, failed.1) ])
 
 nine_of : (ended : Result (Unit {0}) Fault) (wires wired : ℕ) → WireCause wires wired ended → ending_status ended ≡ 9 → Rose wires wired

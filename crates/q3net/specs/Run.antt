@@ -1,13 +1,15 @@
 -- How a run goes: as its verdict says, or something from outside ends it early.
-use Rattle.std.specs.Prelude.{◌≡◌, ◌≢◌, ◌⊎◌, ℕ, ◌≤◌, true, false, List, [], ◌∷◌, ◌++◌, map, take, Option, Some, None, OnOk, Result, Ok, Err, IsErr}
+use Rattle.std.specs.Prelude.{◌≡◌, ◌≢◌, ◌⊎◌, ℕ, ◌≤◌, true, false, List, [], ◌++◌, map, take, Option, Some, None, OnOk, Result, Ok, Err, IsErr}
 use Rattle.std.specs.List.{flat_map}
 use Rattle.q3_io.specs.Faults.{Rose}
 use Rattle.q3_io.specs.declared.address.Address.{Address}
 use Rattle.q3_io.specs.Acts.{FileAct, ActsOn}
-use Rattle.q3_io.specs.Told.{Told}
+use Rattle.q3_io.specs.Told.{Told, Named}
 use Rattle.q3_io.specs.Traffic.{Traffic}
-use Rattle.q3_node.specs.Node.{Turn, uses_wire, answer_text, text_of}
-use Rattle.q3_node.specs.Running.{wire_behind, at_bound}
+use Rattle.q3_node.specs.declared.error.NodeError.{NodeError}
+use Rattle.q3_node.specs.declared.error.NodeError.TheVariants as node
+use Rattle.q3_node.specs.Node.{Turn, text_of}
+use Rattle.q3_node.specs.Running.{effects, wire_behind, at_bound, EndsIn}
 use Rattle.q3_io.specs.Written.{Written, Wrote, NothingWaits}
 use Rattle.q3_report.specs.Answers.{Answered}
 use Rattle.q3_report.specs.AnswerLines.{lines_of}
@@ -15,7 +17,7 @@ use Rattle.q3_world.specs.Files.{by_files}
 use Rattle.q3_world.specs.declared.told.StepError.{StepError}
 use Rattle.q3_world.specs.declared.told.StepError.TheVariants as step
 use Rattle.q3net.specs.Command.{Command, files_of}
-use Rattle.q3net.specs.Faults.{IsOutside, IsEarly, FileCause}
+use Rattle.q3net.specs.Faults.{IsOutside, node_fault, FileCause}
 use Rattle.q3net.specs.Input.{IsFront, looked_up, created, LeavesTold, LeavesFirst, Touches}
 use Rattle.q3net.specs.Lines.{fault_status, ending_line, ending_status}
 use Rattle.q3net.specs.Verdict.{Place, Nowhere, First, Anywhere, Stops, Verdict, Outside, IsVerdict}
@@ -75,57 +77,55 @@ abbrev pub wire_by : Option Traffic → Option Address → List Turn → Option 
 wire_by told None turns = told
 wire_by told (Some at) turns = wire_behind (at_bound told at) turns
 
--- a fault that may end a node in a turn: want of memory in one that wants some, a fault of the wire in one that uses it, and of a file in
--- one that does something to files
-abbrev pub StopsTurn : Fault → Turn → Type 0
-StopsTurn NoMemory turn = turn.memory ≡ true
-StopsTurn Wire turn = uses_wire turn ≡ true
-StopsTurn FileWrite turn = turn.acts ≢ []
-StopsTurn other turn = ⊥
+-- what is told of the wire, and of the files, as a run leaves them
+pub record Left : Type 0 where
+  pub wire : Option Traffic
+  pub files : Option Told
 
--- what is told of the wire then: where a file failed, what the turn received is gone; otherwise it did nothing
-abbrev pub wire_in : Fault → Turn → Option Traffic → Option Traffic
-wire_in FileWrite turn told = wire_behind told (turn ∷ [])
-wire_in other turn told = told
+abbrev pub left_so : Option Traffic → Option Told → Left
+left_so wire files = record { wire = wire; files = files }
 
--- the node ended so in a turn, behind the first of these turns, whose text was printed
-pub record StopsIn (turns : List Turn) (fault : Fault) (bound now : Option Traffic) (text : List ℕ) : Type 0 where
-  pub first : List Turn
-  pub last : Turn
-  pub rest : List Turn
-  pub whole : turns ≡ first ++ last ∷ rest
-  pub stops : StopsTurn fault last
-  pub printed : text ≡ text_of first
-  pub wire : now ≡ wire_in fault last (wire_behind bound first)
+-- a node ended early in one of these turns, of files that only names were given to: what it printed by then, and what is left
+pub record EndsEarly (turns : List Turn) (at : Address) (told : Outside) (old now : Option Written) (left : Left) (e : NodeError) : Type 0 where
+  pub looked : Option Told
+  pub given : List Named
+  pub looks : LeavesTold told.files looked given []
+  pub clock : Option (List ℕ)
+  pub ends : EndsIn turns e told.clock clock (effects old (at_bound told.wire at) looked) (effects now left.wire left.files)
 
--- of a node all turns were had, or it ended early before an address was bound, or in one of them; of any other command the wire stays
-abbrev pub WiredBy : Option Address → Verdict → Result (Unit {0}) Fault → List ℕ → Option Traffic → Option Traffic → Type 0
-WiredBy None verdict ended printed told now = now ≡ told
-WiredBy (Some at) verdict ended printed told now =
-    ((ended ≡ verdict.ending) × (now ≡ wire_by told (Some at) verdict.turns))
-    ⊎ ((IsEarly ended × (printed ≡ []) × (now ≡ told))
-    ⊎ ((fault : Fault) × (ended ≡ Err fault) × StopsIn verdict.turns fault (at_bound told at) now printed))
+-- what may end a node before its address is bound
+abbrev pub IsBeforehand : Result (Unit {0}) Fault → Type 0
+IsBeforehand (Err NoMemory) = Unit {0}
+IsBeforehand (Err Read) = Unit {0}
+IsBeforehand (Err Wire) = Unit {0}
+IsBeforehand other = ⊥
+
+-- of a node all turns were had, or it ended early before an address was bound, or in one of them, and the text of those before was printed;
+-- of any other command the wire stays
+abbrev pub WiredBy : Option Address → Verdict → Result (Unit {0}) Fault → List ℕ → Outside → Option Written → Option Written → Left → Type 0
+WiredBy None verdict ended printed told old now left = left.wire ≡ told.wire
+WiredBy (Some at) verdict ended printed told old now left =
+    ((ended ≡ verdict.ending) × (left.wire ≡ wire_by told.wire (Some at) verdict.turns))
+    ⊎ ((IsBeforehand ended × (printed ≡ []) × (left.wire ≡ told.wire))
+    ⊎ ((e : NodeError) × (ended ≡ Err (node_fault e)) × (early : EndsEarly verdict.turns at told old now left e) × (printed ≡ text_of early.ends.first)))
 
 -- the lines of its turns were handed on, where nothing waited before
 abbrev pub HandedOn : Option Address → Option Written → Option Written → Type 0
 HandedOn None old now = Unit {0}
 HandedOn (Some at) old now = NothingWaits old → NothingWaits now
 
--- where the sink failed: in the turn behind the first of them, whose lines it took whole and handed on
-abbrev pub FailsBy : Option Address → List Turn → Option Written → Option Written → Option Traffic → Option Traffic → Type 0
-FailsBy None turns old now told wired = wired ≡ told
-FailsBy (Some at) turns old now told wired =
-    (first : List Turn) × (last : Turn) × (rest : List Turn) × (turns ≡ first ++ last ∷ rest)
-    × (mid : Option Written) × (NothingWaits old → NothingWaits mid) × Wrote old mid (text_of first) true × Wrote mid now (answer_text last.answer) false
-    × (wired ≡ wire_behind (at_bound told at) (first ++ last ∷ []))
+-- where the sink failed: in one of its turns
+abbrev pub FailsBy : Option Address → List Turn → Outside → Option Written → Option Written → Left → Type 0
+FailsBy None turns told old now left = left.wire ≡ told.wire
+FailsBy (Some at) turns told old now left = EndsEarly turns at told old now left node.WriteFault
 
--- what the sink took of a command by then, and what it left of the wire
-abbrev pub ExecutesWired : Option Command → Outside → Option Written → Option Written → Option Traffic → Result (Unit {0}) Fault → Type 0
-ExecutesWired command told old now wired ended =
+-- what the sink took of a command by then, and what it left of the wire and, where a node ended early, of the files
+abbrev pub ExecutesWired : Option Command → Outside → Option Written → Option Written → Left → Result (Unit {0}) Fault → Type 0
+ExecutesWired command told old now left ended =
     (verdict : Verdict) × IsVerdict told command verdict
-    × (((printed : List ℕ) × Ends verdict ended printed × WiredBy verdict.at verdict ended printed told.wire wired × Wrote old now printed true
+    × (((printed : List ℕ) × Ends verdict ended printed × WiredBy verdict.at verdict ended printed told old now left × Wrote old now printed true
     × HandedOn verdict.at old now)
-    ⊎ ((ended ≡ Err Write) × Wrote old now verdict.text false × FailsBy verdict.at verdict.turns old now told.wire wired))
+    ⊎ ((ended ≡ Err Write) × Wrote old now verdict.text false × FailsBy verdict.at verdict.turns told old now left))
 
 -- ---- how a run ends
 
@@ -135,13 +135,13 @@ Took ended text old now status = ((status ≡ ending_status ended) × HandsOn ol
 
 -- a run prints what its command prints, and behind that the fault line, if any, which is that of a file's write exactly where the files'
 -- count of these changed, and of which the sink may take a front; or the sink failed before, and took a front of the text; and it left of
--- the wire what goes with that
-abbrev pub Prints : Option Command → Outside → ℕ → ℕ → Option Written → Option Written → Option Traffic → ℕ → Type 0
-Prints command told before after old now wired status =
+-- the wire, and of the files, what goes with that
+abbrev pub Prints : Option Command → Outside → ℕ → ℕ → Option Written → Option Written → Left → ℕ → Type 0
+Prints command told before after old now left status =
     (verdict : Verdict) × IsVerdict told command verdict × (ended : Result (Unit {0}) Fault) × FileCause before after ended
-    × (((printed : List ℕ) × (mid : Option Written) × Ends verdict ended printed × WiredBy verdict.at verdict ended printed told.wire wired
+    × (((printed : List ℕ) × (mid : Option Written) × Ends verdict ended printed × WiredBy verdict.at verdict ended printed told old mid left
     × Wrote old mid printed true × HandedOn verdict.at old mid × Took ended (ending_line ended) mid now status)
-    ⊎ ((ended ≡ Err Write) × (status ≡ 4) × Wrote old now verdict.text false × FailsBy verdict.at verdict.turns old now told.wire wired))
+    ⊎ ((ended ≡ Err Write) × (status ≡ 4) × Wrote old now verdict.text false × FailsBy verdict.at verdict.turns told old now left))
 
 -- the verdict is that the command is done, its whole text was printed, and all its turns were had
 abbrev pub Reports : Option Command → Outside → Option Written → Option Written → Option Traffic → Type 0

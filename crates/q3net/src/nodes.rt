@@ -4,7 +4,7 @@ ghost use Rattle.std.specs.Prelude.{◌≡◌, Some, true, false};
 ghost use Rattle.q3net.specs.Command.{Serve, Join};
 ghost use Rattle.q3net.specs.Faults.{ReadCause, WriteCause, FileCause, WireCause};
 ghost use Rattle.q3net.specs.Verdict.{outside};
-ghost use Rattle.q3net.specs.Run.{ExecutesWired, LeavesFiles, MayBind};
+ghost use Rattle.q3net.specs.Run.{left_so, ExecutesWired, LeavesFiles, MayBind};
 
 use crate::fault::Fault;
 use crate::input::{load_events, load_profile};
@@ -27,10 +27,11 @@ pub fn serve<F: Files, W: Wire, C: Clock, O: Sink>(
 ) -> Result<(), Fault>
     requires unbound { W.bound wire.old ≡ false }
     ensures executes { ExecutesWired (Some (Serve profile.now script.now at)) (outside (F.told files.old) (W.told wire.old) (C.readings clock.old))
-        (O.written out.old) (O.written out.new) (W.told wire.new) result }
+        (O.written out.old) (O.written out.new) (left_so (W.told wire.new) (F.told files.new)) result }
     ensures gives { LeavesFiles (Some (Serve profile.now script.now at)) (outside (F.told files.old) (W.told wire.old) (C.readings clock.old)) (F.told files.new) result }
     ensures binds { W.bound wire.new ≡ true → MayBind (Some (Serve profile.now script.now at)) (outside (F.told files.old) (W.told wire.old) (C.readings clock.old)) }
     ensures unbound { W.bound wire.new ≡ false → clock.new ≡ clock.old }
+    ensures writes { F.write_faults files.new ≡ F.write_faults files.old }
     ensures file_cause { FileCause (F.write_faults files.old) (F.write_faults files.new) result }
     ensures read_cause { ReadCause (F.faults files.old) (F.faults files.new) result }
     ensures write_cause { WriteCause (O.faults out.old) (O.faults out.new) result }
@@ -58,7 +59,7 @@ pub fn join<F: Files, W: Wire, C: Clock, O: Sink>(
 ) -> Result<(), Fault>
     requires unbound { W.bound wire.old ≡ false }
     ensures executes { ExecutesWired (Some (Join profile.now script.now at server)) (outside (F.told files.old) (W.told wire.old) (C.readings clock.old))
-        (O.written out.old) (O.written out.new) (W.told wire.new) result }
+        (O.written out.old) (O.written out.new) (left_so (W.told wire.new) (F.told files.new)) result }
     ensures gives { LeavesFiles (Some (Join profile.now script.now at server)) (outside (F.told files.old) (W.told wire.old) (C.readings clock.old)) (F.told files.new) result }
     ensures binds { W.bound wire.new ≡ true → MayBind (Some (Join profile.now script.now at server)) (outside (F.told files.old) (W.told wire.old) (C.readings clock.old)) }
     ensures unbound { W.bound wire.new ≡ false → clock.new ≡ clock.old }

@@ -8,7 +8,7 @@ ghost use Rattle.q3net.specs.Command.{command_of};
 ghost use Rattle.q3net.specs.Faults.{ReadCause, WriteCause, FileCause, WireCause};
 ghost use Rattle.q3net.specs.Lines.{fault_line, ending_line, ending_status};
 ghost use Rattle.q3net.specs.Verdict.{outside};
-ghost use Rattle.q3net.specs.Run.{PrintsAll, ExecutesWired, Took, Prints, Reports, FilesFail, IsDecided, IsComplete, HasLeft, Touched, LeavesFiles, MayBind, Settles};
+ghost use Rattle.q3net.specs.Run.{PrintsAll, left_so, ExecutesWired, Took, Prints, Reports, FilesFail, IsDecided, IsComplete, HasLeft, Touched, LeavesFiles, MayBind, Settles};
 
 use crate::command::{Command, parse};
 use crate::demos::play;
@@ -43,9 +43,9 @@ pub fn run<F: Files, W: Wire, C: Clock, O: Sink>(
     // What was sent then are the datagrams of these turns.
     ensures report { result ≡ 0 → Reports (command_of (map string_bytes words.now)) (outside (F.told files.old) (W.told wire.old) (C.readings clock.old)) (O.written out.old) (O.written out.new) (W.told wire.new) }
     // Ended early, it is a front of that, and the fault line, `write fault` exactly where a write of the files failed;
-    // where the sink failed, a front of both. Of the wire it left what goes with that: what was sent by the turns whose lines were printed,
-    // and by the one in which the sink failed.
-    ensures prints { Prints (command_of (map string_bytes words.now)) (outside (F.told files.old) (W.told wire.old) (C.readings clock.old)) (F.write_faults files.old) (F.write_faults files.new) (O.written out.old) (O.written out.new) (W.told wire.new) result }
+    // where the sink failed, a front of both. Of the wire, and of the files, a node left what goes with that: what was sent and done by the
+    // turns whose lines were printed, and in the one in which it ended.
+    ensures prints { Prints (command_of (map string_bytes words.now)) (outside (F.told files.old) (W.told wire.old) (C.readings clock.old)) (F.write_faults files.old) (F.write_faults files.new) (O.written out.old) (O.written out.new) (left_so (W.told wire.new) (F.told files.new)) result }
 
     // The words that name files are given to `lookup`, once each and in the order in which they are read, and then the files
     // that the verdict makes are created: those into which clients record. Its acts are done, one after the other, or the
@@ -95,7 +95,7 @@ fn execute<F: Files, W: Wire, C: Clock, O: Sink>(
     out: &mut O,
 ) -> Result<(), Fault>
     requires unbound { W.bound wire.old ≡ false }
-    ensures executes { ExecutesWired (command_of (map string_bytes words.now)) (outside (F.told files.old) (W.told wire.old) (C.readings clock.old)) (O.written out.old) (O.written out.new) (W.told wire.new) result }
+    ensures executes { ExecutesWired (command_of (map string_bytes words.now)) (outside (F.told files.old) (W.told wire.old) (C.readings clock.old)) (O.written out.old) (O.written out.new) (left_so (W.told wire.new) (F.told files.new)) result }
     ensures gives { LeavesFiles (command_of (map string_bytes words.now)) (outside (F.told files.old) (W.told wire.old) (C.readings clock.old)) (F.told files.new) result }
     ensures file_cause { FileCause (F.write_faults files.old) (F.write_faults files.new) result }
     ensures read_cause { ReadCause (F.faults files.old) (F.faults files.new) result }

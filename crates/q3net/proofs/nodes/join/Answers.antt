@@ -35,7 +35,7 @@ returns-in_err-join_loop-clause-executes g c =
     let p = err_from_is_err_and c.from_residual-in_err-join_loop.result c.from_residual-in_err-join_loop.ensures.1 in
     let one = one_client c.in_ok-profile.profile c.args.server c.in_ok-events.events.items c.in_ok-events.ensures.ordered.2 in
     let passed = join_passed (outside (g.F.Files.told c.args.files.now) (g.W.Wire.told c.args.wire.now) (g.C.Clock.readings c.args.clock.now)) c.args.profile.now c.args.script.now c.args.at c.args.server (g.F.Files.told c.load_profile.new.files) c.in_ok-profile.profile c.in_ok-events.events.items one.0 one.1 c.in_ok-profile.ensures.gets c.in_ok-profile.ensures.gives c.in_ok-events.ensures.gets in
-    rw (p.1, p.2) (loop_failed c.texts_follow.ensures (outside (g.F.Files.told c.args.files.now) (g.W.Wire.told c.args.wire.now) (g.C.Clock.readings c.args.clock.now)) (Some (Join c.args.profile.now c.args.script.now c.args.at c.args.server)) c.args.profile.now c.args.script.now c.args.at client_rules (new_node one.0 c.in_ok-events.events.items) (g.W.Wire.bound c.join_loop.new.wire) (g.C.Clock.readings c.join_loop.new.clock) (g.O.Sink.written c.args.out.now) (g.F.Files.told c.load_events.new.files) (effects (g.O.Sink.written c.join_loop.new.out) (g.W.Wire.told c.join_loop.new.wire) (g.F.Files.told c.join_loop.new.files)) c.in_err-join_loop.field-0.0 passed ((rw c.deref.ensures.value at c.in_err-join_loop.ensures.ran) one.0 one.1) c.in_err-join_loop.ensures.flushed)
+    rw (p.1, p.2) (loop_failed c.texts_follow.ensures (outside (g.F.Files.told c.args.files.now) (g.W.Wire.told c.args.wire.now) (g.C.Clock.readings c.args.clock.now)) (Some (Join c.args.profile.now c.args.script.now c.args.at c.args.server)) c.args.profile.now c.args.script.now c.args.at client_rules (new_node one.0 c.in_ok-events.events.items) (g.W.Wire.bound c.join_loop.new.wire) (g.C.Clock.readings c.join_loop.new.clock) (g.O.Sink.written c.args.out.now) (g.F.Files.told c.load_events.new.files) (effects (g.O.Sink.written c.join_loop.new.out) (g.W.Wire.told c.join_loop.new.wire) (g.F.Files.told c.join_loop.new.files)) c.in_err-join_loop.field-0.0 passed (both_looked (g.F.Files.told c.args.files.now) (g.F.Files.told c.load_profile.new.files) (g.F.Files.told c.load_events.new.files) c.args.profile.now c.args.script.now c.in_ok-profile.profile c.in_ok-events.events c.in_ok-profile.ensures.gives c.in_ok-events.ensures.gives) ((rw c.deref.ensures.value at c.in_err-join_loop.ensures.ran) one.0 one.1) c.in_err-join_loop.ensures.flushed)
 
 pub returns-clause-executes : goal.returns-clause-executes
 returns-clause-executes g c =

@@ -1,4 +1,4 @@
-use Rattle.std.proofs.Common.{Some, None, Ok, ◌∙◌}
+use Rattle.std.proofs.Common.{Some, Ok, ◌∙◌}
 use Rattle.std.proofs.lemmas.Result.{err_from_is_err_and}
 use Rattle.q3_script.specs.declared.cause.ScriptKind.TheVariants as kinds
 use Rattle.q3_server.specs.Server.{places, new_server}
@@ -7,7 +7,7 @@ use Rattle.q3_node.specs.Running.{effects}
 use Rattle.q3_node.specs.AtServer.{server_rules}
 use Rattle.q3net.specs.Command.{Serve}
 use Rattle.q3net.specs.Verdict.{outside, served, profile_in, events_in}
-use Rattle.q3net.proofs.Noding.{serves, no_profile_executes, no_profile_given, no_script_executes, no_script_given, serve_passed, served_left, loop_failed, loop_done, passed_binds, node_read_cause, node_write_cause, node_wire_cause, node_file_cause, part_file_cause, no_profile_written, no_events_written}
+use Rattle.q3net.proofs.Noding.{serves, no_profile_executes, no_profile_given, no_script_executes, no_script_given, serve_passed, served_left, still_bound, loop_failed, loop_done, passed_binds, node_read_cause, node_write_cause, node_wire_cause, node_file_cause, part_file_cause, no_profile_written, no_events_written}
 use Rattle.q3net.proofs.Replaying.{both_looked}
 use Rattle.q3net.proofs.nodes.serve.Goals as goal
 
@@ -35,12 +35,12 @@ pub returns-in_err-serve_loop-clause-executes : goal.returns-in_err-serve_loop-c
 returns-in_err-serve_loop-clause-executes g c =
     let p = err_from_is_err_and c.from_residual-in_err-serve_loop.result c.from_residual-in_err-serve_loop.ensures.1 in
     let passed = serve_passed (outside (g.F.Files.told c.args.files.now) (g.W.Wire.told c.args.wire.now) (g.C.Clock.readings c.args.clock.now)) c.args.profile.now c.args.script.now c.args.at (g.F.Files.told c.load_profile.new.files) c.in_ok-profile.profile c.in_ok-events.events.items c.in_ok-profile.ensures.gets c.in_ok-profile.ensures.gives c.in_ok-events.ensures.gets in
-    rw (p.1, p.2) (loop_failed c.texts_follow.ensures (outside (g.F.Files.told c.args.files.now) (g.W.Wire.told c.args.wire.now) (g.C.Clock.readings c.args.clock.now)) (Some (Serve c.args.profile.now c.args.script.now c.args.at)) c.args.profile.now c.args.script.now c.args.at server_rules (new_node (new_server c.in_ok-profile.profile places) c.in_ok-events.events.items) (g.W.Wire.bound c.serve_loop.new.wire) (g.C.Clock.readings c.serve_loop.new.clock) (g.O.Sink.written c.args.out.now) None (effects (g.O.Sink.written c.serve_loop.new.out) (g.W.Wire.told c.serve_loop.new.wire) None) c.in_err-serve_loop.field-0.0 passed (rw c.deref.ensures.value at c.in_err-serve_loop.ensures.ran) c.in_err-serve_loop.ensures.flushed)
+    rw (p.1, p.2) (loop_failed c.texts_follow.ensures (outside (g.F.Files.told c.args.files.now) (g.W.Wire.told c.args.wire.now) (g.C.Clock.readings c.args.clock.now)) (Some (Serve c.args.profile.now c.args.script.now c.args.at)) c.args.profile.now c.args.script.now c.args.at server_rules (new_node (new_server c.in_ok-profile.profile places) c.in_ok-events.events.items) (g.W.Wire.bound c.serve_loop.new.wire) (g.C.Clock.readings c.serve_loop.new.clock) (g.O.Sink.written c.args.out.now) (g.F.Files.told c.load_events.new.files) (effects (g.O.Sink.written c.serve_loop.new.out) (g.W.Wire.told c.serve_loop.new.wire) (g.F.Files.told c.load_events.new.files)) c.in_err-serve_loop.field-0.0 passed (both_looked (g.F.Files.told c.args.files.now) (g.F.Files.told c.load_profile.new.files) (g.F.Files.told c.load_events.new.files) c.args.profile.now c.args.script.now c.in_ok-profile.profile c.in_ok-events.events c.in_ok-profile.ensures.gives c.in_ok-events.ensures.gives) (still_bound server_rules (new_node (new_server c.in_ok-profile.profile places) c.in_ok-events.events.items) c.args.at (g.W.Wire.bound c.serve_loop.new.wire) (g.C.Clock.readings c.args.clock.now) (g.C.Clock.readings c.serve_loop.new.clock) (g.O.Sink.written c.args.out.now) (g.O.Sink.written c.serve_loop.new.out) (g.W.Wire.told c.args.wire.now) (g.W.Wire.told c.serve_loop.new.wire) (g.F.Files.told c.load_events.new.files) _ (c.server_is_frugal.ensures.acts most_turns (new_node (new_server c.in_ok-profile.profile places) c.in_ok-events.events.items)) (rw c.deref.ensures.value at c.in_err-serve_loop.ensures.ran)) c.in_err-serve_loop.ensures.flushed)
 
 pub returns-clause-executes : goal.returns-clause-executes
 returns-clause-executes g c =
     let passed = serve_passed (outside (g.F.Files.told c.args.files.now) (g.W.Wire.told c.args.wire.now) (g.C.Clock.readings c.args.clock.now)) c.args.profile.now c.args.script.now c.args.at (g.F.Files.told c.load_profile.new.files) c.in_ok-profile.profile c.in_ok-events.events.items c.in_ok-profile.ensures.gets c.in_ok-profile.ensures.gives c.in_ok-events.ensures.gets in
-    loop_done (outside (g.F.Files.told c.args.files.now) (g.W.Wire.told c.args.wire.now) (g.C.Clock.readings c.args.clock.now)) (Some (Serve c.args.profile.now c.args.script.now c.args.at)) c.args.profile.now c.args.script.now c.args.at server_rules (new_node (new_server c.in_ok-profile.profile places) c.in_ok-events.events.items) (g.W.Wire.bound c.serve_loop.new.wire) (g.C.Clock.readings c.serve_loop.new.clock) (g.O.Sink.written c.args.out.now) None (effects (g.O.Sink.written c.serve_loop.new.out) (g.W.Wire.told c.serve_loop.new.wire) None) passed (rw c.deref.ensures.value at c.in_ok-serve_loop.ensures.ran) c.in_ok-serve_loop.ensures.flushed
+    loop_done (outside (g.F.Files.told c.args.files.now) (g.W.Wire.told c.args.wire.now) (g.C.Clock.readings c.args.clock.now)) (Some (Serve c.args.profile.now c.args.script.now c.args.at)) c.args.profile.now c.args.script.now c.args.at server_rules (new_node (new_server c.in_ok-profile.profile places) c.in_ok-events.events.items) (g.W.Wire.bound c.serve_loop.new.wire) (g.C.Clock.readings c.serve_loop.new.clock) (g.O.Sink.written c.args.out.now) (g.F.Files.told c.load_events.new.files) (effects (g.O.Sink.written c.serve_loop.new.out) (g.W.Wire.told c.serve_loop.new.wire) (g.F.Files.told c.load_events.new.files)) passed (still_bound server_rules (new_node (new_server c.in_ok-profile.profile places) c.in_ok-events.events.items) c.args.at (g.W.Wire.bound c.serve_loop.new.wire) (g.C.Clock.readings c.args.clock.now) (g.C.Clock.readings c.serve_loop.new.clock) (g.O.Sink.written c.args.out.now) (g.O.Sink.written c.serve_loop.new.out) (g.W.Wire.told c.args.wire.now) (g.W.Wire.told c.serve_loop.new.wire) (g.F.Files.told c.load_events.new.files) _ (c.server_is_frugal.ensures.acts most_turns (new_node (new_server c.in_ok-profile.profile places) c.in_ok-events.events.items)) (rw c.deref.ensures.value at c.in_ok-serve_loop.ensures.ran)) c.in_ok-serve_loop.ensures.flushed
 
 pub returns-in_err-serve_loop-clause-binds : goal.returns-in_err-serve_loop-clause-binds
 returns-in_err-serve_loop-clause-binds g c =
