@@ -28,3 +28,4 @@ pub mod SlotsStay
 pub mod EventKinds
 pub mod NamedRecordings
 pub mod Recorded
+pub mod NodeRecorded

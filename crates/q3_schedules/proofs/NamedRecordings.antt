@@ -1,6 +1,7 @@
 -- Recordings into the file of a name, and into others.
-use Rattle.std.proofs.Common.{◌≡◌, ◌≢◌, ℕ, List, [], ◌∷◌, ◌++◌, Option, Some, None, Ok, Err, true, false, refl, sym, ap, subst, ◌∙◌, inl, inr}
+use Rattle.std.proofs.Common.{◌≡◌, ◌≢◌, ℕ, List, [], ◌∷◌, ◌++◌, Option, Some, None, Result, Ok, Err, true, false, refl, sym, ap, subst, ◌∙◌, inl, inr}
 use Rattle.std.specs.Prelude.{◌⊎◌, if◌then◌else◌, Bool}
+use Rattle.std.specs.Result.{is_ok}
 use Rattle.std.proofs.lemmas.Bool.{cases_eq, cond_both}
 use Rattle.std.proofs.lemmas.List.{append-nil, get_or-set_other}
 use Rattle.q3_io.specs.Acts.{FileAct, Makes, after_acts}
@@ -20,7 +21,7 @@ use Rattle.q3_world.specs.Ends.{Ends, client_takes, place_at, record_of, recordi
 use Rattle.q3_world.specs.Files.{begin_acts, stop_acts, take_acts}
 use Rattle.q3_world.proofs.Filing.{SameRecordings}
 use Rattle.q3_schedules.specs.Recorded.{noted_at, noted_of}
-use Rattle.q3_schedules.proofs.NamedFiles.{SparesAll, extended, spares_extended}
+use Rattle.q3_schedules.proofs.NamedFiles.{SparesAll, extended, spared, spares_extended}
 use Rattle.q3_schedules.proofs.SlotsStay.{there}
 
 -- a recording, if one goes on, is into another file
@@ -49,7 +50,7 @@ pub stops_one : (name : List ℕ) (recording : Option RecordingState) → StaysA
 stops_one name None unnamed = (tt, tt)
 stops_one name (Some going) unnamed = (tt, spares_extended name going.name (closing going.stage) unnamed)
 
-begins_one : (name n : List ℕ) (client : ClientState) (recording : Option RecordingState) → n ≢ name
+pub begins_one : (name n : List ℕ) (client : ClientState) (recording : Option RecordingState) → n ≢ name
     → StaysApart name recording (begin_at client recording (new_recording n)).recording (begin_at client recording (new_recording n)).acts
 begins_one name n client recording ne =
     cond_both client.state.has_game (begin_new recording (new_recording n)) (record { recording = recording; answer = Err NoGame; acts = [] })
@@ -59,7 +60,7 @@ begins_one name n client recording ne =
     new None unnamed = (ne, (ne, tt))
     new (Some going) unnamed = (unnamed, tt)
 
-takes_one : (name : List ℕ) (client : ClientState) (taken : Taken) (recording : Option RecordingState)
+pub takes_one : (name : List ℕ) (client : ClientState) (taken : Taken) (recording : Option RecordingState)
     → StaysApart name recording (note_taken recording client taken).recording (note_taken recording client taken).acts
 takes_one name client taken None unnamed = (tt, tt)
 takes_one name client taken (Some going) unnamed =
@@ -67,6 +68,110 @@ takes_one name client taken (Some going) unnamed =
       cond_both took.ended None (Some (record going { stage = took.stage })) (λ (r : Option RecordingState). Unnamed name r) (λ ended. tt) (λ goes. unnamed),
       spares_extended name going.name took.bytes unnamed,
     )
+
+-- ---- one recording into the file
+
+-- it goes on, or has ended by itself
+abbrev pub SoFar : List ℕ → Stage → Option RecordingState → Type 0
+SoFar name stage recording = (recording ≡ Some (record { name = name; stage = stage })) ⊎ ((stage ≡ Ended) × Unnamed name recording)
+
+-- the file gets bytes
+abbrev pub Gets : List ℕ → List ℕ → List FileAct → Type 0
+Gets name more acts = (told : Told) (bytes : List ℕ) → contents_of told.files name ≡ Some bytes → contents_of (after_acts told acts).files name ≡ Some (bytes ++ more)
+
+pub gets_nothing : (name : List ℕ) (acts : List FileAct) → SparesAll name acts → Gets name [] acts
+gets_nothing name acts spares told bytes is = spared told name acts spares ∙ (is ∙ ap (λ (b : List ℕ). Some b) (sym (append-nil bytes)))
+
+-- what it takes is noted as the messages are that it applies
+record Notes (stage : Stage) (notes : List Noted) (took : RecorderTook) : Type 0 where
+  pub stages : took.stage ≡ (noted_from stage notes).stage
+  pub bytes : took.bytes ≡ (noted_from stage notes).bytes
+  pub over : took.ended ≡ true → took.stage ≡ Ended
+
+over_ended : (stage : Stage) → is_ended stage ≡ true → stage ≡ Ended
+over_ended Ended is = refl
+over_ended Waits is = absurd cc
+over_ended (Runs first) is = absurd cc
+
+notes_of : (stage : Stage) (client : ClientState) (taken : Taken) (answer : ClientTook) → Notes stage (noted_of client taken answer) (recorder_took stage client taken answer)
+unfolding noted_from
+notes_of stage client taken (Applied applied) = record {
+  stages = refl;
+  bytes = sym (append-nil (recorder_took stage client taken (Applied applied)).bytes);
+  over = over_ended (recorder_took stage client taken (Applied applied)).stage;
+}
+notes_of stage client taken other = record { stages = refl; bytes = refl; over = λ ended. absurd cc }
+
+-- the file gets what is noted, and the recording is so far
+pub record OneGoesOn (name : List ℕ) (stage : Stage) (notes : List Noted) (now : Option RecordingState) (acts : List FileAct) : Type 0 where
+  pub so_far : SoFar name (noted_from stage notes).stage now
+  pub adds : Gets name (noted_from stage notes).bytes acts
+
+pub one_stays : (name : List ℕ) (stage : Stage) (now : Option RecordingState) (acts : List FileAct) → now ≡ Some (record { name = name; stage = stage }) → SparesAll name acts
+    → OneGoesOn name stage [] now acts
+unfolding noted_from
+one_stays name stage now acts going spares = record { so_far = inl going; adds = gets_nothing name acts spares }
+
+pub takes_going : (name : List ℕ) (stage : Stage) (client : ClientState) (taken : Taken) (recording : Option RecordingState) → recording ≡ Some (record { name = name; stage = stage })
+    → OneGoesOn name stage (noted_of client taken taken.answer) (note_taken recording client taken).recording (note_taken recording client taken).acts
+takes_going name stage client taken recording going =
+    let took = recorder_took stage client taken taken.answer in
+    let facts = notes_of stage client taken taken.answer in
+    let noted_is = ap (λ (r : Option RecordingState). note_taken r client taken) going in
+    record {
+      so_far = subst (λ (s : Stage). SoFar name s (note_taken recording client taken).recording) facts.stages
+          (goes_or_ended took.stage took.ended (note_taken recording client taken).recording (ap (λ (n : RecordingTook). n.recording) noted_is) facts.over);
+      adds = λ told before is.
+          ap (λ (acts : List FileAct). contents_of (after_acts told acts).files name) (ap (λ (n : RecordingTook). n.acts) noted_is)
+          ∙ (extended told name before took.bytes is ∙ ap (λ (b : List ℕ). Some (before ++ b)) facts.bytes);
+    }
+  where
+    goes_or_ended : (stage : Stage) (ended : Bool) (now : Option RecordingState) → now ≡ (if ended then None else Some (record { name = name; stage = stage }))
+        → (ended ≡ true → stage ≡ Ended) → SoFar name stage now
+    goes_or_ended stage true now is over = inr (over refl, subst (Unnamed name) (sym is) tt)
+    goes_or_ended stage false now is over = inl is
+
+-- it is stopped
+pub stops_going : (name : List ℕ) (stage : Stage) (recording : Option RecordingState) → recording ≡ Some (record { name = name; stage = stage })
+    → Unnamed name (stop_at recording).recording × ((stop_at recording).acts ≡ extends name (closing stage))
+stops_going name stage recording going = (
+  subst (Unnamed name) (sym (ap (λ (r : Option RecordingState). (stop_at r).recording) going)) tt,
+  ap (λ (r : Option RecordingState). (stop_at r).acts) going,
+)
+
+-- a line that would begin another is refused
+pub refuses_going : (n : List ℕ) (client : ClientState) (recording : Option RecordingState) (going : RecordingState) → recording ≡ Some going
+    → ((begin_at client recording (new_recording n)).recording ≡ Some going) × ((begin_at client recording (new_recording n)).acts ≡ [])
+refuses_going n client recording going is =
+    cond_both client.state.has_game (begin_new recording (new_recording n)) (record { recording = recording; answer = Err NoGame; acts = [] })
+    (λ (step : RecordingStep RecordRefused). (step.recording ≡ Some going) × (step.acts ≡ [])) (λ has. rw is (refl, refl)) (λ not. (is, refl))
+
+-- it begins where the line is answered so, and else nothing is done
+pub begins_new : (name : List ℕ) (client : ClientState) (recording : Option RecordingState) → is_ok (begin_at client recording (new_recording name)).answer ≡ true
+    → ((begin_at client recording (new_recording name)).recording ≡ Some (new_recording name)) × ((begin_at client recording (new_recording name)).acts ≡ Makes name ∷ [])
+begins_new name client recording =
+    cond_both client.state.has_game (begin_new recording (new_recording name)) (record { recording = recording; answer = Err NoGame; acts = [] })
+    (λ (step : RecordingStep RecordRefused). is_ok step.answer ≡ true → (step.recording ≡ Some (new_recording name)) × (step.acts ≡ Makes name ∷ []))
+    (λ has. new recording) (λ not ok. absurd (cc))
+  where
+    new : (recording : Option RecordingState) → is_ok (begin_new recording (new_recording name)).answer ≡ true
+        → ((begin_new recording (new_recording name)).recording ≡ Some (new_recording name)) × ((begin_new recording (new_recording name)).acts ≡ Makes name ∷ [])
+    new None ok = (refl, refl)
+    new (Some going) ok = absurd (cc)
+
+pub begins_nothing : (n : List ℕ) (client : ClientState) (recording : Option RecordingState) → is_ok (begin_at client recording (new_recording n)).answer ≡ false
+    → ((begin_at client recording (new_recording n)).recording ≡ recording) × ((begin_at client recording (new_recording n)).acts ≡ [])
+begins_nothing n client recording =
+    cond_both client.state.has_game (begin_new recording (new_recording n)) (record { recording = recording; answer = Err NoGame; acts = [] })
+    (λ (step : RecordingStep RecordRefused). is_ok step.answer ≡ false → (step.recording ≡ recording) × (step.acts ≡ []))
+    (λ has. new recording) (λ not failed. (refl, refl))
+  where
+    new : (recording : Option RecordingState) → is_ok (begin_new recording (new_recording n)).answer ≡ false
+        → ((begin_new recording (new_recording n)).recording ≡ recording) × ((begin_new recording (new_recording n)).acts ≡ [])
+    new None failed = absurd (cc)
+    new (Some going) failed = (refl, refl)
+
+-- ---- the place of one client
 
 -- the recording of one client alone may change, and one into another file stays so
 pub record AtOne (name : List ℕ) (d : ℕ) (old new : Ends) (acts : List FileAct) : Type 0 where
@@ -146,59 +251,34 @@ IsSoFar name c stage ends = Goes name c stage ends ⊎ ((stage ≡ Ended) × Gon
 apart_put : (name : List ℕ) (c : ℕ) (ends : Ends) (now : Place) → Apart name c ends → Apart name c (with_place ends c now)
 apart_put name c ends now apart = λ d ne. rw (get_or-set_other ends.clients c d (Some now) None ne) (apart d ne)
 
-put_so_far : (name : List ℕ) (c : ℕ) (stage : Stage) (ended : Bool) (ends : Ends) (place now : Place) → place_at ends c ≡ Some place → Apart name c ends
-    → now.recording ≡ (if ended then None else Some (record { name = name; stage = stage })) → (ended ≡ true → stage ≡ Ended) → IsSoFar name c stage (with_place ends c now)
-put_so_far name c stage true ends place now at apart is over =
-    inr (over refl, gone_of name c (with_place ends c now) (apart_put name c ends now apart) (subst (Unnamed name) (sym (ap recording_at (there ends c place now at) ∙ is)) tt))
-put_so_far name c stage false ends place now at apart is over =
-    inl (record { going = ap recording_at (there ends c place now at) ∙ is; apart = apart_put name c ends now apart })
+put_so_far : (name : List ℕ) (c : ℕ) (stage : Stage) (ends : Ends) (place now : Place) → place_at ends c ≡ Some place → Apart name c ends → SoFar name stage now.recording
+    → IsSoFar name c stage (with_place ends c now)
+put_so_far name c stage ends place now at apart (inl is) = inl (record { going = ap recording_at (there ends c place now at) ∙ is; apart = apart_put name c ends now apart })
+put_so_far name c stage ends place now at apart (inr over) = inr (
+  over.0,
+  gone_of name c (with_place ends c now) (apart_put name c ends now apart) (subst (Unnamed name) (sym (ap recording_at (there ends c place now at))) over.1),
+)
 
 pub nobody : (going : RecordingState) (found : Option RecordingState) → found ≡ None → found ≡ Some going → ⊥
 nobody going None none some = absurd cc
 nobody going (Some other) none some = absurd cc
 
--- what it takes is noted as the messages are that it applies
-record Notes (stage : Stage) (notes : List Noted) (took : RecorderTook) : Type 0 where
-  pub stages : took.stage ≡ (noted_from stage notes).stage
-  pub bytes : took.bytes ≡ (noted_from stage notes).bytes
-  pub over : took.ended ≡ true → took.stage ≡ Ended
-
-over_ended : (stage : Stage) → is_ended stage ≡ true → stage ≡ Ended
-over_ended Ended is = refl
-over_ended Waits is = absurd cc
-over_ended (Runs first) is = absurd cc
-
-notes_of : (stage : Stage) (client : ClientState) (taken : Taken) (answer : ClientTook) → Notes stage (noted_of client taken answer) (recorder_took stage client taken answer)
-unfolding noted_from
-notes_of stage client taken (Applied applied) = record {
-  stages = refl;
-  bytes = sym (append-nil (recorder_took stage client taken (Applied applied)).bytes);
-  over = over_ended (recorder_took stage client taken (Applied applied)).stage;
-}
-notes_of stage client taken other = record { stages = refl; bytes = refl; over = λ ended. absurd cc }
-
 -- the file gets what is noted, and the recording is so far
 pub record GoesOn (name : List ℕ) (c : ℕ) (stage : Stage) (notes : List Noted) (new : Ends) (acts : List FileAct) : Type 0 where
   pub so_far : IsSoFar name c (noted_from stage notes).stage new
-  pub adds : (told : Told) (bytes : List ℕ) → contents_of told.files name ≡ Some bytes → contents_of (after_acts told acts).files name ≡ Some (bytes ++ (noted_from stage notes).bytes)
+  pub adds : Gets name (noted_from stage notes).bytes acts
 
 pub takes_named : (name : List ℕ) (c : ℕ) (stage : Stage) (ends : Ends) (front : Front) (bytes : List ℕ) (found : Option Place) → place_at ends c ≡ found → Goes name c stage ends
     → GoesOn name c stage (noted_at found (Some bytes)) (client_takes ends c front bytes found).ends (take_acts found bytes)
 takes_named name c stage ends front bytes None at goes = absurd (nobody (record { name = name; stage = stage }) (recording_at (place_at ends c)) (ap recording_at at) goes.going)
 takes_named name c stage ends front bytes (Some place) at goes =
     let taken = take_at place.client bytes in
-    let notes = noted_of place.client taken taken.answer in
-    let took = recorder_took stage place.client taken taken.answer in
-    let facts = notes_of stage place.client taken taken.answer in
     let going : place.recording ≡ Some (record { name = name; stage = stage }) = ap recording_at (sym at) ∙ goes.going in
-    let noted_is = ap (λ (r : Option RecordingState). note_taken r place.client taken) going in
+    let one = takes_going name stage place.client taken place.recording going in
     let now : Place = record place { client = taken.client; recording = (note_taken place.recording place.client taken).recording } in
     record {
-      so_far = subst (λ (s : Stage). IsSoFar name c s (with_place ends c now)) facts.stages
-          (put_so_far name c took.stage took.ended ends place now at goes.apart (ap (λ (n : RecordingTook). n.recording) noted_is) facts.over);
-      adds = λ told before is.
-          ap (λ (acts : List FileAct). contents_of (after_acts told acts).files name) (ap (λ (n : RecordingTook). n.acts) noted_is)
-          ∙ (extended told name before took.bytes is ∙ ap (λ (b : List ℕ). Some (before ++ b)) facts.bytes);
+      so_far = put_so_far name c (noted_from stage (noted_of place.client taken taken.answer)).stage ends place now at goes.apart one.so_far;
+      adds = one.adds;
     }
 
 -- it is stopped
@@ -207,10 +287,10 @@ pub stops_named : (name : List ℕ) (c : ℕ) (stage : Stage) (ends : Ends) (fou
 stops_named name c stage ends None at goes = absurd (nobody (record { name = name; stage = stage }) (recording_at (place_at ends c)) (ap recording_at at) goes.going)
 stops_named name c stage ends (Some place) at goes =
     let going : place.recording ≡ Some (record { name = name; stage = stage }) = ap recording_at (sym at) ∙ goes.going in
+    let stopped = stops_going name stage place.recording going in
     let now : Place = record place { recording = (stop_at place.recording).recording } in (
-      gone_of name c (with_place ends c now) (apart_put name c ends now goes.apart)
-          (subst (Unnamed name) (sym (ap recording_at (there ends c place now at) ∙ ap (λ (r : Option RecordingState). (stop_at r).recording) going)) tt),
-      ap (λ (r : Option RecordingState). (stop_at r).acts) going,
+      gone_of name c (with_place ends c now) (apart_put name c ends now goes.apart) (subst (Unnamed name) (sym (ap recording_at (there ends c place now at))) stopped.0),
+      stopped.1,
     )
 
 -- a line that would begin another is refused
@@ -221,16 +301,10 @@ begins_named name n c stage ends (Some place) at goes =
     let going : place.recording ≡ Some (record { name = name; stage = stage }) = ap recording_at (sym at) ∙ goes.going in
     let begun = begin_at place.client place.recording (new_recording n) in
     let now : Place = record place { recording = begun.recording } in
-    let refused = already place.client place.recording (record { name = name; stage = stage }) going in (
+    let refused = refuses_going n place.client place.recording (record { name = name; stage = stage }) going in (
       record { going = ap recording_at (there ends c place now at) ∙ refused.0; apart = apart_put name c ends now goes.apart },
       refused.1,
     )
-  where
-    already : (client : ClientState) (recording : Option RecordingState) (going : RecordingState) → recording ≡ Some going
-        → ((begin_at client recording (new_recording n)).recording ≡ Some going) × ((begin_at client recording (new_recording n)).acts ≡ [])
-    already client recording going is =
-        cond_both client.state.has_game (begin_new recording (new_recording n)) (record { recording = recording; answer = Err NoGame; acts = [] })
-        (λ (step : RecordingStep RecordRefused). (step.recording ≡ Some going) × (step.acts ≡ [])) (λ has. rw is (refl, refl)) (λ not. (is, refl))
 
 -- it begins where the line is answered so
 pub begun_named : (name : List ℕ) (c : ℕ) (ends : Ends) (place : Place) → place_at ends c ≡ Some place → Gone name ends
@@ -239,19 +313,7 @@ pub begun_named : (name : List ℕ) (c : ℕ) (ends : Ends) (place : Place) → 
 begun_named name c ends place at gone ok =
     let begun = begin_at place.client place.recording (new_recording name) in
     let now : Place = record place { recording = begun.recording } in
-    let is = begins place.client place.recording ok in (
+    let is = begins_new name place.client place.recording (ap (λ (answer : Result (Unit {0}) RecordRefused). is_ok answer) ok) in (
       record { going = ap recording_at (there ends c place now at) ∙ is.0; apart = apart_put name c ends now (λ d ne. gone d) },
       is.1,
     )
-  where
-    new : (recording : Option RecordingState) → (begin_new recording (new_recording name)).answer ≡ Ok tt
-        → ((begin_new recording (new_recording name)).recording ≡ Some (new_recording name)) × ((begin_new recording (new_recording name)).acts ≡ Makes name ∷ [])
-    new None ok = (refl, refl)
-    new (Some going) ok = absurd cc
-
-    begins : (client : ClientState) (recording : Option RecordingState) → (begin_at client recording (new_recording name)).answer ≡ Ok tt
-        → ((begin_at client recording (new_recording name)).recording ≡ Some (new_recording name)) × ((begin_at client recording (new_recording name)).acts ≡ Makes name ∷ [])
-    begins client recording =
-        cond_both client.state.has_game (begin_new recording (new_recording name)) (record { recording = recording; answer = Err NoGame; acts = [] })
-        (λ (step : RecordingStep RecordRefused). step.answer ≡ Ok tt → (step.recording ≡ Some (new_recording name)) × (step.acts ≡ Makes name ∷ []))
-        (λ has. new recording) (λ not ok. absurd cc)

@@ -29,7 +29,7 @@ use Rattle.q3_schedules.specs.Recorded.{MakesOther, RecordingIsItsMessages, appl
 use Rattle.q3_schedules.proofs.NamedFiles.{SparesAll, acts_over, extended, made, spared, spares_both}
 use Rattle.q3_schedules.proofs.SlotsStay.{HaveSlots, have_slots, nobody_yet}
 use Rattle.q3_schedules.proofs.EventKinds.{Happens, by_kind}
-use Rattle.q3_schedules.proofs.NamedRecordings.{AtOne, Goes, GoesOn, Gone, IsSoFar, Unnamed, at_same, begins_at, begins_named, begun_named, gone_at, goes_at, nobody, stops_at, stops_named, stops_one, takes_at, takes_named}
+use Rattle.q3_schedules.proofs.NamedRecordings.{AtOne, Goes, GoesOn, Gone, IsSoFar, Unnamed, at_same, begins_at, begins_named, begun_named, gets_nothing, gone_at, goes_at, nobody, stops_at, stops_named, stops_one, takes_at, takes_named}
 
 -- ---- an event
 
@@ -79,7 +79,7 @@ nothing_noted : (name : List ℕ) (c : ℕ) (stage : Stage) (new : Ends) (acts :
 unfolding noted_from
 nothing_noted name c stage new acts goes spares = record {
   so_far = inl goes;
-  adds = λ told bytes is. spared told name acts spares ∙ (is ∙ ap (λ (b : List ℕ). Some b) (sym (append-nil bytes)));
+  adds = gets_nothing name acts spares;
 }
 
 untouched : (name : List ℕ) (c : ℕ) (stage : Stage) (new : Ends) (acts : List FileAct) (found : Option Place) (bytes : Option (List ℕ)) → bytes ≡ None → Goes name c stage new → SparesAll name acts
@@ -184,7 +184,7 @@ ends_named name stage (found ∷ clients) (suc c) told bytes going apart is =
 
 -- ---- every event
 
-over_files : (name : List ℕ) (told : Told) (first second : List FileAct)
+pub over_files : (name : List ℕ) (told : Told) (first second : List FileAct)
     → contents_of (after_acts told (first ++ second)).files name ≡ contents_of (after_acts (after_acts told first) second).files name
 over_files name told first second = ap (λ (t : Told). contents_of t.files name) (acts_over told first second)
 
@@ -199,7 +199,7 @@ stays_so name kept (event ∷ events) told have gone others =
     over_files name told (acts_of kept event) (acts_from next events)
     ∙ (stays_so name next events (after_acts told (acts_of kept event)) (have_slots kept event have) now.0 others.1 ∙ spared told name (acts_of kept event) now.1)
 
-noted_over : (stage : Stage) (first second : List Noted)
+pub noted_over : (stage : Stage) (first second : List Noted)
     → noted_from stage (first ++ second)
     ≡ record { stage = (noted_from (noted_from stage first).stage second).stage; bytes = (noted_from stage first).bytes ++ (noted_from (noted_from stage first).stage second).bytes }
 unfolding noted_from
@@ -212,23 +212,23 @@ noted_over stage (noted ∷ first) second =
     ∙ ap (λ (b : List ℕ). record { stage = rest.stage; bytes = b }) (sym (append_assoc now.bytes behind.bytes rest.bytes))
 
 -- behind the end of a recording nothing is noted
-noted_ended : (notes : List Noted) → noted_from Ended notes ≡ record { stage = Ended; bytes = [] }
+pub noted_ended : (notes : List Noted) → noted_from Ended notes ≡ record { stage = Ended; bytes = [] }
 unfolding noted_from
 noted_ended [] = refl
 noted_ended (noted ∷ notes) = noted_ended notes
 
 -- what a file holds in the end of which a client notes these messages more
-abbrev Whole : Stage → List ℕ → List Noted → List ℕ
+abbrev pub Whole : Stage → List ℕ → List Noted → List ℕ
 Whole stage bytes notes = bytes ++ (noted_from stage notes).bytes ++ closing (noted_from stage notes).stage
 
-whole_none : (stage : Stage) (bytes : List ℕ) → bytes ++ closing stage ≡ Whole stage bytes []
+pub whole_none : (stage : Stage) (bytes : List ℕ) → bytes ++ closing stage ≡ Whole stage bytes []
 unfolding noted_from
 whole_none stage bytes = ap (λ (b : List ℕ). b ++ closing stage) (sym (append-nil bytes))
 
-whole_ended : (bytes : List ℕ) (notes : List Noted) → bytes ≡ Whole Ended bytes notes
+pub whole_ended : (bytes : List ℕ) (notes : List Noted) → bytes ≡ Whole Ended bytes notes
 whole_ended bytes notes = subst (λ (n : Noting). bytes ≡ bytes ++ n.bytes ++ closing n.stage) (sym (noted_ended notes)) (sym (append-nil (bytes ++ []) ∙ append-nil bytes))
 
-whole_over : (stage : Stage) (bytes : List ℕ) (first second : List Noted)
+pub whole_over : (stage : Stage) (bytes : List ℕ) (first second : List Noted)
     → Whole (noted_from stage first).stage (bytes ++ (noted_from stage first).bytes) second ≡ Whole stage bytes (first ++ second)
 whole_over stage bytes first second =
     let before = noted_from stage first in

@@ -1,3 +1,4 @@
 pub mod Schedules
 pub mod Recorded
 pub mod ReportLines
+pub mod NodeRecorded

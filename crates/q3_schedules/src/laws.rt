@@ -1,5 +1,6 @@
 //! Laws of every schedule, each the contract of a call that does nothing but cite the laws below it.
 
+ghost use Rattle.q3_schedules.specs.NodeRecorded.{NodeRecordsItsMessages};
 ghost use Rattle.q3_schedules.specs.Recorded.{RecordingIsItsMessages};
 ghost use Rattle.q3_schedules.specs.ReportLines.{CountsAreLines, ReplayIsCounted};
 ghost use Rattle.q3_schedules.specs.Schedules.{AlwaysLegible, UnknownWasNotMade, CommandsArePrefixes, KeysAgree, ExecutedGoesOn, AcceptedWereBuilt, ShownWasBuilt, ShownIsNewest, AsksForAccepted, AskedUnderGame, OneGamePerMap, BasesWereAccepted, HeldIsAccepted, ViewsWereBuilt, AppliedWasBuilt, NewerIsAccepted, UsualNeverSkips, NewerIsRun, MovesWereIssued, EnteringIsNotRun, InOrderIsAccepted, ServedIsShown, StateIsOfGame, StringsFollow};
@@ -224,4 +225,10 @@ pub fn counts_are_lines()
 /// client applied behind that line, up to its first `stop`: whatever bytes arrived, and whatever files there were.
 pub fn recording_is_its_messages()
     ensures { RecordingIsItsMessages }
+{}
+
+/// What a client's node leaves in the file of a name that at most one of its `record` lines has is the recording of the messages that the
+/// client applied behind that line; where it has no end yet, a front of it.
+pub fn node_records_its_messages()
+    ensures { NodeRecordsItsMessages }
 {}
