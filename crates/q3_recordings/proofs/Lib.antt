@@ -1,1 +1,2 @@
 pub mod ComposedGames
+pub mod ComposedWhole
