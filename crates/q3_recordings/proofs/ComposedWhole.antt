@@ -122,7 +122,8 @@ row_read profile context number ack bits read e =
       keeps = rest_keeps profile context number found.0.0.operation (record { ack = ack; commands = found.0.0.commands; section = told.Nothing }) found.0.1 read found.2;
     }
 
-abbrev front_of : Message → Front
+-- what a message says before its section
+abbrev pub front_of : Message → Front
 front_of message = record { ack = message.ack; commands = message.commands }
 
 abbrev fronted_as : Front → Result Front OperationError
