@@ -1,2 +1,4 @@
 pub mod ComposedGames
 pub mod ComposedWhole
+pub mod DemoBytes
+pub mod Composed
