@@ -6,7 +6,7 @@ use Rattle.q3_clstate.specs.State.{AppliedState}
 use Rattle.q3_clstate.specs.declared.applied.Applied.{Applied}
 use Rattle.q3_demo.specs.declared.recorder.Stage.{Stage}
 use Rattle.q3_demo.specs.declared.recorder.Stage.TheVariants.{Waits, Runs, Ended}
-use Rattle.q3_demo.specs.Recording.{record_bytes, end_bytes, composed, game_bits, whole_of, Noting, ends, goes_on, recomposed, begins, is_whole, is_before, composed_whole, note_at, Noted, note_of, noted_from, closing, recording}
+use Rattle.q3_demo.specs.Recording.{record_bytes, end_bytes, composed, game_bits, whole_of, Noting, goes_on, recomposed, begins, is_whole, is_before, composed_whole, note_at, Noted, note_of, noted_from, closing, recording}
 use Rattle.q3_recordings.proofs.DemoBytes.{Record, bytes_of}
 
 -- ---- the records of a recording
@@ -38,7 +38,7 @@ records_from stage (noted ∷ others) = records_of_noting stage noted ++ records
 
 -- ---- the bytes of a message's records
 
-none_behind : (messages : List Noted) → records_from Ended messages ≡ []
+pub none_behind : (messages : List Noted) → records_from Ended messages ≡ []
 unfolding records_from
 none_behind [] = refl
 none_behind (noted ∷ others) = none_behind others

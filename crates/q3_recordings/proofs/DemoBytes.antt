@@ -1,5 +1,5 @@
 -- What the records of a demo do, by its bytes.
-use Rattle.std.proofs.Common.{◌≡◌, ℕ, zero, suc, ◌+◌, ◌-◌, ◌<◌, ◌≤◌, List, [], ◌∷◌, ◌++◌, length, take, drop, Option, Some, None, Result, Ok, Err, refl, sym, ap, ◌∙◌, arith, append_assoc}
+use Rattle.std.proofs.Common.{◌≡◌, ℕ, zero, suc, ◌+◌, ◌-◌, ◌<◌, ◌≤◌, List, [], ◌∷◌, ◌++◌, length, take, drop, Option, Some, None, Result, Ok, refl, sym, ap, ◌∙◌, arith, append_assoc}
 use Rattle.std.specs.Prelude.{flat_map}
 use Rattle.std.specs.Result.{result_ok}
 use Rattle.std.proofs.lemmas.List.{length-append, length-drop, drop-drop, drop_at, take_at}
@@ -15,7 +15,7 @@ use Rattle.q3_demo.specs.declared.record.Piece.{Piece}
 use Rattle.q3_demo.specs.declared.record.Piece.TheVariants as piece
 use Rattle.q3_demo.specs.Records.{head_bytes, longest_record, number_end, most_bytes, piece_of}
 use Rattle.q3_demo.specs.Recording.{record_bytes, end_bytes}
-use Rattle.q3_demo.specs.Playing.{Played, Stepped, Play, unplayed, next_piece, message_of, played_on, play_piece, step, most_records, play_step, play_from, play_of, next_records, records_from, last_of, last_played}
+use Rattle.q3_demo.specs.Playing.{Played, Stepped, unplayed, next_piece, message_of, played_on, play_piece, step, most_records, at_most, play_step, play_from, play_of, next_records, records_from, last_of, last_played}
 use Rattle.q3_demo.proofs.Pieces.{HasHead, record_is}
 use Rattle.q3_recordings.specs.Plays.{applied_so, next_applied, applied_from, applied_of}
 
@@ -102,6 +102,11 @@ ends_here left demo played e =
       state = ap (λ (s : Result (Option Stepped) DemoError). (last_of played (next_records s (records_from left demo))).state) stepped;
     }
 
+-- also where no more records may be played
+ends_full : (demo : List ℕ) (played : Played) → next_piece demo played ≡ Ok piece.End → Gives zero demo played []
+unfolding applied_from play_from records_from last_of
+ends_full demo played e = record { list = refl; ending = ap (λ (found : Result Piece DemoError). (at_most played found).ending) e; state = refl }
+
 goes_on : (left : ℕ) (demo rest : List ℕ) (played : Played) (r : Record) (a : Application) (others : List Application) (n : Next demo played r rest)
     → apply_at played.state r.number r.message ≡ Ok a → Gives left demo (played_on played r.number n.next a).played others → Gives (suc left) demo played (a ∷ others)
 unfolding applied_from play_from records_from last_of
@@ -125,8 +130,11 @@ ends_there : (at last : ℕ) → piece_of end_bytes at last ≡ Ok piece.End
 ends_there at last = refl
 
 plays_from : (left : ℕ) (records : List Record) (applied : List Application) (demo : List ℕ) (played : Played) → drop played.at demo ≡ bytes_of records ++ end_bytes
-    → Does played.state played.last records applied → length demo ≤ most_bytes → length records < left → Gives left demo played applied
-plays_from zero records applied demo played there does room few = absurd (omega (arith, few))
+    → Does played.state played.last records applied → length demo ≤ most_bytes → length records ≤ left → Gives left demo played applied
+plays_from zero [] [] demo played there does room few =
+    ends_full demo played (ap (λ (xs : List ℕ). piece_of xs played.at played.last) there ∙ ends_there played.at played.last)
+plays_from zero [] (a ∷ applied) demo played there does room few = absurd does
+plays_from zero (r ∷ records) applied demo played there does room few = absurd (omega (arith, few))
 plays_from (suc left) [] [] demo played there does room few =
     ends_here left demo played (ap (λ (xs : List ℕ). piece_of xs played.at played.last) there ∙ ends_there played.at played.last)
 plays_from (suc left) [] (a ∷ applied) demo played there does room few = absurd does
@@ -137,11 +145,18 @@ plays_from (suc left) (r ∷ records) (a ∷ applied) demo played there does roo
     goes_on left demo rest played r a applied n does.3
     (plays_from left records applied demo (played_on played r.number n.next a).played n.left does.4 room (omega (arith, few)))
 
--- a demo of these records plays to its end, and each of them does what it does
+-- a demo of these records, which are as many as may be played, plays to its end, and each of them does what it does
+pub demo_plays_most : (profile : Profile) (records : List Record) (applied : List Application) → Does (new_state profile) 0 records applied
+    → length (bytes_of records ++ end_bytes) ≤ most_bytes → length records ≤ most_records
+    → (applied_of profile (bytes_of records ++ end_bytes) ≡ applied) × ((play_of profile (bytes_of records ++ end_bytes)).ending ≡ Ok tt)
+    × ((last_played profile (bytes_of records ++ end_bytes)).state ≡ state_after (new_state profile) applied)
+demo_plays_most profile records applied does room few =
+    let gives = plays_from most_records records applied (bytes_of records ++ end_bytes) (unplayed profile) refl does room few in
+    (gives.list, gives.ending, gives.state)
+
+-- or fewer
 pub demo_plays : (profile : Profile) (records : List Record) (applied : List Application) → Does (new_state profile) 0 records applied → length (bytes_of records ++ end_bytes) ≤ most_bytes
     → length records < most_records
     → (applied_of profile (bytes_of records ++ end_bytes) ≡ applied) × ((play_of profile (bytes_of records ++ end_bytes)).ending ≡ Ok tt)
     × ((last_played profile (bytes_of records ++ end_bytes)).state ≡ state_after (new_state profile) applied)
-demo_plays profile records applied does room few =
-    let gives = plays_from most_records records applied (bytes_of records ++ end_bytes) (unplayed profile) refl does room few in
-    (gives.list, gives.ending, gives.state)
+demo_plays profile records applied does room few = demo_plays_most profile records applied does room (omega (arith, few))

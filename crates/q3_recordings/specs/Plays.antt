@@ -1,5 +1,5 @@
 -- What the demo plays to that a client recorded.
-use Rattle.std.specs.Prelude.{◌≡◌, ℕ, zero, suc, ◌^◌, ◌<◌, ◌≤◌, List, [], ◌∷◌, length, map, Option, Some, None, IsSome, IfOk, Result, Ok, Err}
+use Rattle.std.specs.Prelude.{◌≡◌, ℕ, zero, suc, ◌^◌, ◌<◌, ◌≤◌, List, [], ◌∷◌, length, map, Option, Some, None, IsSome, Result, Ok}
 use Rattle.std.specs.Result.{result_ok}
 use Rattle.q3_text.specs.declared.text.Command.{Command}
 use Rattle.q3_config.specs.Strings.{server_id}
@@ -9,9 +9,9 @@ use Rattle.q3_clstate.specs.Standing.{IsApplied}
 use Rattle.q3_ring.specs.Snapshot.{Snapshot}
 use Rattle.q3_demo.specs.declared.error.DemoError.{DemoError}
 use Rattle.q3_demo.specs.declared.record.Piece.{Piece}
-use Rattle.q3_demo.specs.declared.record.Piece.TheVariants.{End, Message}
+use Rattle.q3_demo.specs.declared.record.Piece.TheVariants.{Message}
 use Rattle.q3_demo.specs.declared.recorder.Stage.{Stage}
-use Rattle.q3_demo.specs.declared.recorder.Stage.TheVariants.{Waits, Runs, Ended}
+use Rattle.q3_demo.specs.declared.recorder.Stage.TheVariants.{Waits, Runs}
 use Rattle.q3_demo.specs.Records.{longest_record, number_end, most_bytes}
 use Rattle.q3_demo.specs.Recording.{Noted, note_of, recording}
 use Rattle.q3_demo.specs.Playing.{Played, unplayed, next_piece, message_of, played_on, most_records, play_of, last_played}
@@ -83,10 +83,10 @@ accepted_in applied = applied.accepted
 abbrev pub heard_in : Application → List Command
 heard_in applied = applied.heard
 
--- the first of these messages, if there is one, was applied by config strings that tell the map's id
+-- before the first of these messages, if there is one, the config strings told the map's id, and no long string was still being put together
 abbrev pub BeginsTold : List Noted → Type 0
 BeginsTold [] = Unit {0}
-BeginsTold (first ∷ others) = IsSome (server_id first.before.strings)
+BeginsTold (first ∷ others) = IsSome (server_id first.before.strings) × (first.before.strings.pending ≡ None)
 
 -- and they are of a profile
 abbrev pub AreBy : Profile → List Noted → Type 0
@@ -107,8 +107,8 @@ pub record PlaysTo (profile : Profile) (messages : List Noted) : Type 0 where
   pub heard : map heard_in (applied_of profile (recording messages)) ≡ behind_game [] (map (λ (noted : Noted). noted.applied.heard) (recorded_from Waits messages))
   pub left : LeftBy (recorded_from Waits messages) (last_played profile (recording messages)).state
 
--- so it is of all messages that a client applied one behind the other, where the recording begins by strings that tell the map's id, and
--- isn't longer than a demo that may be played
+-- so it is of all messages that a client applied one behind the other, where the recording begins by strings that a gamestate can say whole,
+-- and isn't longer than a demo that may be played
 abbrev pub RecordingPlays : Type 0
 RecordingPlays = (profile : Profile) (messages : List Noted) → AreNoted messages → AreBy profile messages → BeginsTold (recorded_from Waits messages)
     → length (recording messages) ≤ most_bytes → length messages < most_records → PlaysTo profile messages

@@ -1,9 +1,22 @@
-//! Laws, each the contract of a call that does nothing.
+//! Laws, each the contract of a call that does nothing but cite the laws below it.
 
 ghost use Rattle.q3_recordings.specs.Plays.{RecordingPlays};
+
+use q3_bits::laws as bits;
+use q3_clstate::laws as clstate;
+use q3_rings::laws as rings;
+use q3_svmsg::laws as svmsg;
 
 /// Playing a recording gives what its client had: behind the gamestate each of the messages that it recorded, with the snapshot that was
 /// accepted of it and the commands that were executed of it, and in the end the config strings that the client had.
 pub fn recording_plays()
     ensures { RecordingPlays }
-{}
+{
+    bits::message_holds_bits();
+    rings::accepted_is_held();
+    svmsg::written_is_read();
+    svmsg::read_is_spelled();
+    svmsg::spelled_is_read();
+    clstate::apply_stays();
+    clstate::applied_is_context();
+}
