@@ -6,3 +6,4 @@ pub mod HeldSince
 pub mod ReadAlike
 pub mod PlaysAs
 pub mod Recorded
+pub mod Sound

@@ -1,8 +1,10 @@
 //! Laws, each the contract of a call that does nothing but cite the laws below it.
 
 ghost use Rattle.q3_recordings.specs.Plays.{RecordingPlays};
+ghost use Rattle.q3_recordings.specs.Replays.{ReplayPlays};
 
 use q3_bits::laws as bits;
+use q3_client::laws as client;
 use q3_clstate::laws as clstate;
 use q3_rings::laws as rings;
 use q3_svmsg::laws as svmsg;
@@ -19,4 +21,15 @@ pub fn recording_plays()
     svmsg::spelled_is_read();
     clstate::apply_stays();
     clstate::applied_is_context();
+}
+
+/// So does the recording of a client of a replay, whatever bytes arrive.
+pub fn replay_plays()
+    ensures { ReplayPlays }
+{
+    recording_plays();
+    svmsg::read_is_spelled();
+    clstate::apply_stays();
+    clstate::applied_is_context();
+    client::applies_its_message();
 }

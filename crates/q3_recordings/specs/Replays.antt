@@ -1,0 +1,32 @@
+-- What a recording of a replay plays to.
+use Rattle.std.specs.Prelude.{◌≡◌, ℕ, ◌<◌, ◌≤◌, List, length, Ok}
+use Rattle.q3_profile.specs.declared.profile.Profile.{Profile}
+use Rattle.q3_script.specs.declared.event.Event.{Event}
+use Rattle.q3_script.specs.declared.event.Event.TheVariants as events
+use Rattle.q3_report.specs.declared.answer.HandedIn.TheVariants as handed
+use Rattle.q3_report.specs.Answers.{Given}
+use Rattle.q3_demo.specs.declared.recorder.Stage.TheVariants.{Waits}
+use Rattle.q3_demo.specs.Records.{most_bytes}
+use Rattle.q3_demo.specs.Recording.{Noted, recording}
+use Rattle.q3_demo.specs.Playing.{most_records}
+use Rattle.q3_world.specs.Kept.{Kept, kept_step}
+use Rattle.q3_world.specs.ByTags.{kept_then}
+use Rattle.q3_world.specs.StandsFor.{IsChecked}
+use Rattle.q3_schedules.specs.Recorded.{applied_until}
+use Rattle.q3_recordings.specs.Plays.{recorded_from, BeginsTold, PlaysTo}
+
+-- what is kept behind a `record` line
+abbrev pub kept_recording : Profile → List Event → ℕ → List ℕ → Kept
+kept_recording profile first c name = (kept_step (kept_then profile first) (events.RecordTo c name)).kept
+
+-- the messages that a client applies behind its `record` line, up to the first `stop` of it
+abbrev pub noted_behind : Profile → List Event → ℕ → List ℕ → List Event → List Noted
+noted_behind profile first c name rest = applied_until (kept_recording profile first c name) rest c
+
+-- the recording of a replay's client, from a `record` line that was answered `ok`, plays so, whatever bytes arrive
+abbrev pub ReplayPlays : Type 0
+ReplayPlays = (profile : Profile) (first rest : List Event) (c : ℕ) (name : List ℕ) → IsChecked profile
+    → (kept_step (kept_then profile first) (events.RecordTo c name)).answer ≡ Given (handed.Record c (Ok tt))
+    → BeginsTold (recorded_from Waits (noted_behind profile first c name rest))
+    → length (recording (noted_behind profile first c name rest)) ≤ most_bytes → length (noted_behind profile first c name rest) < most_records
+    → PlaysTo profile (noted_behind profile first c name rest)
