@@ -7,3 +7,7 @@ pub mod ReadAlike
 pub mod PlaysAs
 pub mod Recorded
 pub mod Sound
+pub mod AtPlace
+pub mod Noting
+pub mod Replayed
+pub mod Joined

@@ -298,7 +298,7 @@ plays_step spelled is_read context first noted play like is from apart =
 
 -- ---- the state behind a message has its number
 
-section_number : (state : AppliedState) (number : ℕ) (told : Told) → (apply_section state number told).state.number ≡ number
+pub section_number : (state : AppliedState) (number : ℕ) (told : Told) → (apply_section state number told).state.number ≡ number
 section_number state number Nothing = refl
 section_number state number (Game game) = refl
 section_number state number (Snap base head entities) =
@@ -494,7 +494,7 @@ plays_first spelled is_read context first noted play is whole at begun =
 
 -- ---- numbers
 
-section_newest : (state : AppliedState) (number : ℕ) (told : Told) → state.held.newest < number → HasNumber number told → (apply_section state number told).state.held.newest ≤ number
+pub section_newest : (state : AppliedState) (number : ℕ) (told : Told) → state.held.newest < number → HasNumber number told → (apply_section state number told).state.held.newest ≤ number
 section_newest state number Nothing newer under = omega (arith, newer)
 section_newest state number (Game game) newer under = omega arith
 section_newest state number (Snap base head entities) newer under =

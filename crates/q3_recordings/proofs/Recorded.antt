@@ -158,7 +158,7 @@ noting_on laws first last client play noted others like same is from above false
 -- ---- a recording that runs
 
 -- messages that go on from what a client has
-abbrev Behind : AppliedState → List Noted → Type 0
+abbrev pub Behind : AppliedState → List Noted → Type 0
 Behind client [] = Unit {0}
 Behind client (noted ∷ others) = noted.before ≡ client
 

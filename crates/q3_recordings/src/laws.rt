@@ -1,5 +1,6 @@
 //! Laws, each the contract of a call that does nothing but cite the laws below it.
 
+ghost use Rattle.q3_recordings.specs.Joins.{JoinPlays};
 ghost use Rattle.q3_recordings.specs.Plays.{RecordingPlays};
 ghost use Rattle.q3_recordings.specs.Replays.{ReplayPlays};
 
@@ -26,6 +27,17 @@ pub fn recording_plays()
 /// So does the recording of a client of a replay, whatever bytes arrive.
 pub fn replay_plays()
     ensures { ReplayPlays }
+{
+    recording_plays();
+    svmsg::read_is_spelled();
+    clstate::apply_stays();
+    clstate::applied_is_context();
+    client::applies_its_message();
+}
+
+/// And so does the recording of a client that joins over a wire, whatever arrives.
+pub fn join_plays()
+    ensures { JoinPlays }
 {
     recording_plays();
     svmsg::read_is_spelled();
