@@ -1,13 +1,14 @@
 -- The bytes of a recording are those of records.
 use Rattle.std.proofs.Common.{◌≡◌, ℕ, ◌+◌, ◌-◌, ◌≤◌, Bool, true, false, List, [], ◌∷◌, ◌++◌, length, Option, Some, None, refl, sym, ap, ◌∙◌, arith, append_assoc}
 use Rattle.std.specs.Prelude.{if◌then◌else◌}
-use Rattle.std.proofs.lemmas.List.{append-nil, length-append}
+use Rattle.std.proofs.lemmas.List.{append-nil, append_cancel_right, length-append}
 use Rattle.q3_clstate.specs.State.{AppliedState}
 use Rattle.q3_clstate.specs.declared.applied.Applied.{Applied}
 use Rattle.q3_demo.specs.declared.recorder.Stage.{Stage}
 use Rattle.q3_demo.specs.declared.recorder.Stage.TheVariants.{Waits, Runs, Ended}
 use Rattle.q3_demo.specs.Recording.{record_bytes, end_bytes, composed, game_bits, whole_of, Noting, goes_on, recomposed, begins, is_whole, is_before, composed_whole, note_at, Noted, note_of, noted_from, closing, recording}
-use Rattle.q3_recordings.proofs.DemoBytes.{Record, bytes_of}
+use Rattle.q3_schedules.specs.NodeRecorded.{written_of}
+use Rattle.q3_recordings.proofs.DemoBytes.{Record, bytes_of, IsTail, end_is_tail, none_is_tail}
 
 -- ---- the records of a recording
 
@@ -104,6 +105,23 @@ bytes_from stage (noted ∷ others) =
 
 pub recording_bytes : (messages : List Noted) → recording messages ≡ bytes_of (records_from Waits messages) ++ end_bytes
 recording_bytes messages = bytes_from Waits messages
+
+-- what is written of them, with the end or as long as there is none
+pub record Tailed (bytes : List ℕ) (records : List Record) : Type 0 where
+  pub tail : List ℕ
+  pub ends : IsTail tail
+  pub whole : bytes ≡ bytes_of records ++ tail
+
+tailed : (stage : Stage) (bytes : List ℕ) (records : List Record) → bytes ++ closing stage ≡ bytes_of records ++ end_bytes → Tailed bytes records
+tailed Ended bytes records same = record { tail = end_bytes; ends = end_is_tail; whole = sym (append-nil bytes) ∙ same }
+tailed Waits bytes records same =
+    record { tail = []; ends = none_is_tail; whole = append_cancel_right bytes (bytes_of records) end_bytes same ∙ sym (append-nil (bytes_of records)) }
+tailed (Runs first) bytes records same =
+    record { tail = []; ends = none_is_tail; whole = append_cancel_right bytes (bytes_of records) end_bytes same ∙ sym (append-nil (bytes_of records)) }
+
+pub written_tailed : (over : Bool) (messages : List Noted) → Tailed (written_of over messages) (records_from Waits messages)
+written_tailed true messages = record { tail = end_bytes; ends = end_is_tail; whole = recording_bytes messages }
+written_tailed false messages = tailed (noted_from Waits messages).stage (noted_from Waits messages).bytes (records_from Waits messages) (bytes_from Waits messages)
 
 -- ---- how many they are
 

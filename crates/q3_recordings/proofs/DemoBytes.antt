@@ -126,37 +126,36 @@ goes_on left demo rest played r a others n applies gives =
       state = ap (λ (s : Result (Option Stepped) DemoError). (last_of played (next_records s (records_from left demo))).state) stepped ∙ gives.state;
     }
 
-ends_there : (at last : ℕ) → piece_of end_bytes at last ≡ Ok piece.End
-ends_there at last = refl
+-- what may stand behind the last record: the end, or nothing yet
+abbrev pub IsTail : List ℕ → Type 0
+IsTail tail = (at last : ℕ) → piece_of tail at last ≡ Ok piece.End
 
-plays_from : (left : ℕ) (records : List Record) (applied : List Application) (demo : List ℕ) (played : Played) → drop played.at demo ≡ bytes_of records ++ end_bytes
+pub end_is_tail : IsTail end_bytes
+end_is_tail at last = refl
+
+pub none_is_tail : IsTail []
+none_is_tail at last = refl
+
+plays_from : (left : ℕ) (records : List Record) (applied : List Application) (demo tail : List ℕ) (played : Played) → IsTail tail → drop played.at demo ≡ bytes_of records ++ tail
     → Does played.state played.last records applied → length demo ≤ most_bytes → length records ≤ left → Gives left demo played applied
-plays_from zero [] [] demo played there does room few =
-    ends_full demo played (ap (λ (xs : List ℕ). piece_of xs played.at played.last) there ∙ ends_there played.at played.last)
-plays_from zero [] (a ∷ applied) demo played there does room few = absurd does
-plays_from zero (r ∷ records) applied demo played there does room few = absurd (omega (arith, few))
-plays_from (suc left) [] [] demo played there does room few =
-    ends_here left demo played (ap (λ (xs : List ℕ). piece_of xs played.at played.last) there ∙ ends_there played.at played.last)
-plays_from (suc left) [] (a ∷ applied) demo played there does room few = absurd does
-plays_from (suc left) (r ∷ records) [] demo played there does room few = absurd does
-plays_from (suc left) (r ∷ records) (a ∷ applied) demo played there does room few =
-    let rest : List ℕ = bytes_of records ++ end_bytes in
-    let n = next_is demo rest played r (there ∙ append_assoc (record_bytes r.number r.message) (bytes_of records) end_bytes) room does.0 does.1 does.2 in
+plays_from zero [] [] demo tail played ends there does room few = ends_full demo played (ap (λ (xs : List ℕ). piece_of xs played.at played.last) there ∙ ends played.at played.last)
+plays_from zero [] (a ∷ applied) demo tail played ends there does room few = absurd does
+plays_from zero (r ∷ records) applied demo tail played ends there does room few = absurd (omega (arith, few))
+plays_from (suc left) [] [] demo tail played ends there does room few =
+    ends_here left demo played (ap (λ (xs : List ℕ). piece_of xs played.at played.last) there ∙ ends played.at played.last)
+plays_from (suc left) [] (a ∷ applied) demo tail played ends there does room few = absurd does
+plays_from (suc left) (r ∷ records) [] demo tail played ends there does room few = absurd does
+plays_from (suc left) (r ∷ records) (a ∷ applied) demo tail played ends there does room few =
+    let rest : List ℕ = bytes_of records ++ tail in
+    let n = next_is demo rest played r (there ∙ append_assoc (record_bytes r.number r.message) (bytes_of records) tail) room does.0 does.1 does.2 in
     goes_on left demo rest played r a applied n does.3
-    (plays_from left records applied demo (played_on played r.number n.next a).played n.left does.4 room (omega (arith, few)))
+    (plays_from left records applied demo tail (played_on played r.number n.next a).played ends n.left does.4 room (omega (arith, few)))
 
 -- a demo of these records, which are as many as may be played, plays to its end, and each of them does what it does
-pub demo_plays_most : (profile : Profile) (records : List Record) (applied : List Application) → Does (new_state profile) 0 records applied
-    → length (bytes_of records ++ end_bytes) ≤ most_bytes → length records ≤ most_records
-    → (applied_of profile (bytes_of records ++ end_bytes) ≡ applied) × ((play_of profile (bytes_of records ++ end_bytes)).ending ≡ Ok tt)
-    × ((last_played profile (bytes_of records ++ end_bytes)).state ≡ state_after (new_state profile) applied)
-demo_plays_most profile records applied does room few =
-    let gives = plays_from most_records records applied (bytes_of records ++ end_bytes) (unplayed profile) refl does room few in
+pub demo_plays : (profile : Profile) (records : List Record) (applied : List Application) (tail : List ℕ) → IsTail tail → Does (new_state profile) 0 records applied
+    → length (bytes_of records ++ tail) ≤ most_bytes → length records ≤ most_records
+    → (applied_of profile (bytes_of records ++ tail) ≡ applied) × ((play_of profile (bytes_of records ++ tail)).ending ≡ Ok tt)
+    × ((last_played profile (bytes_of records ++ tail)).state ≡ state_after (new_state profile) applied)
+demo_plays profile records applied tail ends does room few =
+    let gives = plays_from most_records records applied (bytes_of records ++ tail) tail (unplayed profile) ends refl does room few in
     (gives.list, gives.ending, gives.state)
-
--- or fewer
-pub demo_plays : (profile : Profile) (records : List Record) (applied : List Application) → Does (new_state profile) 0 records applied → length (bytes_of records ++ end_bytes) ≤ most_bytes
-    → length records < most_records
-    → (applied_of profile (bytes_of records ++ end_bytes) ≡ applied) × ((play_of profile (bytes_of records ++ end_bytes)).ending ≡ Ok tt)
-    × ((last_played profile (bytes_of records ++ end_bytes)).state ≡ state_after (new_state profile) applied)
-demo_plays profile records applied does room few = demo_plays_most profile records applied does room (omega (arith, few))

@@ -1,5 +1,5 @@
 -- What a client's node applies behind the turn that begins its recording may be noted.
-use Rattle.std.proofs.Common.{◌≡◌, ℕ, zero, suc, ◌+◌, ◌-◌, ◌<◌, Bool, true, false, List, [], ◌++◌, Option, Some, None, Result, Ok, Err, refl, sym, ap, subst, arith}
+use Rattle.std.proofs.Common.{◌≡◌, ℕ, zero, suc, ◌+◌, ◌-◌, ◌<◌, ◌≤◌, Bool, true, false, List, [], ◌++◌, length, Option, Some, None, Result, Ok, Err, refl, sym, ap, subst, arith}
 use Rattle.std.specs.Prelude.{◌&&◌, if◌then◌else◌}
 use Rattle.std.specs.Result.{is_ok}
 use Rattle.std.specs.Str.{bytes_eq}
@@ -18,14 +18,16 @@ use Rattle.q3_report.specs.declared.answer.RecordRefused.{RecordRefused}
 use Rattle.q3_report.specs.declared.answer.Front.TheVariants.{Arrive}
 use Rattle.q3_report.specs.declared.answer.TakeRefused.TheVariants.{Stranger}
 use Rattle.q3_report.specs.Answers.{Untaken}
+use Rattle.q3_demo.specs.declared.recorder.Stage.TheVariants.{Waits}
+use Rattle.q3_demo.specs.Records.{most_bytes}
 use Rattle.q3_demo.specs.Recording.{Noted}
 use Rattle.q3_ends.specs.Recording.{begin_at, new_recording, waits_in}
 use Rattle.q3_node.specs.AtClient.{ClientEnd, client_rules, is_address, line_done, new_end, took}
 use Rattle.q3_node.specs.Node.{Arrived, Node, arrivals_after, cut_to_room, new_node, start_at, turn_at, turn_of}
 use Rattle.q3_world.specs.StandsFor.{IsChecked}
-use Rattle.q3_schedules.specs.NodeRecorded.{applied_in, begins_it, ends_it, line_at, noted_turn}
+use Rattle.q3_schedules.specs.NodeRecorded.{applied_in, begins_it, ends_it, has_end, left_in, line_at, noted_turn, written_of}
 use Rattle.q3_schedules.specs.Recorded.{noted_of}
-use Rattle.q3_recordings.specs.Plays.{AreNoted, AreBy, RecordingPlays}
+use Rattle.q3_recordings.specs.Plays.{recorded_from, AreNoted, AreBy, PlaysTo, RecordingPlays}
 use Rattle.q3_recordings.specs.Joins.{noted_in, JoinPlays}
 use Rattle.q3_recordings.proofs.Sound.{IsSound, Keeps, keeps_same}
 use Rattle.q3_recordings.proofs.AtPlace.{ClientLaws, Becomes}
@@ -162,12 +164,41 @@ all_noted laws profile checked name (suc count) node readings arrivals sound =
 
 -- ---- all of it
 
+-- the file holds what is written of these
+record IsWritten (demo : List ℕ) (messages : List Noted) : Type 0 where
+  over : Bool
+  is : demo ≡ written_of over messages
+
+all_written : (name : List ℕ) (count : ℕ) (node : Node ClientEnd) (readings : List ℕ) (arrivals : List (Option Parcel)) (demo : List ℕ)
+    → left_in name count node readings arrivals ≡ Some demo → IsWritten demo (noted_in name count node readings arrivals)
+unfolding noted_in left_in
+all_written name zero node readings arrivals demo left = absurd cc
+all_written name (suc count) node readings arrivals demo left =
+    let reading = reading_of readings in
+    let now = turn_at client_rules node reading (next_of arrivals) in
+    let later = readings_after readings in
+    let more = arrivals_after now.turn arrivals in
+    written_behind (begins_it name node.end (line_at node reading)) now.turn.ended (has_end count now.node later more) (applied_in count now.node later more)
+    (left_in name count now.node later more) (noted_in name count now.node later more) (λ left. all_written name count now.node later more demo left) left
+  where
+    some : {one two : List ℕ} → Some one ≡ Some two → two ≡ one
+    some e = cc
+
+    written_behind : (begins ended over : Bool) (applied : List Noted) (behind : Option (List ℕ)) (noted : List Noted) → (behind ≡ Some demo → IsWritten demo noted)
+        → (if begins then Some (written_of over applied) else if ended then None else behind) ≡ Some demo → IsWritten demo (if begins then applied else if ended then [] else noted)
+    written_behind true ended over applied behind noted rest e = record { over = over; is = some e }
+    written_behind false true over applied behind noted rest e = absurd cc
+    written_behind false false over applied behind noted rest e = rest e
+
 plays_so : Laws → RecordingPlays → JoinPlays
-plays_so laws plays profile count c challenge qport dup server events readings arrivals name checked told short few =
+plays_so laws plays profile count c challenge qport dup server events readings arrivals name demo checked left told short few =
     let node : Node ClientEnd = new_node (new_end c (new_client profile challenge qport dup) server) events in
     let is = client_laws laws profile checked in
+    let messages = noted_in name count node readings arrivals in
     let noted = all_noted laws profile checked name count node readings arrivals (is.joins challenge qport dup) in
-    plays profile (noted_in name count node readings arrivals) noted.are noted.by told short few
+    let written = all_written name count node readings arrivals demo left in
+    subst (λ (demo : List ℕ). PlaysTo profile demo (recorded_from Waits messages)) (sym written.is)
+    (plays profile messages written.over noted.are noted.by told (subst (λ (demo : List ℕ). length demo ≤ most_bytes) written.is short) few)
 
 pub join_plays : RecordingPlays → ReadIsSpelled → ApplyStays → AppliedIsContext → AppliesItsMessage → JoinPlays
 join_plays plays read stays contexts applies = plays_so (record { read = read; stays = stays; contexts = contexts; applies = applies }) plays

@@ -6,6 +6,7 @@ pub mod HeldSince
 pub mod ReadAlike
 pub mod PlaysAs
 pub mod Recorded
+pub mod WholeRecorded
 pub mod Sound
 pub mod AtPlace
 pub mod Noting

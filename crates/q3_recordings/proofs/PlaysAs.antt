@@ -1,5 +1,5 @@
 -- A recording plays as its client applied: message by message.
-use Rattle.std.proofs.Common.{◌≡◌, ◌⊎◌, ℕ, ◌-◌, ◌^◌, ◌<◌, ◌≤◌, Bool, true, false, List, [], ◌∷◌, Option, Some, Result, Ok, inl, inr, refl, sym, ap, subst, ◌∙◌, arith}
+use Rattle.std.proofs.Common.{◌≡◌, ◌⊎◌, ℕ, ◌-◌, ◌^◌, ◌<◌, ◌≤◌, Bool, true, false, List, [], ◌∷◌, Option, None, Some, Result, Ok, inl, inr, refl, sym, ap, subst, ◌∙◌, arith}
 use Rattle.std.specs.Prelude.{nat_lt, ◌==◌, ◌&&◌, if◌then◌else◌}
 use Rattle.std.proofs.lemmas.Bool.{cases_lt, lt-ltb, cond_both, lt-leb, ltb-true, ltb-false, eqb-true}
 use Rattle.std.specs.Result.{result_ok}
@@ -8,7 +8,7 @@ use Rattle.q3_bits.specs.ResultBind.{◌>>=◌, bind_ok}
 use Rattle.q3_text.specs.declared.text.Command.{Command}
 use Rattle.q3_window.specs.Incoming.{IncomingState, fresh_of, behind, executes, jump_at, new_incoming}
 use Rattle.q3_config.specs.Strings.{Strings}
-use Rattle.q3_config.specs.Changes.{after_command}
+use Rattle.q3_config.specs.Changes.{after_command, without_pending}
 use Rattle.q3_player.specs.declared.head.SnapHead.{SnapHead}
 use Rattle.q3_entity.specs.declared.state.EntityState.{EntityState}
 use Rattle.q3_entity.specs.Baselines.{Lines}
@@ -26,32 +26,33 @@ use Rattle.q3_clstate.specs.declared.applied.SnapOutcome.TheVariants.{NoSnap, Ac
 use Rattle.q3_clstate.specs.State.{AppliedState, Application, new_state, context_of, passes, accepts, applies_game, is_stale, skipped_for, apply_section, Settings, settled, tells_id, after_texts, hearing, apply_read, apply_at}
 use Rattle.q3_clstate.specs.Standing.{IsApplied}
 use Rattle.q3_clstate.specs.Laws.{AppliedIsContext}
-use Rattle.q3_demo.specs.Recording.{Noted, game_in, is_whole, is_before}
+use Rattle.q3_demo.specs.Recording.{Noted, is_whole, is_before}
 use Rattle.q3_recordings.specs.Plays.{IsNoted}
 use Rattle.q3_recordings.proofs.HeldSince.{held_since, view_new, in_ring, accept_since, none_since, before_since, first_since}
 use Rattle.q3_recordings.proofs.ReadAlike.{NamesSince, read_is, read_since}
+use Rattle.q3_recordings.proofs.ComposedGames.{told_in}
 
 -- what plays is as the client is, but for snapshots before the first that is recorded, for the text of the last command and for the map's id
-pub record PlaysAs (first : ℕ) (client play : AppliedState) : Type 0 where
+pub record PlaysAs (when : Type 0) (first : ℕ) (client play : AppliedState) : Type 0 where
   pub profile : play.profile ≡ client.profile
   pub executed : play.executed.executed ≡ client.executed.executed
-  pub strings : play.strings ≡ client.strings
+  pub strings : when → play.strings ≡ client.strings
   pub lines : play.lines ≡ client.lines
   pub slot : play.slot ≡ client.slot
   pub feed : play.feed ≡ client.feed
   pub held : play.held ≡ held_since first client.held
 
 -- the same but for snapshots
-record SaysAs (client play : AppliedState) : Type 0 where
+record SaysAs (when : Type 0) (client play : AppliedState) : Type 0 where
   profile : play.profile ≡ client.profile
   executed : play.executed.executed ≡ client.executed.executed
-  strings : play.strings ≡ client.strings
+  strings : when → play.strings ≡ client.strings
   lines : play.lines ≡ client.lines
   slot : play.slot ≡ client.slot
   feed : play.feed ≡ client.feed
 
-says : (first : ℕ) (client play : AppliedState) → PlaysAs first client play → SaysAs client play
-says first client play like = record {
+says : {when : Type 0} → (first : ℕ) (client play : AppliedState) → PlaysAs when first client play → SaysAs when client play
+says {when} first client play like = record {
   profile = like.profile;
   executed = like.executed;
   strings = like.strings;
@@ -61,18 +62,19 @@ says first client play like = record {
 }
 
 -- one message more that plays as the client applied it
-record DoesAs (first : ℕ) (client play : Application) : Type 0 where
+record DoesAs (when : Type 0) (first : ℕ) (client play : Application) : Type 0 where
   accepted : play.accepted ≡ client.accepted
   heard : play.heard ≡ client.heard
-  plays : PlaysAs first client.state play.state
+  plays : PlaysAs when first client.state play.state
 
 -- what a message's bytes do while it plays
-pub record Plays (first : ℕ) (noted : Noted) (play : AppliedState) (message : List ℕ) : Type 0 where
+pub record Plays (when : Type 0) (first : ℕ) (noted : Noted) (play : AppliedState) (message : List ℕ) : Type 0 where
   pub applied : Application
   pub applies : apply_at play noted.applied.answer.number message ≡ Ok applied
   pub accepted : applied.accepted ≡ noted.applied.accepted
+  pub number : applied.answer.number ≡ noted.applied.answer.number
   pub heard : applied.heard ≡ noted.applied.heard
-  pub plays : PlaysAs first noted.applied.state applied.state
+  pub plays : PlaysAs when first noted.applied.state applied.state
 
 -- ---- commands
 
@@ -92,12 +94,13 @@ texts_alike settings other (command ∷ commands) same =
     texts_alike (settled settings.id (tells_id command.text) (after_command settings.strings command.text)) (settled other.id (tells_id command.text) (after_command other.strings command.text)) commands
     (ap (λ (strings : Strings). (after_command strings command.text).strings) same)
 
-hearing_says : (client play : AppliedState) (commands : List Command) → SaysAs client play → SaysAs (hearing client commands) (hearing play commands)
-hearing_says client play commands like = record {
+hearing_says : {when : Type 0} → (client play : AppliedState) (commands : List Command) → SaysAs when client play → SaysAs when (hearing client commands) (hearing play commands)
+hearing_says {when} client play commands like = record {
   profile = like.profile;
   executed = executes_alike client.executed play.executed commands like.executed;
-  strings = ap (λ (executed : ℕ). (after_texts (record { strings = play.strings; id = play.id }) (fresh_of executed commands)).strings) like.executed
-      ∙ texts_alike (record { strings = client.strings; id = client.id }) (record { strings = play.strings; id = play.id }) (fresh_of client.executed.executed commands) like.strings;
+  strings = λ w.
+      ap (λ (executed : ℕ). (after_texts (record { strings = play.strings; id = play.id }) (fresh_of executed commands)).strings) like.executed
+      ∙ texts_alike (record { strings = client.strings; id = client.id }) (record { strings = play.strings; id = play.id }) (fresh_of client.executed.executed commands) (like.strings w);
   lines = like.lines;
   slot = like.slot;
   feed = like.feed;
@@ -106,9 +109,9 @@ hearing_says client play commands like = record {
 -- ---- sections
 
 -- so of which no snapshot is accepted
-passes_alike : (first : ℕ) (client play : AppliedState) (number : ℕ) (outcome other : SnapOutcome) → SaysAs client play → play.held ≡ held_since first client.held
-    → DoesAs first (passes client number outcome) (passes play number other)
-passes_alike first client play number outcome other like held = record {
+passes_alike : {when : Type 0} → (first : ℕ) (client play : AppliedState) (number : ℕ) (outcome other : SnapOutcome) → SaysAs when client play → play.held ≡ held_since first client.held
+    → DoesAs when first (passes client number outcome) (passes play number other)
+passes_alike {when} first client play number outcome other like held = record {
   accepted = refl;
   heard = refl;
   plays = record { profile = like.profile; executed = like.executed; strings = like.strings; lines = like.lines; slot = like.slot; feed = like.feed; held = held };
@@ -119,15 +122,15 @@ jumped_to window number =
     cond_both (number == window.executed) window (record { executed = number; last = [] }) (λ (window : IncomingState). window.executed ≡ number)
     (λ e. sym (eqb-true number window.executed e)) (λ e. refl)
 
-game_alike : (first : ℕ) (client play : AppliedState) (number : ℕ) (game : Gamestate) → SaysAs client play → play.held ≡ held_since first client.held
-    → DoesAs first (applies_game client number game) (applies_game play number game)
-game_alike first client play number game like held = record {
+game_alike : {when : Type 0} → (first : ℕ) (client play : AppliedState) (number : ℕ) (game : Gamestate) → SaysAs when client play → play.held ≡ held_since first client.held
+    → DoesAs when first (applies_game client number game) (applies_game play number game)
+game_alike {when} first client play number game like held = record {
   accepted = refl;
   heard = refl;
   plays = record {
     profile = like.profile;
     executed = jumped_to play.executed game.command ∙ sym (jumped_to client.executed game.command);
-    strings = refl;
+    strings = λ w. refl;
     lines = refl;
     slot = refl;
     feed = refl;
@@ -136,9 +139,9 @@ game_alike first client play number game like held = record {
 }
 
 -- and so a snapshot, whatever it was read against
-accepts_alike : (first : ℕ) (client play : AppliedState) (number base other : ℕ) (snapshot : Snapshot) → SaysAs client play
-    → accept_at play.held snapshot ≡ held_since first (accept_at client.held snapshot) → DoesAs first (accepts client number base snapshot) (accepts play number other snapshot)
-accepts_alike first client play number base other snapshot like held = record {
+accepts_alike : {when : Type 0} → (first : ℕ) (client play : AppliedState) (number base other : ℕ) (snapshot : Snapshot) → SaysAs when client play
+    → accept_at play.held snapshot ≡ held_since first (accept_at client.held snapshot) → DoesAs when first (accepts client number base snapshot) (accepts play number other snapshot)
+accepts_alike {when} first client play number base other snapshot like held = record {
   accepted = refl;
   heard = refl;
   plays = record { profile = like.profile; executed = like.executed; strings = like.strings; lines = like.lines; slot = like.slot; feed = like.feed; held = held };
@@ -148,27 +151,27 @@ accepts_alike first client play number base other snapshot like held = record {
 if_fresh : (held : HeldSnapshots) (number : ℕ) (stale fresh : Application) → held.newest < number → (if is_stale held number then stale else fresh) ≡ fresh
 if_fresh held number stale fresh newer = ap (λ (b : Bool). if b then stale else fresh) (lt-leb number held.newest newer)
 
-snap_alike : (first : ℕ) (client play : AppliedState) (number base other : ℕ) (head : SnapHead) (entities : List EntityState) → SaysAs client play
+snap_alike : {when : Type 0} → (first : ℕ) (client play : AppliedState) (number base other : ℕ) (head : SnapHead) (entities : List EntityState) → SaysAs when client play
     → accept_at play.held (record { head = head; entities = entities }) ≡ held_since first (accept_at client.held (record { head = head; entities = entities }))
     → client.held.newest < number → play.held.newest < number
-    → DoesAs first (apply_section client number (Snap base head entities)) (apply_section play number (Snap other head entities))
-snap_alike first client play number base other head entities like held newer fresh =
+    → DoesAs when first (apply_section client number (Snap base head entities)) (apply_section play number (Snap other head entities))
+snap_alike {when} first client play number base other head entities like held newer fresh =
     let snapshot : Snapshot = record { head = head; entities = entities } in
     let here = if_fresh client.held number (passes client number Stale) (accepts client number base snapshot) newer in
     let there = if_fresh play.held number (passes play number Stale) (accepts play number other snapshot) fresh in
-    subst (λ (applied : Application). DoesAs first applied (apply_section play number (Snap other head entities))) (sym here)
-    (subst (DoesAs first (accepts client number base snapshot)) (sym there) (accepts_alike first client play number base other snapshot like held))
+    subst (λ (applied : Application). DoesAs when first applied (apply_section play number (Snap other head entities))) (sym here)
+    (subst (DoesAs when first (accepts client number base snapshot)) (sym there) (accepts_alike first client play number base other snapshot like held))
 
-skip_alike : (first : ℕ) (client play : AppliedState) (number base : ℕ) → SaysAs client play → play.held ≡ held_since first client.held
+skip_alike : {when : Type 0} → (first : ℕ) (client play : AppliedState) (number base : ℕ) → SaysAs when client play → play.held ≡ held_since first client.held
     → client.held.newest < number → play.held.newest < number
-    → DoesAs first (apply_section client number (Skipped base)) (apply_section play number (Skipped base))
-skip_alike first client play number base like held newer fresh =
+    → DoesAs when first (apply_section client number (Skipped base)) (apply_section play number (Skipped base))
+skip_alike {when} first client play number base like held newer fresh =
     let outcome = SkippedFor base (skipped_for (held_snapshot client.held base)) in
     let other = SkippedFor base (skipped_for (held_snapshot play.held base)) in
     let here = if_fresh client.held number (passes client number Stale) (passes client number outcome) newer in
     let there = if_fresh play.held number (passes play number Stale) (passes play number other) fresh in
-    subst (λ (applied : Application). DoesAs first applied (apply_section play number (Skipped base))) (sym here)
-    (subst (DoesAs first (passes client number outcome)) (sym there) (passes_alike first client play number outcome other like held))
+    subst (λ (applied : Application). DoesAs when first applied (apply_section play number (Skipped base))) (sym here)
+    (subst (DoesAs when first (passes client number outcome)) (sym there) (passes_alike first client play number outcome other like held))
 
 newest_as : (first : ℕ) (client play : HeldSnapshots) (number : ℕ) → play ≡ held_since first client → client.newest < number → play.newest < number
 newest_as first client play number held newer =
@@ -179,25 +182,25 @@ accepts_as : (first : ℕ) (client play : HeldSnapshots) (snapshot : Snapshot) �
     → accept_at play snapshot ≡ held_since first (accept_at client snapshot)
 accepts_as first client play snapshot held from = ap (λ (held : HeldSnapshots). accept_at held snapshot) held ∙ sym (accept_since first client snapshot from)
 
-section_does : (first : ℕ) (client play : AppliedState) (number : ℕ) (section : Told) → SaysAs client play → play.held ≡ held_since first client.held → client.held.newest < number
-    → first ≤ number → HasNumber number section → DoesAs first (apply_section client number section) (apply_section play number section)
-section_does first client play number Nothing like held newer from under = passes_alike first client play number NoSnap NoSnap like held
-section_does first client play number (Game game) like held newer from under = game_alike first client play number game like held
-section_does first client play number (Snap base head entities) like held newer from under =
+section_does : {when : Type 0} → (first : ℕ) (client play : AppliedState) (number : ℕ) (section : Told) → SaysAs when client play → play.held ≡ held_since first client.held → client.held.newest < number
+    → first ≤ number → HasNumber number section → DoesAs when first (apply_section client number section) (apply_section play number section)
+section_does {when} first client play number Nothing like held newer from under = passes_alike first client play number NoSnap NoSnap like held
+section_does {when} first client play number (Game game) like held newer from under = game_alike first client play number game like held
+section_does {when} first client play number (Snap base head entities) like held newer from under =
     snap_alike first client play number base base head entities like
     (accepts_as first client.held play.held (record { head = head; entities = entities }) held (omega (arith, from, under))) newer (newest_as first client.held play.held number held newer)
-section_does first client play number (Skipped base) like held newer from under =
+section_does {when} first client play number (Skipped base) like held newer from under =
     skip_alike first client play number base like held newer (newest_as first client.held play.held number held newer)
 
 -- ---- a message that was read
 
 -- the commands are executed alike
-heard_does : (first : ℕ) (client play : AppliedState) (number : ℕ) (message other : Message) → other.commands ≡ message.commands → SaysAs client play
-    → DoesAs first (apply_section (hearing client message.commands) number message.section) (apply_section (hearing play message.commands) number other.section)
-    → DoesAs first (apply_read client number message) (apply_read play number other)
-heard_does first client play number message other same like does =
-    let under : DoesAs first (apply_section (hearing client message.commands) number message.section) (apply_section (hearing play other.commands) number other.section) =
-    subst (λ (commands : List Command). DoesAs first (apply_section (hearing client message.commands) number message.section) (apply_section (hearing play commands) number other.section)) (sym same) does in
+heard_does : {when : Type 0} → (first : ℕ) (client play : AppliedState) (number : ℕ) (message other : Message) → other.commands ≡ message.commands → SaysAs when client play
+    → DoesAs when first (apply_section (hearing client message.commands) number message.section) (apply_section (hearing play message.commands) number other.section)
+    → DoesAs when first (apply_read client number message) (apply_read play number other)
+heard_does {when} first client play number message other same like does =
+    let under : DoesAs when first (apply_section (hearing client message.commands) number message.section) (apply_section (hearing play other.commands) number other.section) =
+    subst (λ (commands : List Command). DoesAs when first (apply_section (hearing client message.commands) number message.section) (apply_section (hearing play commands) number other.section)) (sym same) does in
     record {
       accepted = under.accepted;
       heard = ap (λ (executed : ℕ). fresh_of executed other.commands) like.executed ∙ ap (fresh_of client.executed.executed) same;
@@ -225,14 +228,26 @@ has_read spelled context noted is =
       is = read_is spelled before.profile (context_of before.held before.lines) number found.0 (bits_of noted.message) is.stands.profile (context before is.stands) fits found.1;
     }
 
+-- what is answered has the message's number
+section_answers : (state : AppliedState) (number : ℕ) (told : Told) → (apply_section state number told).answer.number ≡ number
+section_answers state number Nothing = refl
+section_answers state number (Game game) = refl
+section_answers state number (Snap base head entities) =
+    cond_both (is_stale state.held number) (passes state number Stale) (accepts state number base (record { head = head; entities = entities }))
+    (λ (applied : Application). applied.answer.number ≡ number) (λ e. refl) (λ e. refl)
+section_answers state number (Skipped base) =
+    cond_both (is_stale state.held number) (passes state number Stale) (passes state number (SkippedFor base (skipped_for (held_snapshot state.held base))))
+    (λ (applied : Application). applied.answer.number ≡ number) (λ e. refl) (λ e. refl)
+
 -- what is read while it plays does as the client's did
-plays_read : (first : ℕ) (noted : Noted) (play : AppliedState) (message : List ℕ) (read : Message)
+plays_read : {when : Type 0} → (first : ℕ) (noted : Noted) (play : AppliedState) (message : List ℕ) (read : Message)
     → message_at play.profile (context_of play.held play.lines) noted.applied.answer.number (bits_of message) ≡ Ok read
-    → DoesAs first noted.applied (apply_read play noted.applied.answer.number read) → Plays first noted play message
-plays_read first noted play message read reads does = record {
+    → DoesAs when first noted.applied (apply_read play noted.applied.answer.number read) → Plays when first noted play message
+plays_read {when} first noted play message read reads does = record {
   applied = apply_read play noted.applied.answer.number read;
   applies = ap (λ r. r >>= λ (read : Message). Ok (apply_read play noted.applied.answer.number read)) reads;
   accepted = does.accepted;
+  number = section_answers (hearing play read.commands) noted.applied.answer.number read.section;
   heard = does.heard;
   plays = does.plays;
 }
@@ -271,18 +286,18 @@ section_names first state number (Snap base head entities) newer e =
 section_names first state number (Skipped base) newer e = tt
 
 -- what plays reads what its client would, if it held only those
-read_by : (first : ℕ) (client play : AppliedState) (number : ℕ) (bits : List Bool) (read : Message) → PlaysAs first client play
+read_by : {when : Type 0} → (first : ℕ) (client play : AppliedState) (number : ℕ) (bits : List Bool) (read : Message) → PlaysAs when first client play
     → message_at client.profile (context_of (held_since first client.held) client.lines) number bits ≡ Ok read → message_at play.profile (context_of play.held play.lines) number bits ≡ Ok read
-read_by first client play number bits read like e =
+read_by {when} first client play number bits read like e =
     ap (λ (profile : Profile). message_at profile (context_of play.held play.lines) number bits) like.profile
     ∙ ap (λ (held : HeldSnapshots). message_at client.profile (context_of held play.lines) number bits) like.held
     ∙ ap (λ (lines : Lines). message_at client.profile (context_of (held_since first client.held) lines) number bits) like.lines
     ∙ e
 
 -- it plays by its own bytes
-pub plays_step : ReadIsSpelled → SpelledIsRead → AppliedIsContext → (first : ℕ) (noted : Noted) (play : AppliedState) → PlaysAs first noted.before play → IsNoted noted
-    → first ≤ noted.applied.answer.number → is_before first noted.applied.answer.snap ≡ false → Plays first noted play noted.message
-plays_step spelled is_read context first noted play like is from apart =
+pub plays_step : {when : Type 0} → ReadIsSpelled → SpelledIsRead → AppliedIsContext → (first : ℕ) (noted : Noted) (play : AppliedState) → PlaysAs when first noted.before play → IsNoted noted
+    → first ≤ noted.applied.answer.number → is_before first noted.applied.answer.snap ≡ false → Plays when first noted play noted.message
+plays_step {when} spelled is_read context first noted play like is from apart =
     let number = noted.applied.answer.number in
     let before = noted.before in
     let has = has_read spelled context noted is in
@@ -294,7 +309,7 @@ plays_step spelled is_read context first noted play like is from apart =
     let does = heard_does first before play number read read refl (says first before play like)
     (section_does first (hearing before read.commands) (hearing play read.commands) number read.section (hearing_says before play read.commands (says first before play like)) like.held newer from has.is.number_is) in
     plays_read first noted play noted.message read (read_by first before play number (bits_of noted.message) read like since)
-    (subst (λ (applied : Application). DoesAs first applied (apply_read play number read)) (sym has.does) does)
+    (subst (λ (applied : Application). DoesAs when first applied (apply_read play number read)) (sym has.does) does)
 
 -- ---- the state behind a message has its number
 
@@ -399,25 +414,25 @@ whole_base (SkippedFor base cause) e = absurd cc
 whole_base Stale e = absurd cc
 
 -- a message with the same snapshot whole does the same
-whole_does : (first : ℕ) (client play : AppliedState) (number base : ℕ) (head : SnapHead) (entities : List EntityState) (read : Message) → read.section ≡ Snap base head entities → SaysAs client play
+whole_does : {when : Type 0} → (first : ℕ) (client play : AppliedState) (number base : ℕ) (head : SnapHead) (entities : List EntityState) (read : Message) → read.section ≡ Snap base head entities → SaysAs when client play
     → accept_at play.held (record { head = head; entities = entities }) ≡ held_since first (accept_at client.held (record { head = head; entities = entities }))
     → client.held.newest < number → play.held.newest < number
-    → DoesAs first (apply_read client number read) (apply_read play number (record { ack = read.ack; commands = read.commands; section = Snap 0 head entities }))
-whole_does first client play number base head entities read section like held newer fresh =
+    → DoesAs when first (apply_read client number read) (apply_read play number (record { ack = read.ack; commands = read.commands; section = Snap 0 head entities }))
+whole_does {when} first client play number base head entities read section like held newer fresh =
     let whole : Message = record { ack = read.ack; commands = read.commands; section = Snap 0 head entities } in
     heard_does first client play number read whole refl like
-    (subst (λ (told : Told). DoesAs first (apply_section (hearing client read.commands) number told) (apply_section (hearing play read.commands) number (Snap 0 head entities))) (sym section)
+    (subst (λ (told : Told). DoesAs when first (apply_section (hearing client read.commands) number told) (apply_section (hearing play read.commands) number (Snap 0 head entities))) (sym section)
     (snap_alike first (hearing client read.commands) (hearing play read.commands) number base 0 head entities (hearing_says client play read.commands like) held newer fresh))
 
 -- it plays by the bytes of a message that has it whole
-pub plays_whole : ReadIsSpelled → AppliedIsContext → (first : ℕ) (noted : Noted) (play : AppliedState) (bytes : List ℕ) (read : Message) (base : ℕ) (head : SnapHead) (entities : List EntityState)
-    → PlaysAs first noted.before play → IsNoted noted → first ≤ noted.applied.answer.number
+pub plays_whole : {when : Type 0} → ReadIsSpelled → AppliedIsContext → (first : ℕ) (noted : Noted) (play : AppliedState) (bytes : List ℕ) (read : Message) (base : ℕ) (head : SnapHead) (entities : List EntityState)
+    → PlaysAs when first noted.before play → IsNoted noted → first ≤ noted.applied.answer.number
     → message_at noted.before.profile (context_of noted.before.held noted.before.lines) noted.applied.answer.number (bits_of noted.message) ≡ Ok read
     → read.section ≡ Snap base head entities
     → message_at play.profile (context_of play.held play.lines) noted.applied.answer.number (bits_of bytes)
     ≡ Ok (record { ack = read.ack; commands = read.commands; section = Snap 0 head entities })
-    → Plays first noted play bytes
-plays_whole spelled context first noted play bytes read base head entities like is from reads section there =
+    → Plays when first noted play bytes
+plays_whole {when} spelled context first noted play bytes read base head entities like is from reads section there =
     let number = noted.applied.answer.number in
     let before = noted.before in
     let whole : Message = record { ack = read.ack; commands = read.commands; section = Snap 0 head entities } in
@@ -428,20 +443,27 @@ plays_whole spelled context first noted play bytes read base head entities like 
     let did : noted.applied ≡ apply_read before number read = found.0.does ∙ ap (apply_read before number) found.1 in
     let does = whole_does first before play number base head entities read section (says first before play like)
     (accepts_as first before.held play.held (record { head = head; entities = entities }) like.held (omega (arith, from, under))) newer (newest_as first before.held play.held number like.held newer) in
-    plays_read first noted play bytes whole there (subst (λ (applied : Application). DoesAs first applied (apply_read play number whole)) (sym did) does)
+    plays_read first noted play bytes whole there (subst (λ (applied : Application). DoesAs when first applied (apply_read play number whole)) (sym did) does)
 
 -- ---- the first
 
 -- what is left behind the gamestate that a recording begins with
 abbrev pub begun_by : Noted → ℕ → AppliedState
 begun_by noted first =
-    (apply_read (new_state noted.before.profile) (first - 1) (record { ack = noted.issued; commands = []; section = Game (game_in noted.before) })).state
+    (apply_read (new_state noted.before.profile) (first - 1) (record { ack = noted.issued; commands = []; section = Game (told_in noted.before) })).state
 
-begun_says : (noted : Noted) (first : ℕ) → SaysAs noted.before (begun_by noted first)
+-- no long string is being put together
+abbrev pub IsWhole : Noted → Type 0
+IsWhole noted = noted.before.strings.pending ≡ None
+
+whole_strings : (strings : Strings) → strings.pending ≡ None → without_pending strings ≡ strings
+whole_strings strings none = ap (λ p. record strings { pending = p }) (sym none)
+
+begun_says : (noted : Noted) (first : ℕ) → SaysAs (IsWhole noted) noted.before (begun_by noted first)
 begun_says noted first = record {
   profile = refl;
   executed = jumped_to (executes new_incoming []) noted.before.executed.executed;
-  strings = refl;
+  strings = λ whole. whole_strings noted.before.strings whole;
   lines = refl;
   slot = refl;
   feed = refl;
@@ -460,7 +482,7 @@ begun_accepts first state snapshot is before under =
     ap (λ (ring : ℕ). accept_at (no_snapshots ring) snapshot) (sym is.room) ∙ sym (first_since first state.held snapshot is.held before under)
 
 begun_plays : ReadIsSpelled → SpelledIsRead → AppliedIsContext → (noted : Noted) → IsNoted noted → is_whole noted.applied.answer.snap ≡ true
-    → Plays noted.applied.answer.number noted (begun_by noted noted.applied.answer.number) noted.message
+    → Plays (IsWhole noted) noted.applied.answer.number noted (begun_by noted noted.applied.answer.number) noted.message
 begun_plays spelled is_read context noted is whole =
     let first = noted.applied.answer.number in
     let before = noted.before in
@@ -477,20 +499,20 @@ begun_plays spelled is_read context noted is whole =
     let reads : message_at before.profile (context_of (no_snapshots before.profile.parse_ring) before.lines) first (bits_of noted.message) ≡ Ok read =
     ap (λ (context : Context). message_at before.profile context first (bits_of noted.message)) (begun_context first before is.stands newer) ∙ since in
     let does = heard_does first before play first read read refl (begun_says noted first)
-    (subst (λ (told : Told). DoesAs first (apply_section (hearing before read.commands) first told) (apply_section (hearing play read.commands) first told)) (sym snap.section)
+    (subst (λ (told : Told). DoesAs (IsWhole noted) first (apply_section (hearing before read.commands) first told) (apply_section (hearing play read.commands) first told)) (sym snap.section)
     (snap_alike first (hearing before read.commands) (hearing play read.commands) first 0 0 snap.head snap.entities (hearing_says before play read.commands (begun_says noted first))
     (begun_accepts first before snapshot is.stands newer snap.under) newer (omega (arith, newer)))) in
-    plays_read first noted play noted.message read reads (subst (λ (applied : Application). DoesAs first applied (apply_read play first read)) (sym has.does) does)
+    plays_read first noted play noted.message read reads (subst (λ (applied : Application). DoesAs (IsWhole noted) first applied (apply_read play first read)) (sym has.does) does)
 
 -- the first plays behind that gamestate
 pub plays_first : ReadIsSpelled → SpelledIsRead → AppliedIsContext → (first : ℕ) (noted : Noted) (play : AppliedState) → IsNoted noted → is_whole noted.applied.answer.snap ≡ true
     → first ≡ noted.applied.answer.number
-    → play ≡ (apply_read (new_state noted.before.profile) (first - 1) (record { ack = noted.issued; commands = []; section = Game (game_in noted.before) })).state
-    → Plays first noted play noted.message
+    → play ≡ (apply_read (new_state noted.before.profile) (first - 1) (record { ack = noted.issued; commands = []; section = Game (told_in noted.before) })).state
+    → Plays (IsWhole noted) first noted play noted.message
 plays_first spelled is_read context first noted play is whole at begun =
     let plays = begun_plays spelled is_read context noted is whole in
-    subst (λ (play : AppliedState). Plays first noted play noted.message) (sym begun)
-    (subst (λ (first : ℕ). Plays first noted (begun_by noted first) noted.message) (sym at) plays)
+    subst (λ (play : AppliedState). Plays (IsWhole noted) first noted play noted.message) (sym begun)
+    (subst (λ (first : ℕ). Plays (IsWhole noted) first noted (begun_by noted first) noted.message) (sym at) plays)
 
 -- ---- numbers
 

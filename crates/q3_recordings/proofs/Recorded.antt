@@ -18,64 +18,67 @@ use Rattle.q3_clstate.specs.State.{AppliedState, Application, new_state, context
 use Rattle.q3_clstate.specs.Laws.{ApplyStays, AppliedIsContext}
 use Rattle.q3_demo.specs.declared.recorder.Stage.TheVariants.{Waits, Runs, Ended}
 use Rattle.q3_demo.specs.Records.{longest_record, number_end, most_bytes}
-use Rattle.q3_demo.specs.Recording.{end_bytes, composed, game_in, game_bits, whole_of, whole_bits, Noting, goes_on, recomposed, begins, is_whole, is_before, composed_whole, Noted}
+use Rattle.q3_demo.specs.Recording.{composed, game_bits, whole_of, whole_bits, Noting, goes_on, recomposed, begins, is_whole, is_before, composed_whole, Noted}
 use Rattle.q3_demo.specs.Playing.{play_of, last_played}
-use Rattle.q3_recordings.specs.Plays.{IsNoted, Follows, AreNoted, recorded_if, recorded_from, applied_of, behind_game, accepted_in, heard_in, BeginsTold, AreBy, LeftBy, RecordingPlays}
-use Rattle.q3_recordings.proofs.DemoBytes.{Record, Does, state_after, bytes_of, demo_plays_most}
-use Rattle.q3_recordings.proofs.Composed.{begins_with, goes_with, none_behind, records_from, recording_bytes, records_few}
-use Rattle.q3_recordings.proofs.ComposedGames.{game_applies, game_short}
+use Rattle.q3_recordings.specs.Plays.{IsNoted, Follows, AreNoted, recorded_with, recorded_from, applied_of, behind_game, behind_number, number_in, accepted_in, heard_in, BeginsTold, BeginsWhole, AreBy, LeftAs, LeftBy, RecordingPlays}
+use Rattle.q3_recordings.proofs.DemoBytes.{Record, Does, state_after, bytes_of, demo_plays}
+use Rattle.q3_recordings.proofs.Composed.{begins_with, goes_with, none_behind, records_from, written_tailed, records_few}
+use Rattle.q3_recordings.proofs.ComposedGames.{told_in, told_applies, game_short}
 use Rattle.q3_recordings.proofs.ComposedWhole.{whole_applies, whole_short}
 use Rattle.q3_recordings.proofs.HeldSince.{held_since}
 use Rattle.q3_recordings.proofs.ReadAlike.{context_since}
-use Rattle.q3_recordings.proofs.PlaysAs.{PlaysAs, Plays, has_read, is_snap, before_base, plays_step, plays_whole, plays_first, newest_stays}
+use Rattle.q3_recordings.proofs.PlaysAs.{PlaysAs, Plays, IsWhole, has_read, is_snap, before_base, plays_step, plays_whole, plays_first, newest_stays}
 
 -- ---- what is left
 
 -- of the last one, or of what there was before the first
-abbrev LeftIn : AppliedState → List Noted → AppliedState → Type 0
-LeftIn client [] state = (state.strings ≡ client.strings) × (state.executed.executed ≡ client.executed.executed)
-LeftIn client (noted ∷ others) state = LeftIn noted.applied.state others state
+abbrev LeftIn : Type 0 → AppliedState → List Noted → AppliedState → Type 0
+LeftIn when client [] state = LeftAs when client state
+LeftIn when client (noted ∷ others) state = LeftIn when noted.applied.state others state
 
-left_by : (noted : Noted) (others : List Noted) (state : AppliedState) → LeftIn noted.applied.state others state → LeftBy (noted ∷ others) state
-left_by noted [] state left = left
-left_by noted (next ∷ others) state left = left_by next others state left
+left_by : (when : Type 0) (noted : Noted) (others : List Noted) (state : AppliedState) → LeftIn when noted.applied.state others state → LeftBy when (noted ∷ others) state
+left_by when noted [] state left = left
+left_by when noted (next ∷ others) state left = left_by when next others state left
 
 -- ---- from a state on
 
 -- the records do what was recorded
-record PlaysOn (client play : AppliedState) (last : ℕ) (records : List Record) (recorded : List Noted) : Type 0 where
+record PlaysOn (when : Type 0) (client play : AppliedState) (last : ℕ) (records : List Record) (recorded : List Noted) : Type 0 where
   applied : List Application
   does : Does play last records applied
+  numbers : map number_in applied ≡ map (λ (noted : Noted). noted.applied.answer.number) recorded
   accepted : map accepted_in applied ≡ map (λ (noted : Noted). noted.applied.accepted) recorded
   heard : map heard_in applied ≡ map (λ (noted : Noted). noted.applied.heard) recorded
-  left : LeftIn client recorded (state_after play applied)
+  left : LeftIn when client recorded (state_after play applied)
 
-none_on : (first last : ℕ) (client play : AppliedState) → PlaysAs first client play → PlaysOn client play last [] []
-none_on first last client play like = record {
+none_on : {when : Type 0} → (first last : ℕ) (client play : AppliedState) → PlaysAs when first client play → PlaysOn when client play last [] []
+none_on {when} first last client play like = record {
   applied = [];
   does = tt;
+  numbers = refl;
   accepted = refl;
   heard = refl;
-  left = (like.strings, like.executed);
+  left = record { executed = like.executed; lines = like.lines; slot = like.slot; feed = like.feed; strings = like.strings };
 }
 
-recorded_none : (messages : List Noted) → recorded_from Ended messages ≡ []
+pub recorded_none : (messages : List Noted) → recorded_from Ended messages ≡ []
 unfolding recorded_from
 recorded_none [] = refl
 recorded_none (noted ∷ others) = recorded_none others
 
-ended_on : (first last : ℕ) (client play : AppliedState) (others : List Noted) → PlaysAs first client play → PlaysOn client play last (records_from Ended others) (recorded_from Ended others)
-ended_on first last client play others like =
-    subst (λ (records : List Record). PlaysOn client play last records (recorded_from Ended others)) (sym (none_behind others))
-    (subst (λ (recorded : List Noted). PlaysOn client play last [] recorded) (sym (recorded_none others)) (none_on first last client play like))
+ended_on : {when : Type 0} → (first last : ℕ) (client play : AppliedState) (others : List Noted) → PlaysAs when first client play → PlaysOn when client play last (records_from Ended others) (recorded_from Ended others)
+ended_on {when} first last client play others like =
+    subst (λ (records : List Record). PlaysOn when client play last records (recorded_from Ended others)) (sym (none_behind others))
+    (subst (λ (recorded : List Noted). PlaysOn when client play last [] recorded) (sym (recorded_none others)) (none_on first last client play like))
 
-one_on : (first last : ℕ) (client play : AppliedState) (noted : Noted) (message : List ℕ) (plays : Plays first noted play message) (records : List Record) (recorded : List Noted)
+one_on : {when : Type 0} → (first last : ℕ) (client play : AppliedState) (noted : Noted) (message : List ℕ) (plays : Plays when first noted play message) (records : List Record) (recorded : List Noted)
     → last < noted.applied.answer.number → noted.applied.answer.number < number_end → length message ≤ longest_record
-    → PlaysOn noted.applied.state plays.applied.state noted.applied.answer.number records recorded
-    → PlaysOn client play last (record { number = noted.applied.answer.number; message = message } ∷ records) (noted ∷ recorded)
-one_on first last client play noted message plays records recorded above below short on = record {
+    → PlaysOn when noted.applied.state plays.applied.state noted.applied.answer.number records recorded
+    → PlaysOn when client play last (record { number = noted.applied.answer.number; message = message } ∷ records) (noted ∷ recorded)
+one_on {when} first last client play noted message plays records recorded above below short on = record {
   applied = plays.applied ∷ on.applied;
   does = (above, below, short, plays.applies, on.does);
+  numbers = ap (λ (number : ℕ). number ∷ map number_in on.applied) plays.number ∙ ap (λ (numbers : List ℕ). noted.applied.answer.number ∷ numbers) on.numbers;
   accepted = ap (λ (accepted : Option Snapshot). accepted ∷ map accepted_in on.applied) plays.accepted ∙ ap (λ accepted. noted.applied.accepted ∷ accepted) on.accepted;
   heard = ap (λ (heard : List Command). heard ∷ map heard_in on.applied) plays.heard ∙ ap (λ heard. noted.applied.heard ∷ heard) on.heard;
   left = on.left;
@@ -95,8 +98,8 @@ record Laws : Type 0 where
 
 -- ---- one message of a recording that runs
 
-play_context : Laws → (first : ℕ) (client play : AppliedState) → IsApplied client → PlaysAs first client play → IsContext play.profile (context_of play.held play.lines)
-play_context laws first client play is like =
+play_context : {when : Type 0} → Laws → (first : ℕ) (client play : AppliedState) → IsApplied client → PlaysAs when first client play → IsContext play.profile (context_of play.held play.lines)
+play_context {when} laws first client play is like =
     subst (λ (profile : Profile). IsContext profile (context_of play.held play.lines)) (sym like.profile)
     (subst (λ (held : HeldSnapshots). IsContext client.profile (context_of held play.lines)) (sym like.held)
     (subst (λ (lines : Lines). IsContext client.profile (context_of (held_since first client.held) lines)) (sym like.lines)
@@ -113,13 +116,13 @@ composed_of state message bytes None found e = absurd cc
 composed_of state message bytes (Some whole) found e = record { whole = whole; found = found; composes = e }
 
 -- by bytes that are short enough
-record PlaysShort (first : ℕ) (noted : Noted) (play : AppliedState) (message : List ℕ) : Type 0 where
-  plays : Plays first noted play message
+record PlaysShort (when : Type 0) (first : ℕ) (noted : Noted) (play : AppliedState) (message : List ℕ) : Type 0 where
+  plays : Plays when first noted play message
   short : length message ≤ longest_record
 
-whole_plays : Laws → (first : ℕ) (noted : Noted) (play : AppliedState) (bytes : List ℕ) → PlaysAs first noted.before play → IsNoted noted → first ≤ noted.applied.answer.number
-    → is_before first noted.applied.answer.snap ≡ true → composed_whole noted.applied.state (whole_of noted.applied.state noted.message) ≡ Some bytes → PlaysShort first noted play bytes
-whole_plays laws first noted play bytes like is from before e =
+whole_plays : {when : Type 0} → Laws → (first : ℕ) (noted : Noted) (play : AppliedState) (bytes : List ℕ) → PlaysAs when first noted.before play → IsNoted noted → first ≤ noted.applied.answer.number
+    → is_before first noted.applied.answer.snap ≡ true → composed_whole noted.applied.state (whole_of noted.applied.state noted.message) ≡ Some bytes → PlaysShort when first noted play bytes
+whole_plays {when} laws first noted play bytes like is from before e =
     let state = noted.applied.state in
     let of = composed_of state noted.message bytes (whole_of state noted.message) refl e in
     let has = has_read laws.read laws.contexts noted is in
@@ -133,25 +136,25 @@ whole_plays laws first noted play bytes like is from before e =
     }
 
 -- and what is behind it
-abbrev NotingOn : ℕ → ℕ → AppliedState → AppliedState → Noted → List Noted → Bool → Option (List ℕ) → Type 0
-NotingOn first last client play noted others before whole =
+abbrev NotingOn : Type 0 → ℕ → ℕ → AppliedState → AppliedState → Noted → List Noted → Bool → Option (List ℕ) → Type 0
+NotingOn when first last client play noted others before whole =
     let number = noted.applied.answer.number in
     let now : Noting = if before then recomposed first number whole else goes_on first number noted.message in
-    PlaysOn client play last ((if before then goes_with number whole else record { number = number; message = noted.message } ∷ []) ++ records_from now.stage others)
-    (recorded_if now.stage noted (recorded_from now.stage others))
+    PlaysOn when client play last ((if before then goes_with number whole else record { number = number; message = noted.message } ∷ []) ++ records_from now.stage others)
+    (recorded_with now.stage noted (recorded_from now.stage others))
 
-noting_on : Laws → (first last : ℕ) (client play : AppliedState) (noted : Noted) (others : List Noted) → PlaysAs first client play → PlaysAs first noted.before play → IsNoted noted
+noting_on : {when : Type 0} → Laws → (first last : ℕ) (client play : AppliedState) (noted : Noted) (others : List Noted) → PlaysAs when first client play → PlaysAs when first noted.before play → IsNoted noted
     → first ≤ noted.applied.answer.number → last < noted.applied.answer.number
     → (before : Bool) (whole : Option (List ℕ)) → is_before first noted.applied.answer.snap ≡ before
     → composed_whole noted.applied.state (whole_of noted.applied.state noted.message) ≡ whole
-    → ((message : List ℕ) (plays : Plays first noted play message)
-    → PlaysOn noted.applied.state plays.applied.state noted.applied.answer.number (records_from (Runs first) others) (recorded_from (Runs first) others))
-    → NotingOn first last client play noted others before whole
-noting_on laws first last client play noted others like same is from above true None before whole on = ended_on first last client play others like
-noting_on laws first last client play noted others like same is from above true (Some bytes) before whole on =
+    → ((message : List ℕ) (plays : Plays when first noted play message)
+    → PlaysOn when noted.applied.state plays.applied.state noted.applied.answer.number (records_from (Runs first) others) (recorded_from (Runs first) others))
+    → NotingOn when first last client play noted others before whole
+noting_on {when} laws first last client play noted others like same is from above true None before whole on = ended_on first last client play others like
+noting_on {when} laws first last client play noted others like same is from above true (Some bytes) before whole on =
     let by = whole_plays laws first noted play bytes same is from before whole in
     one_on first last client play noted bytes by.plays (records_from (Runs first) others) (recorded_from (Runs first) others) above is.number by.short (on bytes by.plays)
-noting_on laws first last client play noted others like same is from above false whole before e on =
+noting_on {when} laws first last client play noted others like same is from above false whole before e on =
     let plays = plays_step laws.read laws.spelled laws.contexts first noted play same is from before in
     one_on first last client play noted noted.message plays (records_from (Runs first) others) (recorded_from (Runs first) others) above is.number is.short (on noted.message plays)
 
@@ -166,15 +169,15 @@ behind_of : (noted : Noted) (others : List Noted) → Follows noted others → B
 behind_of noted [] follows = tt
 behind_of noted (next ∷ others) follows = follows
 
-runs_on : Laws → (first last : ℕ) (client play : AppliedState) (messages : List Noted) → AreNoted messages → Behind client messages → PlaysAs first client play
-    → last ≤ client.number → first ≤ client.number → PlaysOn client play last (records_from (Runs first) messages) (recorded_from (Runs first) messages)
+runs_on : {when : Type 0} → Laws → (first last : ℕ) (client play : AppliedState) (messages : List Noted) → AreNoted messages → Behind client messages → PlaysAs when first client play
+    → last ≤ client.number → first ≤ client.number → PlaysOn when client play last (records_from (Runs first) messages) (recorded_from (Runs first) messages)
 unfolding records_from recorded_from
-runs_on laws first last client play [] are behind like at from = none_on first last client play like
-runs_on laws first last client play (noted ∷ others) are behind like at from =
+runs_on {when} laws first last client play [] are behind like at from = none_on first last client play like
+runs_on {when} laws first last client play (noted ∷ others) are behind like at from =
     let is : IsNoted noted = are.0 in
     let number = noted.applied.answer.number in
     let stays = newest_stays laws.read laws.contexts noted is in
-    let same : PlaysAs first noted.before play = subst (λ (state : AppliedState). PlaysAs first state play) (sym behind) like in
+    let same : PlaysAs when first noted.before play = subst (λ (state : AppliedState). PlaysAs when first state play) (sym behind) like in
     let was : noted.before.number ≡ client.number = ap (λ (state : AppliedState). state.number) behind in
     let newer = is.newer in
     let now = stays.1 in
@@ -188,12 +191,13 @@ runs_on laws first last client play (noted ∷ others) are behind like at from =
 record BeginsOn (profile : Profile) (records : List Record) (recorded : List Noted) : Type 0 where
   applied : List Application
   does : Does (new_state profile) 0 records applied
+  numbers : map number_in applied ≡ behind_number (map (λ (noted : Noted). noted.applied.answer.number) recorded)
   accepted : map accepted_in applied ≡ behind_game None (map (λ (noted : Noted). noted.applied.accepted) recorded)
   heard : map heard_in applied ≡ behind_game [] (map (λ (noted : Noted). noted.applied.heard) recorded)
-  left : LeftBy recorded (state_after (new_state profile) applied)
+  left : LeftBy (BeginsWhole recorded) recorded (state_after (new_state profile) applied)
 
 nothing_on : (profile : Profile) → BeginsOn profile [] []
-nothing_on profile = record { applied = []; does = tt; accepted = refl; heard = refl; left = tt }
+nothing_on profile = record { applied = []; does = tt; numbers = refl; accepted = refl; heard = refl; left = tt }
 
 never_on : (profile : Profile) (others : List Noted) → BeginsOn profile (records_from Ended others) (recorded_from Ended others)
 never_on profile others =
@@ -210,8 +214,8 @@ unfolding fresh_of
 first_on laws noted others game is are follows whole told e =
     let number = noted.applied.answer.number in
     let before = noted.before in
-    let begun = apply_read (new_state before.profile) (number - 1) (record { ack = noted.issued; commands = []; section = Game (game_in before) }) in
-    let applies = game_applies laws.written laws.holds laws.stays laws.contexts before noted.issued (number - 1) game is.stands told.0 told.1 is.issued e in
+    let begun = apply_read (new_state before.profile) (number - 1) (record { ack = noted.issued; commands = []; section = Game (told_in before) }) in
+    let applies = told_applies laws.written laws.holds laws.stays laws.contexts before noted.issued (number - 1) game is.stands told is.issued e in
     let plays = plays_first laws.read laws.spelled laws.contexts number noted begun.state is whole refl refl in
     let now = (newest_stays laws.read laws.contexts noted is).1 in
     let on = runs_on laws number number noted.applied.state plays.applied.state others are (behind_of noted others follows) plays.plays (omega (arith, now)) (omega (arith, now)) in
@@ -222,17 +226,18 @@ first_on laws noted others game is are follows whole told e =
     record {
       applied = begun ∷ one.applied;
       does = (omega (arith, newer, some), omega (arith, below), game_short laws.bytes before noted.issued game e, applies, one.does);
+      numbers = ap (λ (numbers : List ℕ). (number - 1) ∷ numbers) one.numbers;
       accepted = ap (λ (accepted : List (Option Snapshot)). None ∷ accepted) one.accepted;
       heard = ap (λ (heard : List (List Command)). [] ∷ heard) one.heard;
-      left = left_by noted (recorded_from (Runs number) others) (state_after begun.state one.applied) one.left;
+      left = left_by (IsWhole noted) noted (recorded_from (Runs number) others) (state_after begun.state one.applied) one.left;
     }
 
 abbrev WaitsOn : Profile → Noted → List Noted → Bool → Option (List ℕ) → Type 0
 WaitsOn profile noted others whole game =
     let number = noted.applied.answer.number in
     let now : Noting = if whole then begins number noted.message game else record { stage = Waits; bytes = [] } in
-    BeginsTold (recorded_if now.stage noted (recorded_from now.stage others))
-    → BeginsOn profile ((if whole then begins_with number noted.message game else []) ++ records_from now.stage others) (recorded_if now.stage noted (recorded_from now.stage others))
+    BeginsTold (recorded_with now.stage noted (recorded_from now.stage others))
+    → BeginsOn profile ((if whole then begins_with number noted.message game else []) ++ records_from now.stage others) (recorded_with now.stage noted (recorded_from now.stage others))
 
 waiting_on : Laws → (profile : Profile) (noted : Noted) (others : List Noted) → IsNoted noted → AreNoted others → Follows noted others → noted.before.profile ≡ profile
     → (whole : Bool) (game : Option (List ℕ)) → is_whole noted.applied.answer.snap ≡ whole → composed (game_bits noted.before noted.issued) ≡ game
@@ -278,18 +283,20 @@ waits_on laws profile (noted ∷ others) are by told =
 -- ---- all of it
 
 plays_to : Laws → RecordingPlays
-plays_to laws profile messages are by told short few =
+plays_to laws profile messages over are by told short few =
     let on = waits_on laws profile messages are by told in
     let records = records_from Waits messages in
-    let bytes = recording_bytes messages in
-    let room : length (bytes_of records ++ end_bytes) ≤ most_bytes = subst (λ (demo : List ℕ). length demo ≤ most_bytes) bytes short in
+    let tailed = written_tailed over messages in
+    let bytes = tailed.whole in
+    let room : length (bytes_of records ++ tailed.tail) ≤ most_bytes = subst (λ (demo : List ℕ). length demo ≤ most_bytes) bytes short in
     let count = records_few messages in
-    let plays = demo_plays_most profile records on.applied on.does room (omega (arith, count, few)) in
+    let plays = demo_plays profile records on.applied tailed.tail tailed.ends on.does room (omega (arith, count, few)) in
     record {
       ending = ap (λ (demo : List ℕ). (play_of profile demo).ending) bytes ∙ plays.1;
+      numbers = ap (λ (demo : List ℕ). map number_in (applied_of profile demo)) bytes ∙ ap (λ (applied : List Application). map number_in applied) plays.0 ∙ on.numbers;
       accepted = ap (λ (demo : List ℕ). map accepted_in (applied_of profile demo)) bytes ∙ ap (λ (applied : List Application). map accepted_in applied) plays.0 ∙ on.accepted;
       heard = ap (λ (demo : List ℕ). map heard_in (applied_of profile demo)) bytes ∙ ap (λ (applied : List Application). map heard_in applied) plays.0 ∙ on.heard;
-      left = subst (LeftBy (recorded_from Waits messages)) (sym (ap (λ (demo : List ℕ). (last_played profile demo).state) bytes ∙ plays.2)) on.left;
+      left = subst (LeftBy (BeginsWhole (recorded_from Waits messages)) (recorded_from Waits messages)) (sym (ap (λ (demo : List ℕ). (last_played profile demo).state) bytes ∙ plays.2)) on.left;
     }
 
 pub recording_plays : WrittenIsRead → ReadIsSpelled → SpelledIsRead → MessageHoldsBits → MessageIsBytes → AcceptedIsHeld → ApplyStays → AppliedIsContext → RecordingPlays

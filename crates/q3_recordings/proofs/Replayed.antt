@@ -122,7 +122,7 @@ plays_so laws plays profile first rest c name checked answer told short few =
     let number : goes.place.client.state.number ≡ records.place.client.state.number = ap (λ (s : AppliedState). s.number) keeps.state in
     let now = keeps.sound sound in
     let from = are_noted laws profile checked (kept_step kept line).kept rest (have_slots kept line stands.have) c goes.place goes.at now (omega (arith, number, begun)) in
-    plays profile (applied_until (kept_step kept line).kept rest c) from.are
+    plays profile (applied_until (kept_step kept line).kept rest c) true from.are
     (are_by profile goes.place.client.state (applied_until (kept_step kept line).kept rest c) now.by from.behind) told short few
 
 pub replay_plays : RecordingPlays → ReadIsSpelled → ApplyStays → AppliedIsContext → AppliesItsMessage → ReplayPlays

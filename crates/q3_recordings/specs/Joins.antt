@@ -1,5 +1,5 @@
 -- What a recording of a client over a wire plays to.
-use Rattle.std.specs.Prelude.{ℕ, zero, suc, ◌<◌, ◌≤◌, if◌then◌else◌, List, [], length, Option}
+use Rattle.std.specs.Prelude.{◌≡◌, ℕ, zero, suc, ◌<◌, ◌≤◌, if◌then◌else◌, List, [], length, Option, Some}
 use Rattle.q3_io.specs.declared.address.Address.{Address}
 use Rattle.q3_io.specs.Readings.{reading_of, readings_after}
 use Rattle.q3_io.specs.Traffic.{Parcel, next_of}
@@ -8,12 +8,12 @@ use Rattle.q3_script.specs.declared.event.Event.{Event}
 use Rattle.q3_client.specs.Client.{new_client}
 use Rattle.q3_demo.specs.declared.recorder.Stage.TheVariants.{Waits}
 use Rattle.q3_demo.specs.Records.{most_bytes}
-use Rattle.q3_demo.specs.Recording.{Noted, recording}
+use Rattle.q3_demo.specs.Recording.{Noted}
 use Rattle.q3_demo.specs.Playing.{most_records}
 use Rattle.q3_node.specs.AtClient.{ClientEnd, new_end, client_rules}
 use Rattle.q3_node.specs.Node.{Node, arrivals_after, new_node, turn_at}
 use Rattle.q3_world.specs.StandsFor.{IsChecked}
-use Rattle.q3_schedules.specs.NodeRecorded.{applied_in, begins_it, line_at}
+use Rattle.q3_schedules.specs.NodeRecorded.{applied_in, begins_it, left_in, line_at}
 use Rattle.q3_recordings.specs.Plays.{recorded_from, BeginsTold, PlaysTo}
 
 -- the messages that a node applies in so many turns behind the first that begins a recording into the file of a name, up to its end
@@ -28,9 +28,11 @@ noted_in name (suc count) node readings arrivals =
     else if now.turn.ended then []
     else noted_in name count now.node later more
 
--- the recording of a client that joins by a script plays so, whatever arrives
+-- what its turns leave in the file, a recording with its end or one that has none yet, plays so, whatever arrives
 abbrev pub JoinPlays : Type 0
-JoinPlays = (profile : Profile) (count c challenge qport dup : ℕ) (server : Address) (events : List Event) (readings : List ℕ) (arrivals : List (Option Parcel)) (name : List ℕ)
+JoinPlays = (profile : Profile) (count c challenge qport dup : ℕ) (server : Address) (events : List Event) (readings : List ℕ) (arrivals : List (Option Parcel)) (name demo : List ℕ)
     → IsChecked profile
-    → let messages = noted_in name count (new_node (new_end c (new_client profile challenge qport dup) server) events) readings arrivals in
-    BeginsTold (recorded_from Waits messages) → length (recording messages) ≤ most_bytes → length messages < most_records → PlaysTo profile messages
+    → let node = new_node (new_end c (new_client profile challenge qport dup) server) events in
+    let messages = noted_in name count node readings arrivals in
+    left_in name count node readings arrivals ≡ Some demo → BeginsTold (recorded_from Waits messages) → length demo ≤ most_bytes → length messages < most_records
+    → PlaysTo profile demo (recorded_from Waits messages)

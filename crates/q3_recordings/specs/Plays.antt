@@ -1,5 +1,5 @@
 -- What the demo plays to that a client recorded.
-use Rattle.std.specs.Prelude.{◌≡◌, ℕ, zero, suc, ◌^◌, ◌<◌, ◌≤◌, List, [], ◌∷◌, length, map, Option, Some, None, IsSome, Result, Ok}
+use Rattle.std.specs.Prelude.{◌≡◌, ◌⊎◌, ℕ, zero, suc, ◌-◌, ◌^◌, ◌<◌, ◌≤◌, if◌then◌else◌, Bool, List, [], ◌∷◌, ◌++◌, length, map, Option, Some, None, IsSome, Result, Ok}
 use Rattle.std.specs.Result.{result_ok}
 use Rattle.q3_text.specs.declared.text.Command.{Command}
 use Rattle.q3_config.specs.Strings.{server_id}
@@ -11,14 +11,16 @@ use Rattle.q3_demo.specs.declared.error.DemoError.{DemoError}
 use Rattle.q3_demo.specs.declared.record.Piece.{Piece}
 use Rattle.q3_demo.specs.declared.record.Piece.TheVariants.{Message}
 use Rattle.q3_demo.specs.declared.recorder.Stage.{Stage}
-use Rattle.q3_demo.specs.declared.recorder.Stage.TheVariants.{Waits, Runs}
+use Rattle.q3_demo.specs.declared.recorder.Stage.TheVariants.{Waits, Runs, Ended}
 use Rattle.q3_demo.specs.Records.{longest_record, number_end, most_bytes}
-use Rattle.q3_demo.specs.Recording.{Noted, note_of, recording}
+use Rattle.q3_demo.specs.Recording.{Noted, is_whole, note_of, noted_from}
 use Rattle.q3_demo.specs.Playing.{Played, unplayed, next_piece, message_of, played_on, most_records, play_of, last_played}
+use Rattle.q3_schedules.specs.NodeRecorded.{written_of}
 
 -- ---- messages that a client applied
 
--- one by what it had before: under a number above that of the message before, which was one; and all of it well formed
+-- one that a client applied behind another: numbers rise, no snapshot of a newer number was accepted, and all that there was and that came is
+-- well formed and as long as a record may be
 pub record IsNoted (noted : Noted) : Type 0 where
   pub stands : IsApplied noted.before
   pub begun : 0 < noted.before.number
@@ -39,15 +41,15 @@ AreNoted [] = Unit {0}
 AreNoted (noted ∷ others) = IsNoted noted × Follows noted others × AreNoted others
 
 -- those of them that are recorded: from the first whole snapshot on, to the one before a message that is too long once it is composed
-abbrev pub recorded_if : Stage → Noted → List Noted → List Noted
-recorded_if (Runs first) noted others = noted ∷ others
-recorded_if other noted others = others
+abbrev pub recorded_with : Stage → Noted → List Noted → List Noted
+recorded_with (Runs first) noted others = noted ∷ others
+recorded_with other noted others = others
 
 unfoldable pub recorded_from : Stage → List Noted → List Noted
 recorded_from stage [] = []
 recorded_from stage (noted ∷ others) =
     let now = note_of stage noted in
-    recorded_if now.stage noted (recorded_from now.stage others)
+    recorded_with now.stage noted (recorded_from now.stage others)
 
 -- ---- what a demo's records do
 
@@ -76,39 +78,75 @@ abbrev pub behind_game : {A : Type 0} → A → List A → List A
 behind_game game [] = []
 behind_game game (first ∷ others) = game ∷ first ∷ others
 
--- what is accepted of messages, and the commands that are executed of them
+-- and of numbers that before the first
+abbrev pub behind_number : List ℕ → List ℕ
+behind_number [] = []
+behind_number (first ∷ others) = (first - 1) ∷ first ∷ others
+
+-- the number of a message, the snapshot that is accepted of it, if one is, and the commands that are executed of it
+abbrev pub number_in : Application → ℕ
+number_in applied = applied.answer.number
+
 abbrev pub accepted_in : Application → Option Snapshot
 accepted_in applied = applied.accepted
 
 abbrev pub heard_in : Application → List Command
 heard_in applied = applied.heard
 
--- before the first of these messages, if there is one, the config strings told the map's id, and no long string was still being put together
+-- before the first of these messages, if there is one, the config strings told the map's id
 abbrev pub BeginsTold : List Noted → Type 0
 BeginsTold [] = Unit {0}
-BeginsTold (first ∷ others) = IsSome (server_id first.before.strings) × (first.before.strings.pending ≡ None)
+BeginsTold (first ∷ others) = IsSome (server_id first.before.strings)
 
--- and they are of a profile
+-- and no long string was still being put together
+abbrev pub BeginsWhole : List Noted → Type 0
+BeginsWhole [] = Unit {0}
+BeginsWhole (first ∷ others) = first.before.strings.pending ≡ None
+
+-- the first is of a profile, and so all are that follow it
 abbrev pub AreBy : Profile → List Noted → Type 0
 AreBy profile [] = Unit {0}
 AreBy profile (first ∷ others) = first.before.profile ≡ profile
 
+-- the number of the last command that was executed, the baselines, the client's slot and the checksum feed are those of a client; and so are
+-- the config strings, where they may be
+pub record LeftAs (strings_too : Type 0) (client state : AppliedState) : Type 0 where
+  pub executed : state.executed.executed ≡ client.executed.executed
+  pub lines : state.lines ≡ client.lines
+  pub slot : state.slot ≡ client.slot
+  pub feed : state.feed ≡ client.feed
+  pub strings : strings_too → state.strings ≡ client.strings
+
 -- what the last message left, if there is one
-abbrev pub LeftBy : List Noted → AppliedState → Type 0
-LeftBy [] state = Unit {0}
-LeftBy (noted ∷ []) state = (state.strings ≡ noted.applied.state.strings) × (state.executed.executed ≡ noted.applied.state.executed.executed)
-LeftBy (noted ∷ next ∷ others) state = LeftBy (next ∷ others) state
+abbrev pub LeftBy : Type 0 → List Noted → AppliedState → Type 0
+LeftBy strings_too [] state = Unit {0}
+LeftBy strings_too (noted ∷ []) state = LeftAs strings_too noted.applied.state state
+LeftBy strings_too (noted ∷ next ∷ others) state = LeftBy strings_too (next ∷ others) state
 
--- the demo plays to its end; each message that was recorded is there, with the snapshot that was accepted of it and the commands that were
--- executed of it; and in the end the config strings are the client's
-pub record PlaysTo (profile : Profile) (messages : List Noted) : Type 0 where
-  pub ending : (play_of profile (recording messages)).ending ≡ Ok tt
-  pub accepted : map accepted_in (applied_of profile (recording messages)) ≡ behind_game None (map (λ (noted : Noted). noted.applied.accepted) (recorded_from Waits messages))
-  pub heard : map heard_in (applied_of profile (recording messages)) ≡ behind_game [] (map (λ (noted : Noted). noted.applied.heard) (recorded_from Waits messages))
-  pub left : LeftBy (recorded_from Waits messages) (last_played profile (recording messages)).state
+-- a demo plays to its end; behind the gamestate its records are the messages that were recorded, each under its number, with the snapshot
+-- that the client accepted of it and the commands that it executed of it; and in the end the state is as the client's
+pub record PlaysTo (profile : Profile) (demo : List ℕ) (recorded : List Noted) : Type 0 where
+  pub ending : (play_of profile demo).ending ≡ Ok tt
+  pub numbers : map number_in (applied_of profile demo) ≡ behind_number (map (λ (noted : Noted). noted.applied.answer.number) recorded)
+  pub accepted : map accepted_in (applied_of profile demo) ≡ behind_game None (map (λ (noted : Noted). noted.applied.accepted) recorded)
+  pub heard : map heard_in (applied_of profile demo) ≡ behind_game [] (map (λ (noted : Noted). noted.applied.heard) recorded)
+  pub left : LeftBy (BeginsWhole recorded) recorded (last_played profile demo).state
 
--- so it is of all messages that a client applied one behind the other, where the recording begins by strings that a gamestate can say whole,
--- and isn't longer than a demo that may be played
+-- so it is of all messages that a client applied one behind the other, where the recording begins by strings that tell the map's id, and
+-- isn't longer than a demo that may be played; and also as long as it has no end yet
 abbrev pub RecordingPlays : Type 0
-RecordingPlays = (profile : Profile) (messages : List Noted) → AreNoted messages → AreBy profile messages → BeginsTold (recorded_from Waits messages)
-    → length (recording messages) ≤ most_bytes → length messages < most_records → PlaysTo profile messages
+RecordingPlays = (profile : Profile) (messages : List Noted) (over : Bool) → AreNoted messages → AreBy profile messages → BeginsTold (recorded_from Waits messages)
+    → length (written_of over messages) ≤ most_bytes → length messages < most_records → PlaysTo profile (written_of over messages) (recorded_from Waits messages)
+
+-- ---- which messages are recorded
+
+-- all from the first on of which a whole snapshot was accepted
+unfoldable pub from_whole : List Noted → List Noted
+from_whole [] = []
+from_whole (noted ∷ others) = if is_whole noted.applied.answer.snap then noted ∷ others else from_whole others
+
+-- these are recorded; or, where the recording ended by itself, the first of them
+abbrev pub WholeIsRecorded : Type 0
+WholeIsRecorded = (messages : List Noted)
+    → (recorded_from Waits messages ≡ from_whole messages)
+    ⊎ ((rest : List Noted) × (from_whole messages ≡ recorded_from Waits messages ++ rest) × ((noted_from Waits messages).stage ≡ Ended))

@@ -29,4 +29,4 @@ ReplayPlays = (profile : Profile) (first rest : List Event) (c : ℕ) (name : Li
     → (kept_step (kept_then profile first) (events.RecordTo c name)).answer ≡ Given (handed.Record c (Ok tt))
     → BeginsTold (recorded_from Waits (noted_behind profile first c name rest))
     → length (recording (noted_behind profile first c name rest)) ≤ most_bytes → length (noted_behind profile first c name rest) < most_records
-    → PlaysTo profile (noted_behind profile first c name rest)
+    → PlaysTo profile (recording (noted_behind profile first c name rest)) (recorded_from Waits (noted_behind profile first c name rest))

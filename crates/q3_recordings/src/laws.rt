@@ -1,7 +1,7 @@
 //! Laws, each the contract of a call that does nothing but cite the laws below it.
 
 ghost use Rattle.q3_recordings.specs.Joins.{JoinPlays};
-ghost use Rattle.q3_recordings.specs.Plays.{RecordingPlays};
+ghost use Rattle.q3_recordings.specs.Plays.{RecordingPlays, WholeIsRecorded};
 ghost use Rattle.q3_recordings.specs.Replays.{ReplayPlays};
 
 use q3_bits::laws as bits;
@@ -10,8 +10,16 @@ use q3_clstate::laws as clstate;
 use q3_rings::laws as rings;
 use q3_svmsg::laws as svmsg;
 
-/// Playing a recording gives what its client had: behind the gamestate each of the messages that it recorded, with the snapshot that was
-/// accepted of it and the commands that were executed of it, and in the end the config strings that the client had.
+/// Which messages a recording has: all from the first on of which a whole snapshot was accepted; or, where a message that had to be composed
+/// was too long, the first of them.
+pub fn whole_is_recorded()
+    ensures { WholeIsRecorded }
+{}
+
+/// Playing a recording gives what its client had: behind the gamestate each of the messages that it recorded, under its number, with the
+/// snapshot that was accepted of it and the commands that were executed of it, and in the end the client's baselines, slot, checksum feed and
+/// number of commands. The recording begins with config strings that tell the map's id. Where it doesn't begin within a long string, the
+/// config strings in the end are the client's, too.
 pub fn recording_plays()
     ensures { RecordingPlays }
 {
