@@ -29,3 +29,5 @@ pub mod EventKinds
 pub mod NamedRecordings
 pub mod Recorded
 pub mod NodeRecorded
+pub mod MadeOnce
+pub mod EndedEarly

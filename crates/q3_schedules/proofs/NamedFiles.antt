@@ -18,14 +18,14 @@ other_name n name ne = elim (cases_Bool (bytes_eq n name)) [
   | inr not ↦ not
 ]
 
-same_name : (files : List File) (name bytes : List ℕ) → contents_of (with_contents files name bytes) name ≡ Some bytes
+pub same_name : (files : List File) (name bytes : List ℕ) → contents_of (with_contents files name bytes) name ≡ Some bytes
 unfolding contents_of with_contents
 same_name [] name bytes = rw ((bytes_eq-Decides name name).1 refl) refl
 same_name (file ∷ files) name bytes =
     cond_both (bytes_eq file.name name) (record { name = file.name; contents = bytes } ∷ files) (file ∷ with_contents files name bytes)
     (λ (all : List File). contents_of all name ≡ Some bytes) (λ is. rw is refl) (λ not. rw not (same_name files name bytes))
 
-others_name : (files : List File) (n name bytes : List ℕ) → n ≢ name → contents_of (with_contents files n bytes) name ≡ contents_of files name
+pub others_name : (files : List File) (n name bytes : List ℕ) → n ≢ name → contents_of (with_contents files n bytes) name ≡ contents_of files name
 unfolding contents_of with_contents
 others_name [] n name bytes ne = rw (other_name n name ne) refl
 others_name (file ∷ files) n name bytes ne =
@@ -49,7 +49,7 @@ Spares name (Extends n bytes) = n ≢ name
 abbrev pub SparesAll : List ℕ → List FileAct → Type 0
 SparesAll name acts = AllByRecursion (Spares name) acts
 
-spared_one : (told : Told) (name : List ℕ) (act : FileAct) → Spares name act → contents_of (after_act told act).files name ≡ contents_of told.files name
+pub spared_one : (told : Told) (name : List ℕ) (act : FileAct) → Spares name act → contents_of (after_act told act).files name ≡ contents_of told.files name
 spared_one told name (Makes n) ne = others_name told.files n name [] ne
 spared_one told name (Extends n bytes) ne = others_name told.files n name (held_by told.files n ++ bytes) ne
 

@@ -248,7 +248,7 @@ gone_of name c ends apart here = λ d. elim (cases_eq d c) [
 abbrev pub IsSoFar : List ℕ → ℕ → Stage → Ends → Type 0
 IsSoFar name c stage ends = Goes name c stage ends ⊎ ((stage ≡ Ended) × Gone name ends)
 
-apart_put : (name : List ℕ) (c : ℕ) (ends : Ends) (now : Place) → Apart name c ends → Apart name c (with_place ends c now)
+pub apart_put : (name : List ℕ) (c : ℕ) (ends : Ends) (now : Place) → Apart name c ends → Apart name c (with_place ends c now)
 apart_put name c ends now apart = λ d ne. rw (get_or-set_other ends.clients c d (Some now) None ne) (apart d ne)
 
 put_so_far : (name : List ℕ) (c : ℕ) (stage : Stage) (ends : Ends) (place now : Place) → place_at ends c ≡ Some place → Apart name c ends → SoFar name stage now.recording

@@ -34,7 +34,7 @@ use Rattle.q3_schedules.proofs.Recorded.{Whole, noted_ended, noted_over, over_fi
 -- ---- lines by what they do to recordings
 
 -- a line that does nothing to one
-record PlainLine (event : Event) : Type 0 where
+pub record PlainLine (event : Event) : Type 0 where
   pub same : (end : ClientEnd) (number : ℕ) → (line_done end event number).end.recording ≡ end.recording
   pub none : (end : ClientEnd) (number : ℕ) → (line_done end event number).acts ≡ []
   pub goes : ends_it (Some event) ≡ false
@@ -42,7 +42,7 @@ record PlainLine (event : Event) : Type 0 where
   pub ends : is_end event ≡ false
   pub other : (name : List ℕ) → MakesOther name event
 
-by_line : (P : Event → Type 0) → ((c : ℕ) (n : List ℕ) → P (events.RecordTo c n)) → ((c : ℕ) → P (events.Stop c)) → ((ms : ℕ) → P (events.End ms))
+pub by_line : (P : Event → Type 0) → ((c : ℕ) (n : List ℕ) → P (events.RecordTo c n)) → ((c : ℕ) → P (events.Stop c)) → ((ms : ℕ) → P (events.End ms))
     → ((event : Event) → PlainLine event → P event) → (event : Event) → P event
 by_line P records stops ends plain (events.RecordTo c n) = records c n
 by_line P records stops ends plain (events.Stop c) = stops c
@@ -74,7 +74,7 @@ arrival_apart name end parcel =
     (λ (now : Arrived ClientEnd). StaysApart name end.recording now.end.recording now.acts)
     (λ from. takes_one name end.client (take_at end.client parcel.bytes) end.recording) (λ not unnamed. (unnamed, tt))
 
-abbrev OtherLine : List ℕ → Option Event → Type 0
+abbrev pub OtherLine : List ℕ → Option Event → Type 0
 OtherLine name None = Unit {0}
 OtherLine name (Some event) = MakesOther name event
 
@@ -85,20 +85,20 @@ turn_apart name node None None other = λ unnamed. (unnamed, tt)
 turn_apart name node None (Some parcel) other = arrival_apart name node.end (cut_to_room parcel)
 
 -- the line that is due doesn't name the file, nor does one behind it
-abbrev OthersFrom : List ℕ → Option Event → List Event → Type 0
+abbrev pub OthersFrom : List ℕ → Option Event → List Event → Type 0
 OthersFrom name None left = AllByRecursion (MakesOther name) left
 OthersFrom name (Some event) left = MakesOther name event × AllByRecursion (MakesOther name) (drop 1 left)
 
-due_others : (name : List ℕ) (time ms : ℕ) (left : List Event) → AllByRecursion (MakesOther name) left → OthersFrom name (due time ms left) left
+pub due_others : (name : List ℕ) (time ms : ℕ) (left : List Event) → AllByRecursion (MakesOther name) left → OthersFrom name (due time ms left) left
 due_others name time ms [] others = others
 due_others name time ms (event ∷ left) others =
     cond_both (nat_le (due_at time event) ms) (Some event) None (λ (line : Option Event). OthersFrom name line (event ∷ left)) (λ is. others) (λ not. others)
 
-other_line : (name : List ℕ) (line : Option Event) (left : List Event) → OthersFrom name line left → OtherLine name line
+pub other_line : (name : List ℕ) (line : Option Event) (left : List Event) → OthersFrom name line left → OtherLine name line
 other_line name None left others = tt
 other_line name (Some event) left others = others.0
 
-others_left : (name : List ℕ) (node : Node ClientEnd) (line : Option Event) (found : Option Parcel) → OthersFrom name line node.left
+pub others_left : (name : List ℕ) (node : Node ClientEnd) (line : Option Event) (found : Option Parcel) → OthersFrom name line node.left
     → AllByRecursion (MakesOther name) (turn_of client_rules node line found).node.left
 others_left name node (Some event) found others = others.1
 others_left name node None None others = others
@@ -119,7 +119,7 @@ behind_turn name told turn rest found last more =
     ∙ cond_both turn.ended [] rest (λ (turns : List Turn). contents_of (after_acts (after_acts told turn.acts) (acts_of turns)).files name ≡ found) last more)
 
 -- the node with its first reading
-abbrev started : Node ClientEnd → List ℕ → Node ClientEnd
+abbrev pub started : Node ClientEnd → List ℕ → Node ClientEnd
 started node readings = record node { start = Some (start_at node.start (reading_of readings)) }
 
 -- what nobody records into stays
@@ -252,16 +252,16 @@ so_far_left name (suc count) node readings arrivals told stage bytes others (inl
 -- ---- before the line that begins it
 
 -- of the line that is due and those behind it at most one names the file
-abbrev OnceFrom : List ℕ → Option Event → List Event → Type 0
+abbrev pub OnceFrom : List ℕ → Option Event → List Event → Type 0
 OnceFrom name None left = NamesOnce name left
 OnceFrom name (Some event) left = (MakesOther name event × NamesOnce name (drop 1 left)) ⊎ AllByRecursion (MakesOther name) (drop 1 left)
 
-due_once : (name : List ℕ) (time ms : ℕ) (left : List Event) → NamesOnce name left → OnceFrom name (due time ms left) left
+pub due_once : (name : List ℕ) (time ms : ℕ) (left : List Event) → NamesOnce name left → OnceFrom name (due time ms left) left
 due_once name time ms [] once = once
 due_once name time ms (event ∷ left) once =
     cond_both (nat_le (due_at time event) ms) (Some event) None (λ (line : Option Event). OnceFrom name line (event ∷ left)) (λ is. once) (λ not. once)
 
-once_of : (name : List ℕ) (events : List Event) → AllByRecursion (MakesOther name) events → NamesOnce name events
+pub once_of : (name : List ℕ) (events : List Event) → AllByRecursion (MakesOther name) events → NamesOnce name events
 once_of name [] others = tt
 once_of name (event ∷ events) others = inr others.1
 
@@ -270,20 +270,20 @@ once_behind name event left (inl once) = once.1
 once_behind name event left (inr others) = once_of name (drop 1 left) others
 
 -- the recording begins in a turn, or doesn't
-record Begins (name : List ℕ) (end : ClientEnd) (line : Option Event) (now : Turned ClientEnd) : Type 0 where
+pub record Begins (name : List ℕ) (end : ClientEnd) (line : Option Event) (now : Turned ClientEnd) : Type 0 where
   pub begins : begins_it name end line ≡ true
   pub going : now.node.end.recording ≡ Some (new_recording name)
   pub makes : now.turn.acts ≡ Makes name ∷ []
   pub on : now.turn.ended ≡ false
   pub others : AllByRecursion (MakesOther name) now.node.left
 
-record Before (name : List ℕ) (end : ClientEnd) (line : Option Event) (now : Turned ClientEnd) : Type 0 where
+pub record Before (name : List ℕ) (end : ClientEnd) (line : Option Event) (now : Turned ClientEnd) : Type 0 where
   pub not_yet : begins_it name end line ≡ false
   pub unnamed : Unnamed name now.node.end.recording
   pub spares : SparesAll name now.turn.acts
   pub once : NamesOnce name now.node.left
 
-abbrev Starts : List ℕ → Node ClientEnd → Option Event → Option Parcel → Type 0
+abbrev pub Starts : List ℕ → Node ClientEnd → Option Event → Option Parcel → Type 0
 Starts name node line found = Begins name node.end line (turn_of client_rules node line found) ⊎ Before name node.end line (turn_of client_rules node line found)
 
 other_starts : (name : List ℕ) (node : Node ClientEnd) (line : Option Event) (found : Option Parcel) → OtherLine name line → begins_it name node.end line ≡ false
@@ -335,7 +335,7 @@ line_starts name node found unnamed =
     (λ ms once. other_starts name node (Some (events.End ms)) found tt refl (once_behind name (events.End ms) node.left once) unnamed)
     (λ event plain once. other_starts name node (Some event) found (plain.other name) (plain.begins name node.end) (once_behind name event node.left once) unnamed)
 
-starts : (name : List ℕ) (node : Node ClientEnd) (line : Option Event) (found : Option Parcel) → Unnamed name node.end.recording → OnceFrom name line node.left → Starts name node line found
+pub starts : (name : List ℕ) (node : Node ClientEnd) (line : Option Event) (found : Option Parcel) → Unnamed name node.end.recording → OnceFrom name line node.left → Starts name node line found
 starts name node (Some event) found unnamed once = line_starts name node found unnamed event once
 starts name node None None unnamed once = other_starts name node None None tt refl once unnamed
 starts name node None (Some parcel) unnamed once = other_starts name node None (Some parcel) tt refl once unnamed

@@ -39,7 +39,7 @@ one_at name old new acts took (inl takes) =
     (takes.client, rw (takes.ends, takes.does) (takes_at name takes.client old takes.front takes.bytes (place_at old takes.client) refl))
 one_at name old new acts took (inr quiet) = (0, rw quiet.none (at_same name 0 old new quiet.same))
 
-gone_on : (name : List ℕ) (kept : Kept) → HaveSlots kept.ends → (event : Event) → MakesOther name event → Gone name kept.ends
+pub gone_on : (name : List ℕ) (kept : Kept) → HaveSlots kept.ends → (event : Event) → MakesOther name event → Gone name kept.ends
     → Gone name (kept_step kept event).kept.ends × SparesAll name (acts_of kept event)
 unfolding kept_step line_of acts_of line_acts
 gone_on name kept have =
@@ -143,7 +143,7 @@ becomes name c stage kept have goes =
 
 -- ---- behind the last event
 
-ends_gone : (name : List ℕ) (clients : List (Option Place)) → ((d : ℕ) → Unnamed name (recording_at (get_or clients d None))) → SparesAll name (flat_map stop_acts clients)
+pub ends_gone : (name : List ℕ) (clients : List (Option Place)) → ((d : ℕ) → Unnamed name (recording_at (get_or clients d None))) → SparesAll name (flat_map stop_acts clients)
 ends_gone name [] gone = tt
 ends_gone name (found ∷ clients) gone =
     subst (SparesAll name) (sym (flat_map-cons stop_acts found clients))

@@ -2,3 +2,4 @@ pub mod Schedules
 pub mod Recorded
 pub mod ReportLines
 pub mod NodeRecorded
+pub mod Early

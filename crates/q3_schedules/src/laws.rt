@@ -1,5 +1,6 @@
 //! Laws of every schedule, each the contract of a call that does nothing but cite the laws below it.
 
+ghost use Rattle.q3_schedules.specs.Early.{NodeLeavesFront, ReplayLeavesFront};
 ghost use Rattle.q3_schedules.specs.NodeRecorded.{NodeRecordsItsMessages};
 ghost use Rattle.q3_schedules.specs.Recorded.{RecordingIsItsMessages};
 ghost use Rattle.q3_schedules.specs.ReportLines.{CountsAreLines, ReplayIsCounted};
@@ -231,4 +232,15 @@ pub fn recording_is_its_messages()
 /// client applied behind that line; where it has no end yet, a front of it.
 pub fn node_records_its_messages()
     ensures { NodeRecordsItsMessages }
+{}
+
+/// Where a replay ends early, the file that at most one of its `record` lines names holds what it did before, or a front of what it would
+/// hold.
+pub fn replay_leaves_front()
+    ensures { ReplayLeavesFront }
+{}
+
+/// And so it is where a client's node ends early.
+pub fn node_leaves_front()
+    ensures { NodeLeavesFront }
 {}
