@@ -11,4 +11,5 @@ pub mod Sound
 pub mod AtPlace
 pub mod Noting
 pub mod Replayed
+pub mod OwnReplays
 pub mod Joined

@@ -60,10 +60,10 @@ are_noted laws profile checked kept (event ∷ events) have c place at sound beg
 
 -- ---- up to the `record` line
 
-record StandsSo (profile : Profile) (kept : Kept) : Type 0 where
-  by : kept.profile ≡ profile
-  have : HaveSlots kept.ends
-  sound : AllSound profile kept.ends
+pub record StandsSo (profile : Profile) (kept : Kept) : Type 0 where
+  pub by : kept.profile ≡ profile
+  pub have : HaveSlots kept.ends
+  pub sound : AllSound profile kept.ends
 
 nobody : (found : Option Place) → found ≡ None → is_some found ≡ true → ⊥
 nobody None at is = absurd cc
@@ -73,14 +73,14 @@ no_place : (found : Option Place) (place : Place) → found ≡ None → found �
 no_place None place none some = absurd cc
 no_place (Some other) place none some = absurd cc
 
-opening_stands : (profile : Profile) → StandsSo profile (opening_kept profile)
+pub opening_stands : (profile : Profile) → StandsSo profile (opening_kept profile)
 opening_stands profile = record {
   by = refl;
   have = λ d is. absurd (nobody (place_at (opening_kept profile).ends d) (nobody_yet profile d) is);
   sound = λ d place at. absurd (no_place (place_at (opening_kept profile).ends d) place (nobody_yet profile d) at);
 }
 
-after_stands : Laws → (profile : Profile) → IsChecked profile → (kept : Kept) (events : List Event) → StandsSo profile kept → StandsSo profile (kept_after kept events)
+pub after_stands : Laws → (profile : Profile) → IsChecked profile → (kept : Kept) (events : List Event) → StandsSo profile kept → StandsSo profile (kept_after kept events)
 unfolding kept_after
 after_stands laws profile checked kept [] stands = stands
 after_stands laws profile checked kept (event ∷ events) stands =
@@ -97,12 +97,12 @@ abbrev result_of : Answered → Result (Unit {0}) RecordRefused
 result_of (Given (handed.Record c result)) = result
 result_of other = Err NoGame
 
-record Records (ends : Ends) (c : ℕ) : Type 0 where
-  place : Place
-  at : place_at ends c ≡ Some place
-  game : place.client.state.has_game ≡ true
+pub record Records (ends : Ends) (c : ℕ) : Type 0 where
+  pub place : Place
+  pub at : place_at ends c ≡ Some place
+  pub game : place.client.state.has_game ≡ true
 
-records_at : (ends : Ends) (c : ℕ) (name : List ℕ) (found : Option Place) → place_at ends c ≡ found → (record_of ends c name found).answer ≡ Given (handed.Record c (Ok tt)) → Records ends c
+pub records_at : (ends : Ends) (c : ℕ) (name : List ℕ) (found : Option Place) → place_at ends c ≡ found → (record_of ends c name found).answer ≡ Given (handed.Record c (Ok tt)) → Records ends c
 records_at ends c name None at is = absurd (refuses (Err unrecorded.NoClient) unrecorded.NoClient refl (ap result_of is))
 records_at ends c name (Some place) at is = record { place = place; at = at; game = begins_with_game place.client place.recording (new_recording name) (ap result_of is) }
 

@@ -1,5 +1,6 @@
 -- What a recording of a replay plays to.
-use Rattle.std.specs.Prelude.{◌≡◌, ℕ, ◌<◌, ◌≤◌, List, length, Ok}
+use Rattle.std.specs.Prelude.{◌≡◌, ℕ, ◌<◌, ◌≤◌, List, ◌∷◌, ◌++◌, length, Ok}
+use Rattle.std.specs.List.{AllByRecursion}
 use Rattle.q3_profile.specs.declared.profile.Profile.{Profile}
 use Rattle.q3_script.specs.declared.event.Event.{Event}
 use Rattle.q3_script.specs.declared.event.Event.TheVariants as events
@@ -13,6 +14,7 @@ use Rattle.q3_world.specs.Kept.{Kept, kept_step}
 use Rattle.q3_world.specs.ByTags.{kept_then}
 use Rattle.q3_world.specs.StandsFor.{IsChecked}
 use Rattle.q3_schedules.specs.Recorded.{applied_until}
+use Rattle.q3_schedules.specs.Schedules.{IsScheduled}
 use Rattle.q3_recordings.specs.Plays.{recorded_from, BeginsTold, PlaysTo}
 
 -- what is kept behind a `record` line
@@ -29,4 +31,12 @@ ReplayPlays = (profile : Profile) (first rest : List Event) (c : ℕ) (name : Li
     → (kept_step (kept_then profile first) (events.RecordTo c name)).answer ≡ Given (handed.Record c (Ok tt))
     → BeginsTold (recorded_from Waits (noted_behind profile first c name rest))
     → length (recording (noted_behind profile first c name rest)) ≤ most_bytes → length (noted_behind profile first c name rest) < most_records
+    → PlaysTo profile (recording (noted_behind profile first c name rest)) (recorded_from Waits (noted_behind profile first c name rest))
+
+-- and where each end gets only what the other made, as long as there are fewer events than a demo may have records, nothing is asked of
+-- the config strings
+abbrev pub OwnReplayPlays : Type 0
+OwnReplayPlays = (profile : Profile) (first rest : List Event) (c : ℕ) (name : List ℕ) → IsChecked profile → AllByRecursion IsScheduled (first ++ events.RecordTo c name ∷ rest)
+    → (kept_step (kept_then profile first) (events.RecordTo c name)).answer ≡ Given (handed.Record c (Ok tt))
+    → length (recording (noted_behind profile first c name rest)) ≤ most_bytes → length rest < most_records
     → PlaysTo profile (recording (noted_behind profile first c name rest)) (recorded_from Waits (noted_behind profile first c name rest))

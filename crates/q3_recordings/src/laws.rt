@@ -2,12 +2,13 @@
 
 ghost use Rattle.q3_recordings.specs.Joins.{JoinPlays};
 ghost use Rattle.q3_recordings.specs.Plays.{RecordingPlays, WholeIsRecorded};
-ghost use Rattle.q3_recordings.specs.Replays.{ReplayPlays};
+ghost use Rattle.q3_recordings.specs.Replays.{OwnReplayPlays, ReplayPlays};
 
 use q3_bits::laws as bits;
 use q3_client::laws as client;
 use q3_clstate::laws as clstate;
 use q3_rings::laws as rings;
+use q3_schedules::laws as schedules;
 use q3_svmsg::laws as svmsg;
 
 /// Which messages a recording has: all from the first on of which a whole snapshot was accepted; or, where a message that had to be composed
@@ -37,6 +38,19 @@ pub fn replay_plays()
     ensures { ReplayPlays }
 {
     recording_plays();
+    svmsg::read_is_spelled();
+    clstate::apply_stays();
+    clstate::applied_is_context();
+    client::applies_its_message();
+}
+
+/// And where each end gets only what the other made, nothing is asked of the config strings: once a client has a gamestate they tell the
+/// map's id.
+pub fn own_replay_plays()
+    ensures { OwnReplayPlays }
+{
+    replay_plays();
+    schedules::strings_tell_id();
     svmsg::read_is_spelled();
     clstate::apply_stays();
     clstate::applied_is_context();

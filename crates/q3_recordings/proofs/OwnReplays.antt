@@ -1,0 +1,211 @@
+-- Where each end gets only what the other made, a recording begins with config strings that tell the map's id.
+use Rattle.std.proofs.Common.{◌≡◌, ℕ, ◌+◌, ◌<◌, ◌≤◌, true, List, [], ◌∷◌, ◌++◌, length, Option, Some, None, refl, sym, ap, subst, ◌∙◌, inl, inr, arith, append_assoc}
+use Rattle.std.specs.Prelude.{IsSome}
+use Rattle.std.specs.List.{AllByRecursion}
+use Rattle.std.proofs.lemmas.Bool.{cond_both}
+use Rattle.std.proofs.lemmas.List.{length-append}
+use Rattle.q3_config.specs.Strings.{server_id}
+use Rattle.q3_profile.specs.declared.profile.Profile.{Profile}
+use Rattle.q3_svmsg.specs.Values.{Told, Nothing, Game, Snap, Skipped}
+use Rattle.q3_rings.specs.Rings.{held_snapshot}
+use Rattle.q3_clstate.specs.declared.applied.SnapOutcome.TheVariants.{Skipped as SkippedFor, Stale}
+use Rattle.q3_clstate.specs.State.{AppliedState, Application, passes, accepts, is_stale, skipped_for, apply_section, hearing}
+use Rattle.q3_script.specs.declared.event.Event.{Event}
+use Rattle.q3_script.specs.declared.event.Event.TheVariants as events
+use Rattle.q3_client.specs.Client.{ClientState, Taken, take_at}
+use Rattle.q3_client.specs.declared.client.ClientTook.{ClientTook}
+use Rattle.q3_client.specs.declared.client.ClientTook.TheVariants as took
+use Rattle.q3_server.specs.Server.{places}
+use Rattle.q3_demo.specs.declared.recorder.Stage.{Stage}
+use Rattle.q3_demo.specs.declared.recorder.Stage.TheVariants.{Waits, Runs, Ended}
+use Rattle.q3_demo.specs.Recording.{Noted, note_of}
+use Rattle.q3_world.specs.declared.places.Place.{Place}
+use Rattle.q3_world.specs.Ends.{client_at, client_of, line_of, place_at}
+use Rattle.q3_world.specs.Kept.{Kept, kept_after, kept_step, opening_kept}
+use Rattle.q3_world.specs.ByTags.{kept_then}
+use Rattle.q3_world.specs.StandsFor.{IsChecked}
+use Rattle.q3_schedules.specs.Recorded.{applied_until, bytes_for, is_stop, noted_at, noted_of}
+use Rattle.q3_schedules.specs.Schedules.{IsScheduled, StringsTellId}
+use Rattle.q3_schedules.proofs.SlotsStay.{HaveSlots, have_slots}
+use Rattle.q3_recordings.specs.Plays.{recorded_with, recorded_from, BeginsTold}
+use Rattle.q3_recordings.specs.Replays.{ReplayPlays, OwnReplayPlays, kept_recording, noted_behind}
+use Rattle.q3_recordings.proofs.PlaysAs.{has_read}
+use Rattle.q3_recordings.proofs.Recorded.{recorded_none}
+use Rattle.q3_recordings.proofs.Sound.{IsSound, taken_notes}
+use Rattle.q3_recordings.proofs.AtPlace.{Becomes, goes_on_at}
+use Rattle.q3_recordings.proofs.Noting.{Laws, client_laws, becomes_sound}
+use Rattle.q3_recordings.proofs.Replayed.{after_stands, opening_stands, records_at}
+
+-- ---- a client keeps its gamestate
+
+section_keeps : (state : AppliedState) (number : ℕ) (told : Told) → state.has_game ≡ true → (apply_section state number told).state.has_game ≡ true
+section_keeps state number Nothing has = has
+section_keeps state number (Game game) has = refl
+section_keeps state number (Snap base head entities) has =
+    cond_both (is_stale state.held number) (passes state number Stale) (accepts state number base (record { head = head; entities = entities }))
+    (λ (applied : Application). applied.state.has_game ≡ true) (λ e. has) (λ e. has)
+section_keeps state number (Skipped base) has =
+    cond_both (is_stale state.held number) (passes state number Stale) (passes state number (SkippedFor base (skipped_for (held_snapshot state.held base))))
+    (λ (applied : Application). applied.state.has_game ≡ true) (λ e. has) (λ e. has)
+
+-- and a number, once it has applied something
+record Plays (profile : Profile) (client : ClientState) : Type 0 where
+  sound : IsSound profile client
+  begun : 0 < client.state.number
+  has : client.state.has_game ≡ true
+
+plays_on : Laws → (profile : Profile) (client new : ClientState) (bytes : Option (List ℕ)) → Becomes profile client bytes new → Plays profile client → Plays profile new
+plays_on laws profile client new None keeps plays =
+    let same = keeps.state in
+    let number : new.state.number ≡ client.state.number = ap (λ (s : AppliedState). s.number) same in
+    let begun = plays.begun in
+    record { sound = keeps.sound plays.sound; begun = omega (arith, number, begun); has = ap (λ (s : AppliedState). s.has_game) same ∙ plays.has }
+plays_on laws profile client new (Some bytes) is plays =
+    let taken = take_at client bytes in
+    let there : new.state ≡ taken.client.state = ap (λ (client : ClientState). client.state) is in
+    let number : new.state.number ≡ taken.client.state.number = ap (λ (s : AppliedState). s.number) there in
+    let sound = becomes_sound laws profile client new (Some bytes) is plays.sound in
+    elim (taken_notes laws.read laws.stays laws.contexts laws.applies profile client bytes plays.sound) [
+      | inl one ↦
+          let some = one.1.begun in
+          let noted = one.1.is plays.begun in
+          let has = has_read laws.read laws.contexts one.0 noted in
+          let had : one.0.before.has_game ≡ true = ap (λ (s : AppliedState). s.has_game) one.1.before ∙ plays.has in
+          let now : one.0.applied.state.has_game ≡ true =
+          ap (λ (applied : Application). applied.state.has_game) has.does ∙ section_keeps (hearing one.0.before has.read.commands) one.0.applied.answer.number has.read.section had in
+          record { sound = sound; begun = omega (arith, number, some); has = ap (λ (s : AppliedState). s.has_game) (there ∙ one.1.after) ∙ now }
+      | inr none ↦
+          let same : taken.client.state.number ≡ client.state.number = ap (λ (s : AppliedState). s.number) none.same in
+          let begun = plays.begun in
+          record { sound = sound; begun = omega (arith, number, same, begun); has = ap (λ (s : AppliedState). s.has_game) (there ∙ none.same) ∙ plays.has }
+    ]
+
+-- ---- events
+
+all_front : (some others : List Event) → AllByRecursion IsScheduled (some ++ others) → AllByRecursion IsScheduled some
+all_front [] others are = tt
+all_front (event ∷ some) others are = (are.0, all_front some others are.1)
+
+all_next : (some : List Event) (event : Event) (others : List Event) → AllByRecursion IsScheduled (some ++ event ∷ others) → IsScheduled event
+all_next [] event others are = are.0
+all_next (one ∷ some) event others are = all_next some event others are.1
+
+one_after : (kept : Kept) (some : List Event) (event : Event) → kept_after kept (some ++ event ∷ []) ≡ (kept_step (kept_after kept some) event).kept
+unfolding kept_after
+one_after kept [] event = refl
+one_after kept (one ∷ some) event = one_after (kept_step kept one).kept some event
+
+-- behind some of them, with these to come
+record Along (profile : Profile) (kept : Kept) (events : List Event) : Type 0 where
+  done : List Event
+  is : kept ≡ kept_then profile done
+  are : AllByRecursion IsScheduled (done ++ events)
+
+along_on : (profile : Profile) (kept : Kept) (event : Event) (events : List Event) → Along profile kept (event ∷ events) → Along profile (kept_step kept event).kept events
+along_on profile kept event events along = record {
+  done = along.done ++ event ∷ [];
+  is = ap (λ (k : Kept). (kept_step k event).kept) along.is ∙ sym (one_after (opening_kept profile) along.done event);
+  are = subst (AllByRecursion IsScheduled) (sym (append_assoc along.done (event ∷ []) events)) along.are;
+}
+
+-- ---- what is told
+
+abbrev Tells : Noted → Type 0
+Tells noted = IsSome (server_id noted.before.strings)
+
+told_by : (found : Option ℕ) (id : ℕ) → found ≡ Some id → IsSome found
+told_by None id e = absurd cc
+told_by (Some other) id e = refl
+
+-- a client that has a gamestate
+client_tells : StringsTellId → (profile : Profile) → IsChecked profile → (kept : Kept) (events : List Event) → Along profile kept events → (c : ℕ) (place : Place) → c < places
+    → place_at kept.ends c ≡ Some place → place.client.state.has_game ≡ true → IsSome (server_id place.client.state.strings)
+client_tells law profile checked kept events along c place lt at has =
+    let there : client_at (kept_then profile along.done).ends c ≡ Some place.client =
+    ap (λ (k : Kept). client_at k.ends c) (sym along.is) ∙ ap (λ (found : Option Place). found_client found) at in
+    told_by (server_id place.client.state.strings) place.client.state.id (law profile along.done c place.client checked (all_front along.done events along.are) lt there has)
+  where
+    found_client : Option Place → Option ClientState
+    found_client None = None
+    found_client (Some place) = Some (client_of place)
+
+answer_tells : (client : ClientState) (taken : Taken) (answer : ClientTook) → IsSome (server_id client.state.strings) → AllByRecursion Tells (noted_of client taken answer)
+answer_tells client taken (took.Applied applied) tells = (tells, tt)
+answer_tells client taken other tells = tt
+
+event_tells : (place : Place) (bytes : Option (List ℕ)) → IsSome (server_id place.client.state.strings) → AllByRecursion Tells (noted_at (Some place) bytes)
+event_tells place None tells = tt
+event_tells place (Some bytes) tells = answer_tells place.client (take_at place.client bytes) (take_at place.client bytes).answer tells
+
+both_tell : (some others : List Noted) → AllByRecursion Tells some → AllByRecursion Tells others → AllByRecursion Tells (some ++ others)
+both_tell [] others first rest = rest
+both_tell (noted ∷ some) others first rest = (first.0, both_tell some others first.1 rest)
+
+all_tell : StringsTellId → Laws → (profile : Profile) → IsChecked profile → (kept : Kept) (events : List Event) → HaveSlots kept.ends → Along profile kept events → (c : ℕ) (place : Place)
+    → c < places → place_at kept.ends c ≡ Some place → Plays profile place.client → AllByRecursion Tells (applied_until kept events c)
+unfolding applied_until
+all_tell law laws profile checked kept [] have along c place lt at plays = tt
+all_tell law laws profile checked kept (event ∷ events) have along c place lt at plays =
+    let next = (kept_step kept event).kept in
+    let goes = goes_on_at profile (client_laws laws profile checked) kept have event c place at in
+    let bytes = bytes_for kept event c in
+    let now = plays_on laws profile place.client goes.place.client bytes goes.becomes plays in
+    let rest = all_tell law laws profile checked next events (have_slots kept event have) (along_on profile kept event events along) c goes.place lt goes.at now in
+    let tells = client_tells law profile checked kept (event ∷ events) along c place lt at plays.has in
+    let all = both_tell (noted_at (Some place) bytes) (applied_until next events c) (event_tells place bytes tells) rest in
+    let there = subst (λ (found : Option Place). AllByRecursion Tells (noted_at found bytes ++ applied_until next events c)) (sym at) all in
+    cond_both (is_stop c event) [] (noted_at (place_at kept.ends c) bytes ++ applied_until next events c) (λ (notes : List Noted). AllByRecursion Tells notes) (λ e. tt) (λ e. there)
+
+first_told : (stage : Stage) (noted : Noted) (others : List Noted) → Tells noted → BeginsTold (recorded_from Waits others) → BeginsTold (recorded_with stage noted (recorded_from stage others))
+first_told (Runs first) noted others tells rest = tells
+first_told Waits noted others tells rest = rest
+first_told Ended noted others tells rest = subst BeginsTold (sym (recorded_none others)) tt
+
+begins_told : (messages : List Noted) → AllByRecursion Tells messages → BeginsTold (recorded_from Waits messages)
+unfolding recorded_from
+begins_told [] tell = tt
+begins_told (noted ∷ others) tell = first_told (note_of Waits noted).stage noted others tell.0 (begins_told others tell.1)
+
+-- ---- how many messages there are
+
+answer_few : (client : ClientState) (taken : Taken) (answer : ClientTook) → length (noted_of client taken answer) ≤ 1
+answer_few client taken (took.Applied applied) = omega arith
+answer_few client taken other = omega arith
+
+event_few : (found : Option Place) (bytes : Option (List ℕ)) → length (noted_at found bytes) ≤ 1
+event_few (Some place) (Some bytes) = answer_few place.client (take_at place.client bytes) (take_at place.client bytes).answer
+event_few found bytes = omega arith
+
+few_applied : (kept : Kept) (events : List Event) (c : ℕ) → length (applied_until kept events c) ≤ length events
+unfolding applied_until
+few_applied kept [] c = omega arith
+few_applied kept (event ∷ events) c =
+    let next = (kept_step kept event).kept in
+    let notes = noted_at (place_at kept.ends c) (bytes_for kept event c) in
+    cond_both (is_stop c event) [] (notes ++ applied_until next events c) (λ (all : List Noted). length all ≤ length (event ∷ events)) (λ e. omega arith)
+    (λ e. omega (arith, event_few (place_at kept.ends c) (bytes_for kept event c), few_applied next events c, length-append notes (applied_until next events c)))
+
+-- ---- all of it
+
+within : (c : ℕ) (name : List ℕ) → IsScheduled (events.RecordTo c name) → c < places
+within c name is = let most = is.0.0 in omega (arith, most)
+
+own_plays : StringsTellId → Laws → ReplayPlays → OwnReplayPlays
+unfolding kept_step line_of
+own_plays law laws plays profile first rest c name checked are answer short few =
+    let kept = kept_then profile first in
+    let line = events.RecordTo c name in
+    let stands = after_stands laws profile checked (opening_kept profile) first (opening_stands profile) in
+    let records = records_at kept.ends c name (place_at kept.ends c) refl answer in
+    let sound = stands.sound c records.place records.at in
+    let goes = goes_on_at profile (client_laws laws profile checked) kept stands.have line c records.place records.at in
+    let now = plays_on laws profile records.place.client goes.place.client None goes.becomes (record { sound = sound; begun = sound.begun records.game; has = records.game }) in
+    let along = along_on profile kept line rest (record { done = first; is = refl; are = are }) in
+    let tell = all_tell law laws profile checked (kept_recording profile first c name) rest (have_slots kept line stands.have) along c goes.place (within c name (all_next first line rest are))
+    goes.at now in
+    let messages = noted_behind profile first c name rest in
+    let count = few_applied (kept_recording profile first c name) rest c in
+    plays profile first rest c name checked answer (begins_told messages tell) short (omega (arith, count, few))
+
+pub own_replay_plays : StringsTellId → ReplayPlays → Laws → OwnReplayPlays
+own_replay_plays law plays laws = own_plays law laws plays
