@@ -1,6 +1,7 @@
 pub mod Stood
 pub mod EverySchedule
 pub mod GamesLaws
+pub mod StringsId
 pub mod Usual
 pub mod Legible
 pub mod RunIssued

@@ -49,6 +49,7 @@ use Rattle.q3_text.specs.Commands.{numbered}
 use Rattle.q3_window.specs.Incoming.{fresh_of}
 use Rattle.q3_window.specs.Outgoing.{text_at}
 use Rattle.q3_config.specs.Commands.{change_in}
+use Rattle.q3_config.specs.Strings.{server_id}
 use Rattle.q3_lines.specs.ServerLines.{Run, ran_nothing}
 use Rattle.q3_world.specs.ByTags.{kept_then, whole_then, IsOwn}
 use Rattle.q3_world.specs.Answering.{outcome_of, applied_of}
@@ -409,6 +410,11 @@ StateIsOfGame = (profile : Profile) (all : List Event) (c : ℕ) (client : Clien
     → MatchOption (last_played (history_then profile all c).games)
     (IsFresh client.state)
     (λ played. Carries (history_then profile all c).built played.number played.game × IsOf client.state played (history_then profile all c).client_executed)
+
+-- and once it has one, its strings tell the id of its map
+abbrev pub StringsTellId : Type 0
+StringsTellId = (profile : Profile) (all : List Event) (c : ℕ) (client : ClientState) → IsChecked profile → AllByRecursion IsScheduled all
+    → c < places → client_at (kept_then profile all).ends c ≡ Some client → client.state.has_game ≡ true → server_id client.state.strings ≡ Some client.state.id
 
 -- the game says no text that has the shape of a config change
 abbrev pub SaysNoChange : Event → Type 0

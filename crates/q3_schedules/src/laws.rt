@@ -4,7 +4,7 @@ ghost use Rattle.q3_schedules.specs.Early.{NodeLeavesFront, ReplayLeavesFront};
 ghost use Rattle.q3_schedules.specs.NodeRecorded.{NodeRecordsItsMessages};
 ghost use Rattle.q3_schedules.specs.Recorded.{RecordingIsItsMessages};
 ghost use Rattle.q3_schedules.specs.ReportLines.{CountsAreLines, ReplayIsCounted};
-ghost use Rattle.q3_schedules.specs.Schedules.{AlwaysLegible, UnknownWasNotMade, CommandsArePrefixes, KeysAgree, ExecutedGoesOn, AcceptedWereBuilt, ShownWasBuilt, ShownIsNewest, AsksForAccepted, AskedUnderGame, OneGamePerMap, BasesWereAccepted, HeldIsAccepted, ViewsWereBuilt, AppliedWasBuilt, NewerIsAccepted, UsualNeverSkips, NewerIsRun, MovesWereIssued, EnteringIsNotRun, InOrderIsAccepted, ServedIsShown, StateIsOfGame, StringsFollow};
+ghost use Rattle.q3_schedules.specs.Schedules.{AlwaysLegible, UnknownWasNotMade, CommandsArePrefixes, KeysAgree, ExecutedGoesOn, AcceptedWereBuilt, ShownWasBuilt, ShownIsNewest, AsksForAccepted, AskedUnderGame, OneGamePerMap, BasesWereAccepted, HeldIsAccepted, ViewsWereBuilt, AppliedWasBuilt, NewerIsAccepted, UsualNeverSkips, NewerIsRun, MovesWereIssued, EnteringIsNotRun, InOrderIsAccepted, ServedIsShown, StateIsOfGame, StringsTellId, StringsFollow};
 
 use q3_bits::laws as bits;
 use q3_chan::laws as chan;
@@ -201,6 +201,14 @@ pub fn served_is_shown()
 /// executed since.
 pub fn state_is_of_game()
     ensures { StateIsOfGame }
+{
+    world::bytes_follow_tags();
+    world::layers();
+}
+
+/// Once a client has a gamestate, its config strings tell the id of its map: no command changes the string that does.
+pub fn strings_tell_id()
+    ensures { StringsTellId }
 {
     world::bytes_follow_tags();
     world::layers();
