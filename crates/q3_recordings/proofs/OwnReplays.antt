@@ -1,5 +1,5 @@
 -- Where each end gets only what the other made, a recording begins with config strings that tell the map's id.
-use Rattle.std.proofs.Common.{◌≡◌, ℕ, ◌+◌, ◌<◌, ◌≤◌, true, List, [], ◌∷◌, ◌++◌, length, Option, Some, None, refl, sym, ap, subst, ◌∙◌, inl, inr, arith, append_assoc}
+use Rattle.std.proofs.Common.{◌≡◌, ℕ, ◌+◌, ◌<◌, ◌≤◌, true, List, [], ◌∷◌, ◌++◌, length, Option, Some, None, Ok, refl, sym, ap, subst, ◌∙◌, inl, inr, arith, append_assoc}
 use Rattle.std.specs.Prelude.{IsSome}
 use Rattle.std.specs.List.{AllByRecursion}
 use Rattle.std.proofs.lemmas.Bool.{cond_both}
@@ -16,6 +16,8 @@ use Rattle.q3_client.specs.Client.{ClientState, Taken, take_at}
 use Rattle.q3_client.specs.declared.client.ClientTook.{ClientTook}
 use Rattle.q3_client.specs.declared.client.ClientTook.TheVariants as took
 use Rattle.q3_server.specs.Server.{places}
+use Rattle.q3_report.specs.declared.answer.HandedIn.TheVariants as handed
+use Rattle.q3_report.specs.Answers.{Given}
 use Rattle.q3_demo.specs.declared.recorder.Stage.{Stage}
 use Rattle.q3_demo.specs.declared.recorder.Stage.TheVariants.{Waits, Runs, Ended}
 use Rattle.q3_demo.specs.Recording.{Noted, note_of}
@@ -82,9 +84,9 @@ plays_on laws profile client new (Some bytes) is plays =
 
 -- ---- events
 
-all_front : (some others : List Event) → AllByRecursion IsScheduled (some ++ others) → AllByRecursion IsScheduled some
-all_front [] others are = tt
-all_front (event ∷ some) others are = (are.0, all_front some others are.1)
+all_front : (Is : Event → Type 0) (some others : List Event) → AllByRecursion Is (some ++ others) → AllByRecursion Is some
+all_front Is [] others are = tt
+all_front Is (event ∷ some) others are = (are.0, all_front Is some others are.1)
 
 all_next : (some : List Event) (event : Event) (others : List Event) → AllByRecursion IsScheduled (some ++ event ∷ others) → IsScheduled event
 all_next [] event others are = are.0
@@ -96,72 +98,99 @@ one_after kept [] event = refl
 one_after kept (one ∷ some) event = one_after (kept_step kept one).kept some event
 
 -- behind some of them, with these to come
-record Along (profile : Profile) (kept : Kept) (events : List Event) : Type 0 where
+record Along (Is : Event → Type 0) (profile : Profile) (kept : Kept) (events : List Event) : Type 0 where
   done : List Event
   is : kept ≡ kept_then profile done
-  are : AllByRecursion IsScheduled (done ++ events)
+  are : AllByRecursion Is (done ++ events)
 
-along_on : (profile : Profile) (kept : Kept) (event : Event) (events : List Event) → Along profile kept (event ∷ events) → Along profile (kept_step kept event).kept events
-along_on profile kept event events along = record {
+along_on : (Is : Event → Type 0) (profile : Profile) (kept : Kept) (event : Event) (events : List Event) → Along Is profile kept (event ∷ events)
+    → Along Is profile (kept_step kept event).kept events
+along_on Is profile kept event events along = record {
   done = along.done ++ event ∷ [];
   is = ap (λ (k : Kept). (kept_step k event).kept) along.is ∙ sym (one_after (opening_kept profile) along.done event);
-  are = subst (AllByRecursion IsScheduled) (sym (append_assoc along.done (event ∷ []) events)) along.are;
+  are = subst (AllByRecursion Is) (sym (append_assoc along.done (event ∷ []) events)) along.are;
 }
 
--- ---- what is told
+-- ---- what is said of a client's state before each of its messages
 
-abbrev Tells : Noted → Type 0
-Tells noted = IsSome (server_id noted.before.strings)
+abbrev AllBefore : (AppliedState → Type 0) → List Noted → Type 0
+AllBefore P messages = AllByRecursion (λ (noted : Noted). P noted.before) messages
 
-told_by : (found : Option ℕ) (id : ℕ) → found ≡ Some id → IsSome found
-told_by None id e = absurd cc
-told_by (Some other) id e = refl
+answer_said : (P : AppliedState → Type 0) (client : ClientState) (taken : Taken) (answer : ClientTook) → P client.state → AllBefore P (noted_of client taken answer)
+answer_said P client taken (took.Applied applied) is = (is, tt)
+answer_said P client taken other is = tt
 
--- a client that has a gamestate
-client_tells : StringsTellId → (profile : Profile) → IsChecked profile → (kept : Kept) (events : List Event) → Along profile kept events → (c : ℕ) (place : Place) → c < places
-    → place_at kept.ends c ≡ Some place → place.client.state.has_game ≡ true → IsSome (server_id place.client.state.strings)
-client_tells law profile checked kept events along c place lt at has =
+event_said : (P : AppliedState → Type 0) (place : Place) (bytes : Option (List ℕ)) → P place.client.state → AllBefore P (noted_at (Some place) bytes)
+event_said P place None is = tt
+event_said P place (Some bytes) is = answer_said P place.client (take_at place.client bytes) (take_at place.client bytes).answer is
+
+both_said : (P : AppliedState → Type 0) (some others : List Noted) → AllBefore P some → AllBefore P others → AllBefore P (some ++ others)
+both_said P [] others first rest = rest
+both_said P (noted ∷ some) others first rest = (first.0, both_said P some others first.1 rest)
+
+-- what holds of every client that has a gamestate, behind any events
+abbrev OfClients : (Event → Type 0) → Profile → (AppliedState → Type 0) → Type 0
+OfClients Is profile P = (done : List Event) (c : ℕ) (client : ClientState) → AllByRecursion Is done → c < places → client_at (kept_then profile done).ends c ≡ Some client
+    → client.state.has_game ≡ true → P client.state
+
+client_said : (Is : Event → Type 0) (profile : Profile) (P : AppliedState → Type 0) → OfClients Is profile P → (kept : Kept) (events : List Event) → Along Is profile kept events
+    → (c : ℕ) (place : Place) → c < places → place_at kept.ends c ≡ Some place → place.client.state.has_game ≡ true → P place.client.state
+client_said Is profile P of kept events along c place lt at has =
     let there : client_at (kept_then profile along.done).ends c ≡ Some place.client =
     ap (λ (k : Kept). client_at k.ends c) (sym along.is) ∙ ap (λ (found : Option Place). found_client found) at in
-    told_by (server_id place.client.state.strings) place.client.state.id (law profile along.done c place.client checked (all_front along.done events along.are) lt there has)
+    of along.done c place.client (all_front Is along.done events along.are) lt there has
   where
     found_client : Option Place → Option ClientState
     found_client None = None
     found_client (Some place) = Some (client_of place)
 
-answer_tells : (client : ClientState) (taken : Taken) (answer : ClientTook) → IsSome (server_id client.state.strings) → AllByRecursion Tells (noted_of client taken answer)
-answer_tells client taken (took.Applied applied) tells = (tells, tt)
-answer_tells client taken other tells = tt
-
-event_tells : (place : Place) (bytes : Option (List ℕ)) → IsSome (server_id place.client.state.strings) → AllByRecursion Tells (noted_at (Some place) bytes)
-event_tells place None tells = tt
-event_tells place (Some bytes) tells = answer_tells place.client (take_at place.client bytes) (take_at place.client bytes).answer tells
-
-both_tell : (some others : List Noted) → AllByRecursion Tells some → AllByRecursion Tells others → AllByRecursion Tells (some ++ others)
-both_tell [] others first rest = rest
-both_tell (noted ∷ some) others first rest = (first.0, both_tell some others first.1 rest)
-
-all_tell : StringsTellId → Laws → (profile : Profile) → IsChecked profile → (kept : Kept) (events : List Event) → HaveSlots kept.ends → Along profile kept events → (c : ℕ) (place : Place)
-    → c < places → place_at kept.ends c ≡ Some place → Plays profile place.client → AllByRecursion Tells (applied_until kept events c)
+all_said : (Is : Event → Type 0) (P : AppliedState → Type 0) → Laws → (profile : Profile) → IsChecked profile → OfClients Is profile P → (kept : Kept) (events : List Event)
+    → HaveSlots kept.ends → Along Is profile kept events → (c : ℕ) (place : Place) → c < places → place_at kept.ends c ≡ Some place → Plays profile place.client
+    → AllBefore P (applied_until kept events c)
 unfolding applied_until
-all_tell law laws profile checked kept [] have along c place lt at plays = tt
-all_tell law laws profile checked kept (event ∷ events) have along c place lt at plays =
+all_said Is P laws profile checked of kept [] have along c place lt at plays = tt
+all_said Is P laws profile checked of kept (event ∷ events) have along c place lt at plays =
     let next = (kept_step kept event).kept in
     let goes = goes_on_at profile (client_laws laws profile checked) kept have event c place at in
     let bytes = bytes_for kept event c in
     let now = plays_on laws profile place.client goes.place.client bytes goes.becomes plays in
-    let rest = all_tell law laws profile checked next events (have_slots kept event have) (along_on profile kept event events along) c goes.place lt goes.at now in
-    let tells = client_tells law profile checked kept (event ∷ events) along c place lt at plays.has in
-    let all = both_tell (noted_at (Some place) bytes) (applied_until next events c) (event_tells place bytes tells) rest in
-    let there = subst (λ (found : Option Place). AllByRecursion Tells (noted_at found bytes ++ applied_until next events c)) (sym at) all in
-    cond_both (is_stop c event) [] (noted_at (place_at kept.ends c) bytes ++ applied_until next events c) (λ (notes : List Noted). AllByRecursion Tells notes) (λ e. tt) (λ e. there)
+    let rest = all_said Is P laws profile checked of next events (have_slots kept event have) (along_on Is profile kept event events along) c goes.place lt goes.at now in
+    let is = client_said Is profile P of kept (event ∷ events) along c place lt at plays.has in
+    let all = both_said P (noted_at (Some place) bytes) (applied_until next events c) (event_said P place bytes is) rest in
+    let there = subst (λ (found : Option Place). AllBefore P (noted_at found bytes ++ applied_until next events c)) (sym at) all in
+    cond_both (is_stop c event) [] (noted_at (place_at kept.ends c) bytes ++ applied_until next events c) (λ (notes : List Noted). AllBefore P notes) (λ e. tt) (λ e. there)
 
-first_told : (stage : Stage) (noted : Noted) (others : List Noted) → Tells noted → BeginsTold (recorded_from Waits others) → BeginsTold (recorded_with stage noted (recorded_from stage others))
+-- behind a `record` line
+behind_said : (Is : Event → Type 0) (P : AppliedState → Type 0) → Laws → (profile : Profile) → IsChecked profile → OfClients Is profile P → (first rest : List Event) (c : ℕ) (name : List ℕ)
+    → AllByRecursion Is (first ++ events.RecordTo c name ∷ rest) → c < places
+    → (kept_step (kept_then profile first) (events.RecordTo c name)).answer ≡ Given (handed.Record c (Ok tt)) → AllBefore P (noted_behind profile first c name rest)
+unfolding kept_step line_of
+behind_said Is P laws profile checked of first rest c name are lt answer =
+    let kept = kept_then profile first in
+    let line = events.RecordTo c name in
+    let stands = after_stands laws profile checked (opening_kept profile) first (opening_stands profile) in
+    let records = records_at kept.ends c name (place_at kept.ends c) refl answer in
+    let sound = stands.sound c records.place records.at in
+    let goes = goes_on_at profile (client_laws laws profile checked) kept stands.have line c records.place records.at in
+    let now = plays_on laws profile records.place.client goes.place.client None goes.becomes (record { sound = sound; begun = sound.begun records.game; has = records.game }) in
+    let along = along_on Is profile kept line rest (record { done = first; is = refl; are = are }) in
+    all_said Is P laws profile checked of (kept_recording profile first c name) rest (have_slots kept line stands.have) along c goes.place lt goes.at now
+
+-- ---- the first that is recorded
+
+abbrev Tells : AppliedState → Type 0
+Tells state = IsSome (server_id state.strings)
+
+told_by : (found : Option ℕ) (id : ℕ) → found ≡ Some id → IsSome found
+told_by None id e = absurd cc
+told_by (Some other) id e = refl
+
+first_told : (stage : Stage) (noted : Noted) (others : List Noted) → Tells noted.before → BeginsTold (recorded_from Waits others) → BeginsTold (recorded_with stage noted (recorded_from stage others))
 first_told (Runs first) noted others tells rest = tells
 first_told Waits noted others tells rest = rest
 first_told Ended noted others tells rest = subst BeginsTold (sym (recorded_none others)) tt
 
-begins_told : (messages : List Noted) → AllByRecursion Tells messages → BeginsTold (recorded_from Waits messages)
+begins_told : (messages : List Noted) → AllBefore Tells messages → BeginsTold (recorded_from Waits messages)
 unfolding recorded_from
 begins_told [] tell = tt
 begins_told (noted ∷ others) tell = first_told (note_of Waits noted).stage noted others tell.0 (begins_told others tell.1)
@@ -191,19 +220,11 @@ within : (c : ℕ) (name : List ℕ) → IsScheduled (events.RecordTo c name) �
 within c name is = let most = is.0.0 in omega (arith, most)
 
 own_plays : StringsTellId → Laws → ReplayPlays → OwnReplayPlays
-unfolding kept_step line_of
 own_plays law laws plays profile first rest c name checked are answer short few =
-    let kept = kept_then profile first in
-    let line = events.RecordTo c name in
-    let stands = after_stands laws profile checked (opening_kept profile) first (opening_stands profile) in
-    let records = records_at kept.ends c name (place_at kept.ends c) refl answer in
-    let sound = stands.sound c records.place records.at in
-    let goes = goes_on_at profile (client_laws laws profile checked) kept stands.have line c records.place records.at in
-    let now = plays_on laws profile records.place.client goes.place.client None goes.becomes (record { sound = sound; begun = sound.begun records.game; has = records.game }) in
-    let along = along_on profile kept line rest (record { done = first; is = refl; are = are }) in
-    let tell = all_tell law laws profile checked (kept_recording profile first c name) rest (have_slots kept line stands.have) along c goes.place (within c name (all_next first line rest are))
-    goes.at now in
     let messages = noted_behind profile first c name rest in
+    let lt = within c name (all_next first (events.RecordTo c name) rest are) in
+    let tell = behind_said IsScheduled Tells laws profile checked
+    (λ done c client are lt at has. told_by (server_id client.state.strings) client.state.id (law profile done c client checked are lt at has)) first rest c name are lt answer in
     let count = few_applied (kept_recording profile first c name) rest c in
     plays profile first rest c name checked answer (begins_told messages tell) short (omega (arith, count, few))
 
