@@ -27,10 +27,10 @@ use Rattle.q3_world.specs.Kept.{Kept, kept_after, kept_step, opening_kept}
 use Rattle.q3_world.specs.ByTags.{kept_then}
 use Rattle.q3_world.specs.StandsFor.{IsChecked}
 use Rattle.q3_schedules.specs.Recorded.{applied_until, bytes_for, is_stop, noted_at, noted_of}
-use Rattle.q3_schedules.specs.Schedules.{IsScheduled, StringsTellId}
+use Rattle.q3_schedules.specs.Schedules.{IsScheduled, NothingPends, SaysNoChange, StringsTellId}
 use Rattle.q3_schedules.proofs.SlotsStay.{HaveSlots, have_slots}
-use Rattle.q3_recordings.specs.Plays.{recorded_with, recorded_from, BeginsTold}
-use Rattle.q3_recordings.specs.Replays.{ReplayPlays, OwnReplayPlays, kept_recording, noted_behind}
+use Rattle.q3_recordings.specs.Plays.{recorded_with, recorded_from, BeginsTold, BeginsWhole}
+use Rattle.q3_recordings.specs.Replays.{ReplayPlays, OwnReplayPlays, OwnReplayBeginsWhole, kept_recording, noted_behind}
 use Rattle.q3_recordings.proofs.PlaysAs.{has_read}
 use Rattle.q3_recordings.proofs.Recorded.{recorded_none}
 use Rattle.q3_recordings.proofs.Sound.{IsSound, taken_notes}
@@ -230,3 +230,41 @@ own_plays law laws plays profile first rest c name checked are answer short few 
 
 pub own_replay_plays : StringsTellId → ReplayPlays → Laws → OwnReplayPlays
 own_replay_plays law plays laws = own_plays law laws plays
+
+-- ---- it begins within no long string
+
+abbrev IsStill : AppliedState → Type 0
+IsStill state = state.strings.pending ≡ None
+
+first_whole : (stage : Stage) (noted : Noted) (others : List Noted) → IsStill noted.before → BeginsWhole (recorded_from Waits others) → BeginsWhole (recorded_with stage noted (recorded_from stage others))
+first_whole (Runs first) noted others still rest = still
+first_whole Waits noted others still rest = rest
+first_whole Ended noted others still rest = subst BeginsWhole (sym (recorded_none others)) tt
+
+begins_whole : (messages : List Noted) → AllBefore IsStill messages → BeginsWhole (recorded_from Waits messages)
+unfolding recorded_from
+begins_whole [] still = tt
+begins_whole (noted ∷ others) still = first_whole (note_of Waits noted).stage noted others still.0 (begins_whole others still.1)
+
+abbrev IsBoth : Event → Type 0
+IsBoth event = IsScheduled event × SaysNoChange event
+
+both_are : (events : List Event) → AllByRecursion IsScheduled events → AllByRecursion SaysNoChange events → AllByRecursion IsBoth events
+both_are [] are say = tt
+both_are (event ∷ events) are say = ((are.0, say.0), both_are events are.1 say.1)
+
+scheduled_are : (events : List Event) → AllByRecursion IsBoth events → AllByRecursion IsScheduled events
+scheduled_are [] both = tt
+scheduled_are (event ∷ events) both = (both.0.0, scheduled_are events both.1)
+
+say_none : (events : List Event) → AllByRecursion IsBoth events → AllByRecursion SaysNoChange events
+say_none [] both = tt
+say_none (event ∷ events) both = (both.0.1, say_none events both.1)
+
+pub own_replay_begins_whole : NothingPends → Laws → OwnReplayBeginsWhole
+own_replay_begins_whole law laws profile first rest c name checked are say answer =
+    let lt = within c name (all_next first (events.RecordTo c name) rest are) in
+    let both = both_are (first ++ events.RecordTo c name ∷ rest) are say in
+    let still = behind_said IsBoth IsStill laws profile checked
+    (λ done c client both lt at has. law profile done c client checked (scheduled_are done both) (say_none done both) lt at has) first rest c name both lt answer in
+    begins_whole (noted_behind profile first c name rest) still

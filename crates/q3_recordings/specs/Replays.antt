@@ -14,8 +14,8 @@ use Rattle.q3_world.specs.Kept.{Kept, kept_step}
 use Rattle.q3_world.specs.ByTags.{kept_then}
 use Rattle.q3_world.specs.StandsFor.{IsChecked}
 use Rattle.q3_schedules.specs.Recorded.{applied_until}
-use Rattle.q3_schedules.specs.Schedules.{IsScheduled}
-use Rattle.q3_recordings.specs.Plays.{recorded_from, BeginsTold, PlaysTo}
+use Rattle.q3_schedules.specs.Schedules.{IsScheduled, SaysNoChange}
+use Rattle.q3_recordings.specs.Plays.{recorded_from, BeginsTold, BeginsWhole, PlaysTo}
 
 -- what is kept behind a `record` line
 abbrev pub kept_recording : Profile → List Event → ℕ → List ℕ → Kept
@@ -40,3 +40,10 @@ OwnReplayPlays = (profile : Profile) (first rest : List Event) (c : ℕ) (name :
     → (kept_step (kept_then profile first) (events.RecordTo c name)).answer ≡ Given (handed.Record c (Ok tt))
     → length (recording (noted_behind profile first c name rest)) ≤ most_bytes → length rest < most_records
     → PlaysTo profile (recording (noted_behind profile first c name rest)) (recorded_from Waits (noted_behind profile first c name rest))
+
+-- and where, moreover, the game says no text of a config change, no long string is being put together where it begins: so the config strings
+-- in the end are the client's
+abbrev pub OwnReplayBeginsWhole : Type 0
+OwnReplayBeginsWhole = (profile : Profile) (first rest : List Event) (c : ℕ) (name : List ℕ) → IsChecked profile → AllByRecursion IsScheduled (first ++ events.RecordTo c name ∷ rest)
+    → AllByRecursion SaysNoChange (first ++ events.RecordTo c name ∷ rest) → (kept_step (kept_then profile first) (events.RecordTo c name)).answer ≡ Given (handed.Record c (Ok tt))
+    → BeginsWhole (recorded_from Waits (noted_behind profile first c name rest))

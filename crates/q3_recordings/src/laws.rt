@@ -2,7 +2,7 @@
 
 ghost use Rattle.q3_recordings.specs.Joins.{JoinPlays};
 ghost use Rattle.q3_recordings.specs.Plays.{RecordingPlays, WholeIsRecorded};
-ghost use Rattle.q3_recordings.specs.Replays.{OwnReplayPlays, ReplayPlays};
+ghost use Rattle.q3_recordings.specs.Replays.{OwnReplayBeginsWhole, OwnReplayPlays, ReplayPlays};
 
 use q3_bits::laws as bits;
 use q3_client::laws as client;
@@ -51,6 +51,18 @@ pub fn own_replay_plays()
 {
     replay_plays();
     schedules::strings_tell_id();
+    svmsg::read_is_spelled();
+    clstate::apply_stays();
+    clstate::applied_is_context();
+    client::applies_its_message();
+}
+
+/// Where, moreover, the game says no text of a config change, it begins within no long string; so the config strings in the end are the
+/// client's.
+pub fn own_replay_begins_whole()
+    ensures { OwnReplayBeginsWhole }
+{
+    schedules::nothing_pends();
     svmsg::read_is_spelled();
     clstate::apply_stays();
     clstate::applied_is_context();
