@@ -41,7 +41,7 @@ use Rattle.q3_schedules.proofs.Stood.{Stood, after_both, after_one, holds_of, of
 -- ---- every list of events
 
 -- before the first event
-follows_first : (profile : Profile) (c : ℕ) → c < places → At no_history c (whole_then profile [])
+pub follows_first : (profile : Profile) (c : ℕ) → c < places → At no_history c (whole_then profile [])
 unfolding after opening
 follows_first profile c lt =
     rw (get_or-replicate {A = Option Place} places c None None lt, get_or-replicate places c no_history no_history lt) (follows_nothing 0 no_strings)
@@ -56,7 +56,7 @@ all_at P [] event others all = all.0
 all_at P (first ∷ some) event others all = all_at P some event others all.1
 
 -- what follows between any two events follows to the end
-follows_along : BytesFollowTags → Layers → (profile : Profile) → IsChecked profile → (old : History) (c : ℕ) → c < places → (some rest : List Event)
+pub follows_along : BytesFollowTags → Layers → (profile : Profile) → IsChecked profile → (old : History) (c : ℕ) → c < places → (some rest : List Event)
     → AllByRecursion IsScheduled (some ++ rest) → AllByRecursion SaysNoChange (some ++ rest) → At old c (whole_then profile some) → At old c (whole_then profile (some ++ rest))
 follows_along law below profile checked old c lt some [] are says at = subst (λ (all : List Event). At old c (whole_then profile all)) (sym (append-nil some)) at
 follows_along law below profile checked old c lt some (event ∷ rest) are says at =
@@ -67,7 +67,7 @@ follows_along law below profile checked old c lt some (event ∷ rest) are says 
     let holds = holds_of profile (kept_then profile some) whole stands in
     let is : whole_then profile next ≡ (step profile whole event).whole = after_both profile (opening profile) some (event ∷ []) ∙ after_one profile whole event in
     let on : At old c (step profile whole event).whole =
-    follows_on profile whole old c lt holds at below.windows.flow below.does below.configs.make event (all_at IsScheduled some event rest are) (all_at SaysNoChange some event rest says) in
+    follows_on profile whole old c lt holds at below.windows.flow below.does below.configs event (all_at IsScheduled some event rest are) (all_at SaysNoChange some event rest says) in
     subst (λ (all : List Event). At old c (whole_then profile all)) same
     (follows_along law below profile checked old c lt next rest (subst (AllByRecursion IsScheduled) (sym same) are) (subst (AllByRecursion SaysNoChange) (sym same) says)
     (subst (At old c) (sym is) on))
@@ -76,7 +76,7 @@ follows_along law below profile checked old c lt some (event ∷ rest) are says 
 follows_since : (old : History) (c : ℕ) (whole : Whole) → At old c whole → At (history_at whole.histories c) c whole
 follows_since old c whole at =
     let history = history_at whole.histories c in
-    record { each = at.each; heard = at.heard; built_on = Grew-none history.built; issued_on = Grew-none history.server_commands }
+    record { each = at.each; heard = at.heard; built_on = Grew-none history.built; issued_on = Grew-none history.server_commands; pauses = at.pauses }
 
 -- ---- a serve that begins a message
 
@@ -153,7 +153,7 @@ strings_then slot client old history id strings follows built_on issued_on heard
     ∙ (ap (λ (k : ℕ). after_commands played.game.strings (drop k executed)) was.up_to
     ∙ (ap (λ (texts : List (List ℕ)). after_commands played.game.strings (drop played.game.command texts)) all ∙ followed.same))
 
-heard_of : (found : Option Place) (place : Place) (built : List Built) (games : List Played) → found ≡ Some place → IfSome (state_in found) (λ s. HasHeard s built games)
+pub heard_of : (found : Option Place) (place : Place) (built : List Built) (games : List Played) → found ≡ Some place → IfSome (state_in found) (λ s. HasHeard s built games)
     → HasHeard place.client.state built games
 heard_of found place built games is heard =
     let at : IfSome (state_in (Some place)) (λ s. HasHeard s built games) = subst (λ (o : Option Place). IfSome (state_in o) (λ s. HasHeard s built games)) is heard in at

@@ -17,6 +17,7 @@ use Rattle.q3_world.specs.Games.{Carries, Tells}
 use Rattle.q3_world.specs.World.{Played, built_at}
 use Rattle.q3_world.proofs.GamesParts.{built_front, carries_cases}
 use Rattle.q3_world.proofs.GamesTexts.{after_commands-append}
+use Rattle.q3_schedules.proofs.PiecesEnd.{LeaveNone, Pauses, pauses_built, pauses_issued, pauses_nothing}
 
 -- ---- what follows
 
@@ -42,12 +43,13 @@ pub record Grew {X : Type 0} (old now : List X) : Type 0 where
   pub is : now ≡ old ++ more
 
 -- of one client: the strings of the map of an id follow from each gamestate of that map that was built for it, it executed what was
--- issued, and messages and commands went on since
+-- issued, messages and commands went on since, and no message was begun amid the pieces of a change
 pub record Follows (id : ℕ) (strings : Strings) (old : List Built) (before : List (List ℕ)) (state : Option AppliedState) (built : List Built) (games : List Played) (issued : List (List ℕ)) : Type 0 where
   pub each : (n : ℕ) (game : Gamestate) → Carries built n game → Tells game id → IsFollowed game strings issued
   pub heard : IfSome state (λ s. HasHeard s built games)
   pub built_on : Grew old built
   pub issued_on : Grew before issued
+  pub pauses : Pauses built issued
 
 pub Grew-none : {X : Type 0} (xs : List X) → Grew xs xs
 Grew-none xs = record { more = []; is = sym (append-nil xs) }
@@ -64,6 +66,7 @@ follows_nothing id strings =
       heard = tt;
       built_on = Grew-none [];
       issued_on = Grew-none [];
+      pauses = pauses_nothing;
     }
 
 -- ---- commands that change nothing, or the strings
@@ -82,12 +85,12 @@ module _ (id : ℕ) (strings : Strings) (old : List Built) (before : List (List 
   pub follows_anew : (new : ℕ) (now : Strings) → ((n : ℕ) (game : Gamestate) → Carries built n game → Tells game new → ⊥)
       → Follows id strings old before state built games issued → Follows new now old before state built games issued
   follows_anew new now none follows =
-      record { each = λ n game is tells. absurd (none n game is tells); heard = follows.heard; built_on = follows.built_on; issued_on = follows.issued_on }
+      record { each = λ n game is tells. absurd (none n game is tells); heard = follows.heard; built_on = follows.built_on; issued_on = follows.issued_on; pauses = follows.pauses }
 
   -- commands are issued that make other strings of these
-  pub follows_issued : (now : Strings) (texts : List (List ℕ)) → after_commands strings texts ≡ now
+  pub follows_issued : (now : Strings) (texts : List (List ℕ)) → after_commands strings texts ≡ now → LeaveNone texts
       → Follows id strings old before state built games issued → Follows id now old before state built games (issued ++ texts)
-  follows_issued now texts makes follows =
+  follows_issued now texts makes leave follows =
       record {
         each = λ n game is tells.
             let was = follows.each n game is tells in
@@ -101,12 +104,14 @@ module _ (id : ℕ) (strings : Strings) (old : List Built) (before : List (List 
         heard = follows.heard;
         built_on = follows.built_on;
         issued_on = Grew-more before issued texts follows.issued_on;
+        pauses = pauses_issued built issued texts leave follows.pauses;
       }
 
   -- a message is begun: a gamestate has the strings of the map, and the number of the last command
-  pub follows_built : (next : Built) → ((game : Gamestate) → next.message.section ≡ told.Game game → (game.strings ≡ strings) × (game.command ≡ length issued))
+  pub follows_built : (next : Built) → strings.pending ≡ None → next.last ≡ length issued
+      → ((game : Gamestate) → next.message.section ≡ told.Game game → (game.strings ≡ strings) × (game.command ≡ length issued))
       → Follows id strings old before state built games issued → Follows id strings old before state (built ++ next ∷ []) games issued
-  follows_built next has follows =
+  follows_built next none last has follows =
       record {
         each = λ n game is tells.
             elim (carries_cases built next n game is) [
@@ -123,6 +128,7 @@ module _ (id : ℕ) (strings : Strings) (old : List Built) (before : List (List 
         heard = still state follows.heard;
         built_on = Grew-more old built (next ∷ []) follows.built_on;
         issued_on = follows.issued_on;
+        pauses = pauses_built built issued next last (λ game e. ap (λ (s : Strings). s.pending) (has game e).0 ∙ none) follows.pauses;
       }
     where
       still : (o : Option AppliedState) → IfSome o (λ s. HasHeard s built games) → IfSome o (λ s. HasHeard s (built ++ next ∷ []) games)
@@ -148,9 +154,10 @@ module _ (id : ℕ) (strings : Strings) (old : List Built) (before : List (List 
         };
         built_on = follows.built_on;
         issued_on = follows.issued_on;
+        pauses = follows.pauses;
       }
 
   -- or takes a message
   pub follows_taken : (after : AppliedState) (more : List Played) → HasHeard after built more → Follows id strings old before state built games issued
       → Follows id strings old before (Some after) built more issued
-  follows_taken after more heard follows = record { each = follows.each; heard = heard; built_on = follows.built_on; issued_on = follows.issued_on }
+  follows_taken after more heard follows = record { each = follows.each; heard = heard; built_on = follows.built_on; issued_on = follows.issued_on; pauses = follows.pauses }

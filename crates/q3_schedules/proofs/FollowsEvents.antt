@@ -17,7 +17,6 @@ use Rattle.q3_client.specs.declared.client.MoveError.{MoveError}
 use Rattle.q3_client.specs.declared.client.MoveError.TheVariants.{NoGame, NotLater, Range as MoveRange}
 use Rattle.q3_client.specs.declared.client.Sent.TheVariants as answered_sent
 use Rattle.q3_clmsg.specs.declared.moves.Move.{Move}
-use Rattle.q3_config.specs.Laws.{PiecesMakeChange}
 use Rattle.q3_io.specs.declared.address.Address.{Address}
 use Rattle.q3_profile.specs.declared.profile.Profile.{Profile}
 use Rattle.q3_schedules.specs.Schedules.{IsScheduled}
@@ -42,6 +41,7 @@ use Rattle.q3_ends.specs.AtServer.{ran_of, server_line}
 use Rattle.q3_ends.specs.AtClient.{add_move, moved, type_text, typed}
 use Rattle.q3_ends.specs.Recording.{asking, note_taken}
 use Rattle.q3_world.specs.declared.places.Place.{Place}
+use Rattle.q3_world.specs.Layers.{ConfigLaws}
 use Rattle.q3_world.specs.Ends.{line_of, place_at, to_client as line_to_client}
 use Rattle.q3_schedules.specs.Schedules.{SaysNoChange}
 use Rattle.q3_world.specs.StandsFor.{IsSent, IsWay, acks_said, carried_built}
@@ -172,7 +172,7 @@ module _ (profile : Profile) (whole : Whole) (old : History) (c : ℕ) (lt : c <
       let map = whole.ends.server.map in
       let history = history_at whole.histories k in
       let count = issued_count profile whole k slot flow within at holds in
-      follows_built map.id map.strings old.built old.server_commands (state_in (place_at whole.ends c)) history.built history.games history.server_commands next
+      follows_built map.id map.strings old.built old.server_commands (state_in (place_at whole.ends c)) history.built history.games history.server_commands next holds.facts.map.pending (tells.last_is ∙ count)
       (λ game e. let so = tells.game game e in (so.0, so.1 ∙ count)) was
 
   serves : FlowLaws → (k : ℕ) → k < places → (found : Option SlotState) → slot_at whole.ends.server k ≡ found → At old c (serve whole k (emit_from whole.ends.server k found)).whole
@@ -237,24 +237,24 @@ module _ (profile : Profile) (whole : Whole) (old : History) (c : ℕ) (lt : c <
 
   -- ---- every event
 
-  pub follows_on : FlowLaws → TaggedDoes → PiecesMakeChange → (event : Event) → IsScheduled event → SaysNoChange event → At old c (step profile whole event).whole
+  pub follows_on : FlowLaws → TaggedDoes → ConfigLaws → (event : Event) → IsScheduled event → SaysNoChange event → At old c (step profile whole event).whole
   unfolding step line_of server_line emit_at
-  follows_on flow does_so make (events.Client k challenge qport dup address) replay none = joins profile whole old c lt holds is k challenge qport dup address (omega (arith, replay.0.0))
-  follows_on flow does_so make (events.Port k port) replay none = ports profile whole old c lt holds is k port (place_at whole.ends k) refl
-  follows_on flow does_so make (events.Map id feed) replay none = maps profile whole old c lt holds is id feed
-  follows_on flow does_so make (events.Baseline state) replay none = lines profile whole old c lt holds is state
-  follows_on flow does_so make (events.Config index text) replay none = configs profile whole old c lt holds is make index text
-  follows_on flow does_so make (events.Player k player) replay none = gives profile whole old c lt holds is k (λ slot. with_player whole.ends.server.profile slot player) (slot_at whole.ends.server k)
-  follows_on flow does_so make (events.Area k area) replay none = gives profile whole old c lt holds is k (λ slot. with_area slot area.items) (slot_at whole.ends.server k)
-  follows_on flow does_so make (events.Say k text) replay none = says profile whole old c lt holds is k text none
-  follows_on flow does_so make (events.TypeText k text) replay none = types k text (place_at whole.ends k) refl
-  follows_on flow does_so make (events.Move k one) replay none = moves k one (place_at whole.ends k) refl
-  follows_on flow does_so make (events.Serve k) replay none = serves flow k (omega (arith, replay.0)) (slot_at whole.ends.server k) refl
-  follows_on flow does_so make (events.Send k) replay none = sends k (place_at whole.ends k) refl
-  follows_on flow does_so make (events.Deliver number) replay none =
+  follows_on flow does_so laws (events.Client k challenge qport dup address) replay none = joins profile whole old c lt holds is k challenge qport dup address (omega (arith, replay.0.0))
+  follows_on flow does_so laws (events.Port k port) replay none = ports profile whole old c lt holds is k port (place_at whole.ends k) refl
+  follows_on flow does_so laws (events.Map id feed) replay none = maps profile whole old c lt holds is id feed
+  follows_on flow does_so laws (events.Baseline state) replay none = lines profile whole old c lt holds is state
+  follows_on flow does_so laws (events.Config index text) replay none = configs profile whole old c lt holds is laws index text
+  follows_on flow does_so laws (events.Player k player) replay none = gives profile whole old c lt holds is k (λ slot. with_player whole.ends.server.profile slot player) (slot_at whole.ends.server k)
+  follows_on flow does_so laws (events.Area k area) replay none = gives profile whole old c lt holds is k (λ slot. with_area slot area.items) (slot_at whole.ends.server k)
+  follows_on flow does_so laws (events.Say k text) replay none = says profile whole old c lt holds is k text none
+  follows_on flow does_so laws (events.TypeText k text) replay none = types k text (place_at whole.ends k) refl
+  follows_on flow does_so laws (events.Move k one) replay none = moves k one (place_at whole.ends k) refl
+  follows_on flow does_so laws (events.Serve k) replay none = serves flow k (omega (arith, replay.0)) (slot_at whole.ends.server k) refl
+  follows_on flow does_so laws (events.Send k) replay none = sends k (place_at whole.ends k) refl
+  follows_on flow does_so laws (events.Deliver number) replay none =
       subst (λ (b : Bool). At old c (deliver_as b profile whole number (slice_get whole.sent (number - 1))).whole) (sym holds.own) (delivers flow does_so number (slice_get whole.sent (number - 1)) refl)
-  follows_on flow does_so make (events.RecordTo k name) replay none = records profile whole old c lt holds is k name (place_at whole.ends k) refl
-  follows_on flow does_so make (events.Stop k) replay none = stops profile whole old c lt holds is k (place_at whole.ends k) refl
-  follows_on flow does_so make (events.Toclient k bytes) replay none = absurd replay.1
-  follows_on flow does_so make (events.Toserver k bytes) replay none = absurd replay.1
-  follows_on flow does_so make event replay none = is
+  follows_on flow does_so laws (events.RecordTo k name) replay none = records profile whole old c lt holds is k name (place_at whole.ends k) refl
+  follows_on flow does_so laws (events.Stop k) replay none = stops profile whole old c lt holds is k (place_at whole.ends k) refl
+  follows_on flow does_so laws (events.Toclient k bytes) replay none = absurd replay.1
+  follows_on flow does_so laws (events.Toserver k bytes) replay none = absurd replay.1
+  follows_on flow does_so laws event replay none = is

@@ -8,7 +8,7 @@ use Rattle.q3_client.specs.Client.{new_client}
 use Rattle.q3_clstate.specs.State.{AppliedState}
 use Rattle.q3_config.specs.Changes.{after_commands}
 use Rattle.q3_config.specs.Commands.{change_in, piece_count}
-use Rattle.q3_config.specs.Laws.{PiecesMakeChange, piece_texts}
+use Rattle.q3_config.specs.Laws.{piece_texts}
 use Rattle.q3_config.specs.Strings.{Pending, Strings, admit_fault, with_string}
 use Rattle.q3_config.specs.declared.error.ConfigError.{ConfigError}
 use Rattle.q3_entity.specs.Baselines.{with_line}
@@ -37,12 +37,14 @@ use Rattle.q3_world.specs.declared.places.Place.{Place}
 use Rattle.q3_ends.specs.Recording.{begin_at, new_recording, stop_at}
 use Rattle.q3_world.specs.Ends.{EndsStep, joined, place_at, record_of, set_port_of, stop_of}
 use Rattle.q3_world.specs.Games.{Carries, HasLast, Tells}
+use Rattle.q3_world.specs.Layers.{ConfigLaws}
 use Rattle.q3_world.specs.StandsFor.{IsClient}
 use Rattle.q3_world.specs.World.{History, Whole, history_at, no_history, texts_told, with_history, with_joined, with_noted, with_spoken, with_texts_told, with_told}
 use Rattle.q3_report.specs.declared.answer.HandedIn.TheVariants as answers
 use Rattle.q3_world.proofs.Clients.{no_client}
 use Rattle.q3_world.proofs.Holding.{Holds, has_slot}
 use Rattle.q3_schedules.proofs.Follows.{Follows, follows_anew, follows_issued, follows_joined, no_commands, nothing_changes}
+use Rattle.q3_schedules.proofs.PiecesEnd.{none_leave, pieces_leave}
 use Rattle.q3_world.proofs.GamesParts.{cases_option}
 use Rattle.q3_world.proofs.Growth.{noted_same}
 use Rattle.q3_world.proofs.OnePlace.{set_there}
@@ -264,10 +266,10 @@ module _ (profile : Profile) (whole : Whole) (old : History) (c : ℕ) (lt : c <
       (λ (handed : of_map.Handed Late). Of old handed.map (place_at whole.ends c) (history_at whole.histories c)) (λ e. is) (λ e. is)
 
   -- a config change: its client is told, unless no gamestate of the map was begun for it
-  told_follows : PiecesMakeChange → (index : ℕ) (text : List ℕ) → admit_fault whole.ends.server.map.strings index text ≡ None → (found : Option SlotState) → slot_at whole.ends.server c ≡ found
+  told_follows : ConfigLaws → (index : ℕ) (text : List ℕ) → admit_fault whole.ends.server.map.strings index text ≡ None → (found : Option SlotState) → slot_at whole.ends.server c ≡ found
       → Of old (with_config whole.ends.server.map index text) (place_at whole.ends c)
       (record (history_at whole.histories c) { server_commands = (history_at whole.histories c).server_commands ++ texts_told (piece_texts index text) found })
-  told_follows make index text may found at = go found at
+  told_follows laws index text may found at = go found at
     where
       map : MapState
       map = whole.ends.server.map
@@ -280,14 +282,14 @@ module _ (profile : Profile) (whole : Whole) (old : History) (c : ℕ) (lt : c <
 
       makes : after_commands map.strings (piece_texts index text) ≡ now
       makes =
-          make map.strings index text holds.facts.map.strings may
+          laws.make map.strings index text holds.facts.map.strings may
           ∙ ap (λ (o : Option Pending). record now { pending = o })
           (cond_both (piece_count (length text) == 1) map.strings.pending None (λ (o : Option Pending). o ≡ map.strings.pending) (λ e. refl) (λ e. sym holds.facts.map.pending))
 
       silent : ((n : ℕ) (game : Gamestate) → Carries history.built n game → Tells game map.id → ⊥)
           → Of old (with_config map index text) (place_at whole.ends c) (record history { server_commands = history.server_commands ++ [] })
       silent none =
-          follows_issued map.id now old.built old.server_commands (state_in (place_at whole.ends c)) history.built history.games history.server_commands now [] (no_commands now)
+          follows_issued map.id now old.built old.server_commands (state_in (place_at whole.ends c)) history.built history.games history.server_commands now [] (no_commands now) none_leave
           (follows_anew map.id map.strings old.built old.server_commands (state_in (place_at whole.ends c)) history.built history.games history.server_commands map.id now none is)
 
       go : (found : Option SlotState) → slot_at whole.ends.server c ≡ found
@@ -297,12 +299,12 @@ module _ (profile : Profile) (whole : Whole) (old : History) (c : ℕ) (lt : c <
           cond_both (is_connected slot.stage) [] (piece_texts index text)
           (λ (texts : List (List ℕ)). Of old (with_config map index text) (place_at whole.ends c) (record history { server_commands = history.server_commands ++ texts }))
           (λ e. silent (untold profile whole c slot lt holds at e))
-          (λ e. follows_issued map.id map.strings old.built old.server_commands (state_in (place_at whole.ends c)) history.built history.games history.server_commands now (piece_texts index text) makes is)
+          (λ e. follows_issued map.id map.strings old.built old.server_commands (state_in (place_at whole.ends c)) history.built history.games history.server_commands now (piece_texts index text) makes (pieces_leave laws.read map.strings index text may) is)
 
-  config_changes : PiecesMakeChange → (index : ℕ) (text : List ℕ) → admit_fault whole.ends.server.map.strings index text ≡ None → is_same whole.ends.server.map index text ≡ false → (full : Option ℕ)
+  config_changes : ConfigLaws → (index : ℕ) (text : List ℕ) → admit_fault whole.ends.server.map.strings index text ≡ None → is_same whole.ends.server.map index text ≡ false → (full : Option ℕ)
       → ConfigSo old c whole index text (change_unless whole.ends.server index text full)
-  config_changes make index text may apart (Some k) = is
-  config_changes make index text may apart None =
+  config_changes laws index text may apart (Some k) = is
+  config_changes laws index text may apart None =
       let server = whole.ends.server in
       let texts = piece_texts index text in
       let histories = whole.histories in
@@ -311,23 +313,23 @@ module _ (profile : Profile) (whole : Whole) (old : History) (c : ℕ) (lt : c <
       ≡ record (history_at histories c) { server_commands = (history_at histories c).server_commands ++ texts_told texts (slot_at server c) } =
       get_or-map-range_with_len (λ (j : ℕ). record (history_at histories j) { server_commands = (history_at histories j).server_commands ++ texts_told texts (slot_at server j) }) 0 places c c no_history lt (omega arith) in
       subst (λ (b : Bool). Of old after (place_at whole.ends c) (history_at (if b then histories else with_texts_told server texts histories) c)) (sym apart)
-      (subst (λ (h : History). Of old after (place_at whole.ends c) h) (sym there) (told_follows make index text may (slot_at server c) refl))
+      (subst (λ (h : History). Of old after (place_at whole.ends c) h) (sym there) (told_follows laws index text may (slot_at server c) refl))
 
-  config_or : PiecesMakeChange → (index : ℕ) (text : List ℕ) (fault : Option ConfigError) → admit_fault whole.ends.server.map.strings index text ≡ fault
+  config_or : ConfigLaws → (index : ℕ) (text : List ℕ) (fault : Option ConfigError) → admit_fault whole.ends.server.map.strings index text ≡ fault
       → ConfigSo old c whole index text (change_or whole.ends.server index text fault)
-  config_or make index text (Some fault) at = is
-  config_or make index text None may =
+  config_or laws index text (Some fault) at = is
+  config_or laws index text None may =
       let server = whole.ends.server in
       cond_both (is_same server.map index text) (record { server = server; answer = Ok tt }) (change_unless server index text (position (lacks_room (piece_texts index text)) server.slots))
       (ConfigSo old c whole index text)
       (λ e. subst (λ (b : Bool). Of old server.map (place_at whole.ends c) (history_at (if b then whole.histories else with_texts_told server (piece_texts index text) whole.histories) c)) (sym e) is)
-      (λ e. config_changes make index text may e (position (lacks_room (piece_texts index text)) server.slots))
+      (λ e. config_changes laws index text may e (position (lacks_room (piece_texts index text)) server.slots))
 
-  pub configs : PiecesMakeChange → (index : ℕ) (text : List ℕ) → ConfigSo old c whole index text (set_config_at whole.ends.server index text)
-  configs make index text =
+  pub configs : ConfigLaws → (index : ℕ) (text : List ℕ) → ConfigSo old c whole index text (set_config_at whole.ends.server index text)
+  configs laws index text =
       let server = whole.ends.server in
       cond_both (index == own_string) (record { server = server; answer = Err Own }) (change_or server index text (admit_fault server.map.strings index text))
-      (ConfigSo old c whole index text) (λ e. is) (λ e. config_or make index text (admit_fault server.map.strings index text) refl)
+      (ConfigSo old c whole index text) (λ e. is) (λ e. config_or laws index text (admit_fault server.map.strings index text) refl)
 
   spoken : (k : ℕ) (text : List ℕ) (answer : Result ℕ SayError) → change_in text ≡ None → Of old whole.ends.server.map (place_at whole.ends c) (history_at whole.histories k)
       → Of old whole.ends.server.map (place_at whole.ends c) (with_spoken (history_at whole.histories k) text (Given (answers.Say k answer)))
@@ -335,7 +337,7 @@ module _ (profile : Profile) (whole : Whole) (old : History) (c : ℕ) (lt : c <
       let map = whole.ends.server.map in
       let history = history_at whole.histories k in
       follows_issued map.id map.strings old.built old.server_commands (state_in (place_at whole.ends c)) history.built history.games history.server_commands map.strings (text ∷ [])
-      (nothing_changes map.strings text none) was
+      (nothing_changes map.strings text none) (λ strings is. ap (λ (s : Strings). s.pending) (nothing_changes strings text none) ∙ is) was
   spoken k text (Err e) none was = was
 
   says_to : (k : ℕ) (text : List ℕ) (found : Option SlotState) → change_in text ≡ None

@@ -10,11 +10,13 @@ pub mod InOrder
 pub mod Prefixes
 pub mod Keys
 pub mod ServedShown
+pub mod PiecesEnd
 pub mod Follows
 pub mod FollowsHeard
 pub mod FollowsGiven
 pub mod FollowsEvents
 pub mod Following
+pub mod Pends
 pub mod Entering
 pub mod PlainTexts
 pub mod SpelledLines

@@ -431,3 +431,8 @@ StringsFollow = (profile : Profile) (before rest : List Event) (c : ℕ) (client
     → client.state.number ≡ length (history_then profile before c).built + 1
     → client.state.id ≡ (kept_then profile before).ends.server.map.id
     → client.state.strings ≡ (kept_then profile before).ends.server.map.strings
+
+-- nor is a long string ever being put together at a client that has a gamestate
+abbrev pub NothingPends : Type 0
+NothingPends = (profile : Profile) (all : List Event) (c : ℕ) (client : ClientState) → IsChecked profile → AllByRecursion IsScheduled all → AllByRecursion SaysNoChange all
+    → c < places → client_at (kept_then profile all).ends c ≡ Some client → client.state.has_game ≡ true → client.state.strings.pending ≡ None

@@ -4,7 +4,7 @@ ghost use Rattle.q3_schedules.specs.Early.{NodeLeavesFront, ReplayLeavesFront};
 ghost use Rattle.q3_schedules.specs.NodeRecorded.{NodeRecordsItsMessages};
 ghost use Rattle.q3_schedules.specs.Recorded.{RecordingIsItsMessages};
 ghost use Rattle.q3_schedules.specs.ReportLines.{CountsAreLines, ReplayIsCounted};
-ghost use Rattle.q3_schedules.specs.Schedules.{AlwaysLegible, UnknownWasNotMade, CommandsArePrefixes, KeysAgree, ExecutedGoesOn, AcceptedWereBuilt, ShownWasBuilt, ShownIsNewest, AsksForAccepted, AskedUnderGame, OneGamePerMap, BasesWereAccepted, HeldIsAccepted, ViewsWereBuilt, AppliedWasBuilt, NewerIsAccepted, UsualNeverSkips, NewerIsRun, MovesWereIssued, EnteringIsNotRun, InOrderIsAccepted, ServedIsShown, StateIsOfGame, StringsTellId, StringsFollow};
+ghost use Rattle.q3_schedules.specs.Schedules.{AlwaysLegible, UnknownWasNotMade, CommandsArePrefixes, KeysAgree, ExecutedGoesOn, AcceptedWereBuilt, ShownWasBuilt, ShownIsNewest, AsksForAccepted, AskedUnderGame, OneGamePerMap, BasesWereAccepted, HeldIsAccepted, ViewsWereBuilt, AppliedWasBuilt, NewerIsAccepted, UsualNeverSkips, NewerIsRun, MovesWereIssued, EnteringIsNotRun, InOrderIsAccepted, ServedIsShown, StateIsOfGame, StringsTellId, StringsFollow, NothingPends};
 
 use q3_bits::laws as bits;
 use q3_chan::laws as chan;
@@ -218,6 +218,15 @@ pub fn strings_tell_id()
 /// it applied was begun, if that was under its own map.
 pub fn strings_follow()
     ensures { StringsFollow }
+{
+    world::bytes_follow_tags();
+    world::layers();
+}
+
+/// Where the game says no text of a config change, a client that has a gamestate is putting no long string together: what it executes of a
+/// message are all pieces of a change or none.
+pub fn nothing_pends()
+    ensures { NothingPends }
 {
     world::bytes_follow_tags();
     world::layers();
