@@ -1,5 +1,5 @@
 -- What the demo plays to that a client recorded.
-use Rattle.std.specs.Prelude.{◌≡◌, ◌⊎◌, ℕ, zero, suc, ◌-◌, ◌^◌, ◌<◌, ◌≤◌, if◌then◌else◌, Bool, List, [], ◌∷◌, ◌++◌, length, map, Option, Some, None, IsSome, Result, Ok}
+use Rattle.std.specs.Prelude.{◌≡◌, ◌⊎◌, ℕ, zero, suc, ◌-◌, ◌^◌, ◌<◌, ◌≤◌, if◌then◌else◌, Bool, true, List, [], ◌∷◌, ◌++◌, length, map, Option, Some, None, IsSome, Result, Ok}
 use Rattle.std.specs.Result.{result_ok}
 use Rattle.q3_text.specs.declared.text.Command.{Command}
 use Rattle.q3_config.specs.Strings.{server_id}
@@ -11,9 +11,9 @@ use Rattle.q3_demo.specs.declared.error.DemoError.{DemoError}
 use Rattle.q3_demo.specs.declared.record.Piece.{Piece}
 use Rattle.q3_demo.specs.declared.record.Piece.TheVariants.{Message}
 use Rattle.q3_demo.specs.declared.recorder.Stage.{Stage}
-use Rattle.q3_demo.specs.declared.recorder.Stage.TheVariants.{Waits, Runs, Ended}
+use Rattle.q3_demo.specs.declared.recorder.Stage.TheVariants.{Waits, Runs}
 use Rattle.q3_demo.specs.Records.{longest_record, number_end, most_bytes}
-use Rattle.q3_demo.specs.Recording.{Noted, is_whole, note_of, noted_from}
+use Rattle.q3_demo.specs.Recording.{Noted, composed, composed_whole, game_bits, is_before, is_whole, note_of, whole_of}
 use Rattle.q3_demo.specs.Playing.{Played, unplayed, next_piece, message_of, played_on, most_records, play_of, last_played}
 use Rattle.q3_schedules.specs.NodeRecorded.{written_of}
 
@@ -145,8 +145,14 @@ unfoldable pub from_whole : List Noted → List Noted
 from_whole [] = []
 from_whole (noted ∷ others) = if is_whole noted.applied.answer.snap then noted ∷ others else from_whole others
 
--- these are recorded; or, where the recording ended by itself, the first of them
+-- what had to be composed for a message, behind those that were recorded, is too long: the gamestate before the first, or the message whole
+abbrev pub TooLong : List Noted → Noted → Type 0
+TooLong [] noted = composed (game_bits noted.before noted.issued) ≡ None
+TooLong (first ∷ others) noted =
+    (is_before first.applied.answer.number noted.applied.answer.snap ≡ true) × (composed_whole noted.applied.state (whole_of noted.applied.state noted.message) ≡ None)
+
+-- these are recorded, or those before the first for which what had to be composed is too long
 abbrev pub WholeIsRecorded : Type 0
 WholeIsRecorded = (messages : List Noted)
     → (recorded_from Waits messages ≡ from_whole messages)
-    ⊎ ((rest : List Noted) × (from_whole messages ≡ recorded_from Waits messages ++ rest) × ((noted_from Waits messages).stage ≡ Ended))
+    ⊎ ((noted : Noted) × (later : List Noted) × (from_whole messages ≡ recorded_from Waits messages ++ noted ∷ later) × TooLong (recorded_from Waits messages) noted)
