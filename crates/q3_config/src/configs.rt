@@ -3,7 +3,7 @@
 //! `SV_SetConfigstring` (sv_init.c), and `apply_command` is `CL_GetServerCommand` with `CL_ConfigstringModified`
 //! (cl_cgame.c).
 
-ghost use Rattle.std.specs.Prelude.{◌≡◌, ◌<◌, ◌≤◌, ◌==◌, not, if◌then◌else◌, length, find, option_map, All, IsTrue, IfOk, OnOk};
+ghost use Rattle.std.specs.Prelude.{◌≡◌, ◌<◌, ◌≤◌, ◌==◌, not, if◌then◌else◌, length, find, option_map, All, Some, IsTrue, IfOk, OnOk};
 ghost use Rattle.q3_config.specs.Strings.{AreStrings, places, longest_string, no_strings, string_at, config_size, is_config_byte, set_fault, admit_fault, refused, after_set, server_id};
 ghost use Rattle.q3_config.specs.Commands as commands;
 ghost use Rattle.q3_config.specs.Changes.{unchanged, make_change, go_on, after_change, after_command};
@@ -92,6 +92,15 @@ impl Configs {
         ensures strings { self.new ≡ after_set self.old index text.now (set_fault self.old index text.now) }
     {
         self.table.set(index, text)
+    }
+
+    /// This text, of at most 8,191 bytes, is pending for an index below 1,024, and no other. It is kept as it is.
+    pub fn set_pending(&mut self, index: u32, text: &[u8])
+        requires index { index < places }
+        requires short { length text.now ≤ longest_string }
+        ensures { self.new ≡ record self.old { pending = Some (record { index = index; text = text.now }) } }
+    {
+        self.pending.begin(index, text);
     }
 
     /// Whether a change may go out as commands. `Err` is the first of: an index above 1,023; a byte that a command can't

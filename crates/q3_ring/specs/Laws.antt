@@ -1,7 +1,7 @@
 -- Laws of a ring of entities.
-use Rattle.std.specs.Prelude.{◌≡◌, ℕ, ◌+◌, ◌≤◌, List, length}
+use Rattle.std.specs.Prelude.{◌≡◌, ℕ, ◌+◌, ◌<◌, ◌≤◌, List, [], ◌∷◌, ◌++◌, length}
 use Rattle.q3_entity.specs.declared.state.EntityState.{EntityState}
-use Rattle.q3_ring.specs.Ring.{RingState, with_entities, entities_from}
+use Rattle.q3_ring.specs.Ring.{RingState, with_entities, with_entity_at, entities_from}
 
 -- entities that were just placed are those from the count before them on
 abbrev pub PlacedIsThere : Type 0
@@ -13,3 +13,13 @@ abbrev pub OthersStay : Type 0
 OthersStay = (ring : RingState) (entities : List EntityState) (first count : ℕ) → first + count ≤ ring.placed
     → ring.placed + length entities ≤ first + length ring.recent
     → entities_from (with_entities ring entities) first count ≡ entities_from ring first count
+
+-- an entity that is put where one was placed is one more behind those in front of it
+abbrev pub PutIsNext : Type 0
+PutIsNext = (ring : RingState) (entity : EntityState) (first count : ℕ) → first + count < ring.placed → ring.placed ≤ first + length ring.recent
+    → entities_from (with_entity_at ring (first + count) entity) first (count + 1) ≡ entities_from ring first count ++ entity ∷ []
+
+-- and those in front of it stay the same
+abbrev pub PutLeavesOthers : Type 0
+PutLeavesOthers = (ring : RingState) (entity : EntityState) (number first count : ℕ) → first + count ≤ number → number < ring.placed
+    → ring.placed ≤ first + length ring.recent → entities_from (with_entity_at ring number entity) first count ≡ entities_from ring first count

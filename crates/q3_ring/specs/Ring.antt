@@ -1,5 +1,5 @@
 -- Entities of which those that were placed last are kept.
-use Rattle.std.specs.Prelude.{◌≡◌, ◌⊎◌, ℕ, ◌+◌, ◌-◌, List, ◌++◌, length, replicate, take, drop}
+use Rattle.std.specs.Prelude.{◌≡◌, ◌⊎◌, ℕ, ◌+◌, ◌-◌, List, ◌++◌, length, replicate, take, drop, slice_set}
 use Rattle.q3_entity.specs.declared.state.EntityState.{EntityState}
 use Rattle.q3_entity.specs.Entities.{zero_entity}
 
@@ -19,6 +19,10 @@ with_entities ring entities = record {
   placed = ring.placed + length entities;
   recent = drop (length entities) (ring.recent ++ entities);
 }
+
+-- another entity lies where the one was placed that has this number among all that were ever placed, from 0
+abbrev pub with_entity_at : RingState → ℕ → EntityState → RingState
+with_entity_at ring number entity = record ring { recent = slice_set ring.recent (number + length ring.recent - ring.placed) entity }
 
 -- so many entities from one on, which has its number among all that were ever placed, from 0
 abbrev pub entities_from : RingState → ℕ → ℕ → List EntityState

@@ -87,7 +87,8 @@ impl Places {
     }
 }
 
-fn copy_head(head: &SnapHead) -> SnapHead
+/// A head like this one.
+pub fn copy_head(head: &SnapHead) -> SnapHead
     ensures { result ≡ head.now }
 {
     let mut area = ArrayVec::new();

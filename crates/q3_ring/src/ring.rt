@@ -3,7 +3,7 @@
 
 ghost use Rattle.std.specs.Prelude.{◌≡◌, ◌+◌, ◌-◌, ◌%◌, ◌^◌, ◌<◌, ◌≤◌, ◌++◌, length, take, drop, min, vec_capacity, IfOk, IsTrue};
 ghost use Rattle.q3_entity.specs.Entities.{zero_entity, run_of};
-ghost use Rattle.q3_ring.specs.Ring.{new_ring, with_entities, entities_from, EndsWith, PlacesOnce};
+ghost use Rattle.q3_ring.specs.Ring.{new_ring, with_entities, with_entity_at, entities_from, EndsWith, PlacesOnce};
 ghost use Rattle.q3_ring.specs.Turned.{turned, filled};
 
 use q3_entity::{EntityState, Run, count_same};
@@ -129,6 +129,30 @@ impl Ring {
         ensures room { length self.new.recent ≡ length self.old.recent }
     {
         self.placed = 0;
+    }
+
+    /// So many count as placed, whichever these were: `put` says what lies where. Places that weren't written yet are, as far as
+    /// so many entities take them.
+    pub fn restore(&mut self, placed: u64)
+        ensures placed { self.new.placed ≡ placed }
+        ensures room { length self.new.recent ≡ length self.old.recent }
+    {
+        let taken = placed.min(self.room as u64) as usize;
+        while self.cells.len() < taken {
+            let _ = self.cells.push(EntityState::zero(0));
+        }
+        self.placed = placed;
+    }
+
+    /// Puts an entity where one lies that was placed: this one has its number among all that were placed, from 0, and none was
+    /// placed over it.
+    pub fn put(&mut self, number: u64, entity: &EntityState)
+        requires placed { number < self.old.placed }
+        requires there { self.old.placed ≤ number + length self.old.recent }
+        ensures { self.new ≡ with_entity_at self.old number entity.now }
+    {
+        let place = (number % self.room as u64) as usize;
+        self.cells[place] = *entity;
     }
 }
 

@@ -3,7 +3,7 @@ use Rattle.std.specs.Prelude.{◌≡◌, ◌⊎◌, ℕ, ◌+◌, ◌<◌, ◌�
 use Rattle.q3_entity.specs.Entities.{most_entities}
 use Rattle.q3_ring.specs.Snapshot.{Snapshot}
 use Rattle.q3_rings.specs.declared.rings.NoBase.TheVariants.{EntitiesGone}
-use Rattle.q3_rings.specs.Rings.{HeldSnapshots, AreHeldSnapshots, no_snapshots, is_young, held_snapshot, accept_at}
+use Rattle.q3_rings.specs.Rings.{HeldSnapshot, HeldSnapshots, AreHeldSnapshots, no_snapshots, is_young, held_snapshot, accept_at, CanPutBack, put_back_at}
 use Rattle.q3_rings.specs.Accepted.{AreAccepted, newest_of, age_of, held_among, SnapshotsStandFor}
 
 -- a snapshot that is accepted is held then
@@ -19,11 +19,13 @@ HeldWasHeld = (snapshots : HeldSnapshots) (accepted : Snapshot) (number : ℕ) (
     ⊎ ((number ≡ accepted.head.number → ⊥) × (held_snapshot snapshots number ≡ Ok held))
 
 -- that snapshots are held as a client holds them: so it is where none was accepted, and stays where one is accepted that is newer than
--- all others
+-- all others, and where one is put back
 pub record SnapshotsStay : Type 0 where
   pub none : (ring : ℕ) → 512 ≤ ring → AreHeldSnapshots (no_snapshots ring)
   pub accept : (snapshots : HeldSnapshots) (snapshot : Snapshot) → AreHeldSnapshots snapshots → snapshots.newest < snapshot.head.number
       → AreHeldSnapshots (accept_at snapshots snapshot)
+  pub put_back : (snapshots : HeldSnapshots) (held : HeldSnapshot) → AreHeldSnapshots snapshots
+      → CanPutBack snapshots held.snapshot.head.number held.age (length held.snapshot.entities) → AreHeldSnapshots (put_back_at snapshots held)
 
 -- ---- over the list of all snapshots accepted
 

@@ -1,7 +1,9 @@
 -- The snapshots that a client accepted, as far as they are held.
-use Rattle.std.specs.Prelude.{◌≡◌, ℕ, ◌+◌, ◌-◌, ◌<◌, ◌≤◌, ◌==◌, nat_le, if◌then◌else◌, Bool, List, length, map, slice_index_or, Option, Some, None, option_map, IfSome, Result, Ok, Err}
+use Rattle.std.specs.Prelude.{◌≡◌, ℕ, ◌+◌, ◌-◌, ◌<◌, ◌≤◌, ◌==◌, nat_le, if◌then◌else◌, Bool, false, List, [], ◌∷◌, ◌++◌, length, map, slice_index_or, Option, Some, None, option_map, IfSome, Result, Ok, Err}
 use Rattle.std.specs.Result.{result_ok}
+use Rattle.q3_entity.specs.declared.state.EntityState.{EntityState}
 use Rattle.q3_entity.specs.Entities.{most_entities}
+use Rattle.q3_player.specs.declared.head.SnapHead.{SnapHead}
 use Rattle.q3_ring.specs.Snapshot.{Snapshot, without_entities}
 use Rattle.q3_ring.specs.Places.{most_places, place_of, no_places, at_number, put_at_number}
 use Rattle.q3_rings.specs.declared.rings.NoBase.{NoBase}
@@ -65,18 +67,70 @@ accept_at snapshots snapshot = record snapshots {
       (record { snapshot = snapshot; age = length snapshot.entities });
 }
 
+-- ---- what is put back
+
+-- a snapshot is held again, at the age that it had, and all others stay as they are
+abbrev pub put_back_at : HeldSnapshots → HeldSnapshot → HeldSnapshots
+put_back_at snapshots held = record snapshots {
+  newest = held.snapshot.head.number;
+  places = put_at_number snapshots.places held.snapshot.head.number held;
+}
+
+-- a snapshot of this number and age, with so many entities, may be put back: it is newer than all others, each of which has an age of at
+-- least its own entities and this age; and it has none where it is so old that they are gone
+pub record CanPutBack (snapshots : HeldSnapshots) (number age count : ℕ) : Type 0 where
+  pub newer : snapshots.newest < number
+  pub few : count ≤ most_entities
+  pub counted : count ≤ age
+  pub gone : is_young snapshots.ring age ≡ false → count ≡ 0
+  pub older : (place : ℕ) → IfSome (slice_index_or snapshots.places place None) (λ held. length held.snapshot.entities + age ≤ held.age)
+
 -- ---- the whole of it
 
--- the snapshots, and how many entities were placed since they were wiped
+-- a snapshot that is being put back: what is said of it, its age, how many entities it has, and those that were placed by now
+pub record Begun : Type 0 where
+  pub head : SnapHead
+  pub age : ℕ
+  pub count : ℕ
+  pub entities : List EntityState
+
+-- the snapshots, how many entities were placed since they were wiped, and the one that is being put back, if one is
 pub record RingsState : Type 0 where
   pub held : HeldSnapshots
   pub placed : ℕ
+  pub begun : Option Begun
 
 abbrev pub no_rings : ℕ → RingsState
-no_rings ring = record { held = no_snapshots ring; placed = 0 }
+no_rings ring = record { held = no_snapshots ring; placed = 0; begun = None }
 
 abbrev pub accept_in : RingsState → Snapshot → RingsState
-accept_in rings snapshot = record { held = accept_at rings.held snapshot; placed = rings.placed + length snapshot.entities }
+accept_in rings snapshot = record rings { held = accept_at rings.held snapshot; placed = rings.placed + length snapshot.entities }
+
+-- nothing is held, and so many entities count as placed
+abbrev pub restored : RingsState → ℕ → RingsState
+restored rings placed = record (no_rings rings.held.ring) { placed = placed }
+
+-- a snapshot is put back: how many entities count as placed stays as it is
+abbrev pub put_back_in : RingsState → HeldSnapshot → RingsState
+put_back_in rings held = record rings { held = put_back_at rings.held held }
+
+-- and entity by entity: it is begun, an entity is placed, and it is held
+abbrev pub begin_in : RingsState → SnapHead → ℕ → ℕ → RingsState
+begin_in rings head age count = record rings { begun = Some (record { head = head; age = age; count = count; entities = [] }) }
+
+abbrev pub place_in : RingsState → EntityState → RingsState
+place_in rings entity = record rings { begun = option_map (λ begun. record begun { entities = begun.entities ++ entity ∷ [] }) rings.begun }
+
+-- what is begun, as what is held then
+abbrev pub held_of : Begun → HeldSnapshot
+held_of begun = record { snapshot = record { head = begun.head; entities = begun.entities }; age = begun.age }
+
+abbrev pub end_with : RingsState → Option Begun → RingsState
+end_with rings None = rings
+end_with rings (Some begun) = record (put_back_in rings (held_of begun)) { begun = None }
+
+abbrev pub end_in : RingsState → RingsState
+end_in rings = end_with rings rings.begun
 
 -- a snapshot that is held in a place: its number belongs there, isn't 0, and isn't above the newest, and its age counts its
 -- entities that are there

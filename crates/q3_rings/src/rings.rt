@@ -1,16 +1,16 @@
 //! The snapshots that a client holds. Keeps the rule "held snapshots of a client", the engine's `CL_ParseSnapshot`
 //! (cl_parse.c); which bases are held is this project's own.
 
-ghost use Rattle.std.specs.Prelude.{◌≡◌, ◌<◌, ◌≤◌, option_map, slice_index_or, None, IfOk, IfSome};
+ghost use Rattle.std.specs.Prelude.{◌≡◌, ◌+◌, ◌<◌, ◌≤◌, ◌^◌, [], ◌∷◌, ◌++◌, length, option_map, slice_index_or, None, IfOk, IfSome, MatchOption};
 ghost use Rattle.q3_entity.specs.Entities.{Rises, run_of};
 ghost use Rattle.q3_rings.specs.Loans.{snapshot_of};
-ghost use Rattle.q3_rings.specs.Rings.{AreHeldSnapshots, no_rings, held_snapshot, view_at, accept_in};
+ghost use Rattle.q3_rings.specs.Rings.{Begun, AreHeldSnapshots, CanPutBack, no_rings, held_snapshot, view_at, accept_in, restored, put_back_in, begin_in, place_in, end_in};
 
 use crate::views::{Held, SnapView};
 use q3_entity::{EntityState, Run};
 use q3_player::SnapHead;
-use q3_ring::laws::{others_stay, placed_is_there};
-use q3_ring::{Kept, Places, Ring};
+use q3_ring::laws::{others_stay, placed_is_there, put_is_next, put_leaves_others};
+use q3_ring::{Kept, Places, Ring, copy_head};
 use std::alloc::{AllocError as NoMemory, Global};
 use std::marker::Model;
 
@@ -28,6 +28,18 @@ pub enum NoBase {
     EntitiesGone(u64),
 }
 
+/// A snapshot that is being put back.
+#[derive(Drop)]
+pub(crate) struct Back {
+    head: SnapHead,
+    /// How many entities count as placed before its own.
+    first: u64,
+    /// How many it is to have.
+    count: usize,
+    /// How many were placed by now.
+    placed: usize,
+}
+
 /// The newest snapshots accepted, 32 at most, each in the place of its number modulo 32. Their entities lie in one ring.
 /// After `new` no call takes memory.
 #[derive(Drop)]
@@ -35,6 +47,7 @@ pub struct Rings {
     ring: Ring,
     places: Places,
     newest: u32,
+    begun: Option<Back>,
 }
 
 impl Model for Rings {
@@ -62,6 +75,7 @@ impl Rings {
             ring: Ring::new(alloc, ring)?,
             places: Places::new(alloc)?,
             newest: 0,
+            begun: None,
         })
     }
 
@@ -110,10 +124,11 @@ impl Rings {
     }
 
     /// Accepts a snapshot, whose number is above the newest: all others are older by its entities. What stood in the place
-    /// of its number is gone. The entities rise by number, and there are at most 256.
+    /// of its number is gone. The entities rise by number, and there are at most 256. None is being put back.
     pub fn accept(&mut self, head: &SnapHead, entities: &[EntityState])
         requires newer { self.old.held.newest < head.now.number }
         requires rises { Rises entities.now }
+        requires none { self.old.begun ≡ None }
         ensures { self.new ≡ accept_in self.old (record { head = head.now; entities = entities.now }) }
     {
         placed_is_there();
@@ -132,6 +147,75 @@ impl Rings {
         self.ring.clear();
         self.places.clear();
         self.newest = 0;
+        self.begun = None;
+    }
+
+    /// Holds nothing more, and so many entities, 2^32 at most, count as placed: snapshots of at most this age may be put back.
+    pub fn restore(&mut self, placed: u64)
+        requires { placed ≤ 2 ^ 32 }
+        ensures { self.new ≡ restored self.old placed }
+    {
+        self.ring.restore(placed);
+        self.places.clear();
+        self.newest = 0;
+        self.begun = None;
+    }
+
+    /// Holds a snapshot again, at the age that it had: `begin_back`, `place_back` and `end_back` at once.
+    pub fn put_back(&mut self, head: &SnapHead, age: u64, entities: &[EntityState])
+        requires none { self.old.begun ≡ None }
+        requires placed { age ≤ self.old.placed }
+        requires can { CanPutBack self.old.held head.now.number age (length entities.now) }
+        requires rises { Rises entities.now }
+        ensures { self.new ≡ put_back_in self.old (record { snapshot = record { head = head.now; entities = entities.now }; age = age }) }
+    {
+        self.begin_back(head, age, entities.len());
+        for entity in entities {
+            self.place_back(entity);
+        }
+        self.end_back();
+    }
+
+    /// Begins to put back a snapshot that had this age, and so many entities. It is held only once all of them are placed. Its
+    /// number is above the newest; its age is at most the count of entities placed, and at least its own entities, of which it
+    /// has none where they are gone by its age; and all that is held is older than that, each by its own entities.
+    pub fn begin_back(&mut self, head: &SnapHead, age: u64, count: usize)
+        requires none { self.old.begun ≡ None }
+        requires placed { age ≤ self.old.placed }
+        requires can { CanPutBack self.old.held head.now.number age count }
+        ensures { self.new ≡ begin_in self.old head.now age count }
+    {
+        self.begun = Some(Back {
+            head: copy_head(head),
+            first: self.ring.placed() - age,
+            count,
+            placed: 0,
+        });
+    }
+
+    /// Places the next entity of the snapshot that is being put back. Its number is above that of the one before.
+    pub fn place_back(&mut self, entity: &EntityState)
+        requires { MatchOption self.old.begun ⊥ (λ begun. (length begun.entities < begun.count) × Rises (begun.entities ++ entity.now ∷ [])) }
+        ensures { self.new ≡ place_in self.old entity.now }
+    {
+        put_is_next();
+        put_leaves_others();
+        if let Some(back) = &mut self.begun {
+            self.ring.put(back.first + back.placed as u64, entity);
+            back.placed += 1;
+        }
+    }
+
+    /// The snapshot that is being put back has all its entities, and is held from now on. What stood in the place of its number
+    /// is gone.
+    pub fn end_back(&mut self)
+        requires { MatchOption self.old.begun ⊥ (λ begun. length begun.entities ≡ begun.count) }
+        ensures { self.new ≡ end_in self.old }
+    {
+        if let Some(back) = self.begun.take() {
+            self.places.keep(&back.head, back.first, back.count, back.first);
+            self.newest = back.head.number;
+        }
     }
 
     /// How many entities were placed since `new` or the last `wipe`.

@@ -44,6 +44,16 @@ impl Incoming {
         }
     }
 
+    /// The command of this number was executed last, with this text.
+    pub fn at(number: u32, text: &Text) -> Incoming
+        ensures { result ≡ record { executed = number; last = text.now } }
+    {
+        Incoming {
+            executed: number,
+            last: text.copy(),
+        }
+    }
+
     /// Takes a command as a server does, which executes none behind a gap.
     pub fn take(&mut self, command: &Command) -> Taken
         ensures { take_at self.old command.now ≡ record { window = self.new; answer = result } }
