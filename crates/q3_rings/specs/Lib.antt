@@ -1,4 +1,5 @@
 pub mod Rings
+pub mod ByNumber
 pub mod Accepted
 pub mod Loans
 pub mod KeptRings

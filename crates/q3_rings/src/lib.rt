@@ -2,6 +2,7 @@
 #![tactic(auto)]
 
 pub mod laws;
+pub mod order;
 pub mod rings;
 pub mod views;
 

@@ -1,0 +1,67 @@
+//! The snapshots that are held, by rising number.
+
+ghost use Rattle.std.specs.Prelude.{◌≡◌, ◌<◌, ◌≤◌, ℕ, None, option_map};
+ghost use Rattle.q3_entity.specs.Entities.{run_of};
+ghost use Rattle.q3_ring.specs.Places.{place_of};
+ghost use Rattle.q3_rings.specs.Loans.{head_of, head_from};
+ghost use Rattle.q3_rings.specs.Rings.{HeldSnapshot, AreHeldSnapshots};
+ghost use Rattle.q3_rings.specs.ByNumber as spec;
+
+use crate::rings::Rings;
+use crate::views::Held;
+use q3_entity::Run;
+
+/// How many snapshots are held at most.
+const PLACES: u8 = 32;
+
+impl Rings {
+    /// The least number above `last` under which a snapshot is held, or the newest where that is less. `last` is below the newest.
+    pub fn next_number(&self, last: u32) -> u32
+        requires { last < self.now.held.newest }
+        ensures above { last < result }
+        ensures most { result ≤ self.now.held.newest }
+        ensures least { (number : ℕ) → last < number → number < result → spec.held_under self.now.held number ≡ None }
+    {
+        let mut next = self.newest();
+        for place in 0..PLACES {
+            next = nearer(self, place, last, next);
+        }
+        next
+    }
+
+    /// Lends the head and the age of the snapshot of a number, also where its entities are gone.
+    pub fn held_under(&self, number: u32) -> Option<Held<'_>>
+        ensures { option_map head_of result ≡ option_map head_from (spec.held_under self.now.held number) }
+    {
+        let held = self.held((number % u32::from(PLACES)) as u8)?;
+        if held.head.number == number {
+            Some(held)
+        } else {
+            None
+        }
+    }
+
+    /// Lends the entities of the snapshot of a number: none where they are gone.
+    pub fn entities_of(&self, number: u32) -> Run<'_>
+        ensures { (held : HeldSnapshot) → spec.held_under self.now.held number ≡ Some held → run_of result ≡ held.snapshot.entities }
+    {
+        match self.view(number) {
+            Some(view) => view.entities,
+            None => Run::of(&[]),
+        }
+    }
+}
+
+/// The number of the snapshot in a place, if it is above `last` and below `next`; else `next`.
+fn nearer(rings: &Rings, place: u8, last: u32, next: u32) -> u32
+    requires place { place < 32 }
+    requires above { last < next }
+    ensures above { last < result }
+    ensures most { result ≤ next }
+    ensures least { (number : ℕ) → place_of number ≡ place → last < number → number < result → spec.held_under rings.now.held number ≡ None }
+{
+    match rings.held(place) {
+        Some(held) if last < held.head.number && held.head.number < next => held.head.number,
+        _ => next,
+    }
+}

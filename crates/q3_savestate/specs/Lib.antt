@@ -1,0 +1,9 @@
+pub mod Buffers
+pub mod Cursor
+pub mod Entities
+pub mod Texts
+pub mod Snapshots
+pub mod State
+pub mod Lending
+pub mod Standing
+pub mod Laws

@@ -1,0 +1,13 @@
+//! Laws of states and their bytes, each the contract of a call that does nothing.
+
+ghost use Rattle.q3_savestate.specs.Laws.{WrittenIsRead, ReadIsWritten};
+
+/// What is written of a state is read as that state.
+pub fn written_is_read()
+    ensures { WrittenIsRead }
+{}
+
+/// What is read is a state that is well formed and in range, and was written so.
+pub fn read_is_written()
+    ensures { ReadIsWritten }
+{}
