@@ -119,7 +119,7 @@ abbrev pub begin_in : RingsState → SnapHead → ℕ → ℕ → RingsState
 begin_in rings head age count = record rings { begun = Some (record { head = head; age = age; count = count; entities = [] }) }
 
 abbrev pub place_in : RingsState → EntityState → RingsState
-place_in rings entity = record rings { begun = option_map (λ begun. record begun { entities = begun.entities ++ entity ∷ [] }) rings.begun }
+place_in rings entity = record rings { begun = option_map (λ (begun : Begun). record begun { entities = begun.entities ++ entity ∷ [] }) rings.begun }
 
 -- what is begun, as what is held then
 abbrev pub held_of : Begun → HeldSnapshot
