@@ -1,16 +1,17 @@
 -- A list read round its end, what is put into it round its end, and what it has where nothing was put.
-use Rattle.std.proofs.Common.{◌≡◌, ℕ, ◌+◌, ◌-◌, ◌%◌, ◌<◌, ◌≤◌, min, List, [], ◌++◌, length, take, drop, replicate, refl, sym, ap, ◌∙◌, append_assoc, arith, inl, inr}
+use Rattle.std.proofs.Common.{◌≡◌, ℕ, ◌+◌, ◌-◌, ◌%◌, ◌<◌, ◌≤◌, min, List, [], ◌++◌, length, take, drop, set, replicate, refl, sym, ap, ◌∙◌, append_assoc, arith, inl, inr}
 use Rattle.std.proofs.Math.Nat.{mod-add-mod, add-mod_right, mod-eq_of_lt, mod-eq-sub-mod, mod-lt, mod_self}
-use Rattle.std.proofs.Math.Seq.{drop-append-add, take-append-add, take-length, drop-length}
+use Rattle.std.proofs.Math.Seq.{drop-append-add, take-append-add, take-length, drop-length, take-set-lt}
 use Rattle.std.proofs.Math.ListN.{drop_of_length-le}
 use Rattle.std.proofs.lemmas.Bool.{cases_lt}
-use Rattle.std.proofs.lemmas.List.{length-append, length-take, length-take-le, length-drop, append-nil, take_at, drop_at, take_rest, drop-append-le, take-append-le, take-take, drop-take, drop-drop, drop_all, length-replicate, drop-replicate}
+use Rattle.std.proofs.lemmas.List.{length-append, length-take, length-take-le, length-drop, append-nil, take_at, drop_at, take_rest, drop-append-le, take-append-le, take-take, drop-take, drop-drop, drop_all, length-replicate, drop-replicate, length-set, drop-set-lt, drop-set-add, take-set-le, take_more_set, set-append_left, set-append_right}
 use Rattle.q3_entity.specs.declared.state.EntityState.{EntityState}
 use Rattle.q3_entity.specs.Entities.{zero_entity}
 use Rattle.q3_ring.specs.declared.ring.Ring.TheInside.{Inside}
 use Rattle.q3_ring.specs.Turned.{turned, filled}
-use Rattle.q3_ring.specs.Ring.{RingState, with_entities, entities_from}
+use Rattle.q3_ring.specs.Ring.{RingState, with_entities, with_entity_at, entities_from}
 use Rattle.q3_ring.specs.Cells.{ring_in, IsRing}
+use Rattle.q3_ring.specs.Laws.{PutIsNext, PutLeavesOthers}
 
 -- ---- `take` and `drop` over two lists
 
@@ -121,6 +122,27 @@ put_past {X = X} start n xs first rest es middle new count below parts end some 
     ∙ drop-append-le at (take start xs) es (omega arith) in
     ap (λ (k : ℕ). turned k new) round ∙ left ∙ sym right
 
+-- one put at one place
+turned_set : {X : Type 0} (place at n : ℕ) (xs : List X) (x : X) → length xs ≡ n → place < n → at < n
+    → turned place (set xs ((place + at) % n) x) ≡ set (turned place xs) at x
+turned_set {X = X} place at n xs x count below within =
+    let behind : length (drop place xs) ≡ n - place = omega (arith, length-drop place xs) in
+    elim (cases_lt (place + at) n) [
+      | inl here ↦
+          ap (λ (k : ℕ). turned place (set xs k x)) (mod-eq_of_lt {n = place + at} {m = n} here)
+          ∙ ap (λ (ys : List X). ys ++ take place (set xs (place + at) x)) (drop-set-add place xs at x)
+          ∙ ap (λ (ys : List X). set (drop place xs) at x ++ ys) (take-set-le place xs (place + at) x (omega arith))
+          ∙ sym (set-append_left (drop place xs) (take place xs) at x (omega arith))
+      | inr past ↦
+          let round : ℕ = place + at - n in
+          let same : at - (n - place) ≡ round = omega arith in
+          ap (λ (k : ℕ). turned place (set xs k x)) (above-mod (place + at) n past (omega arith))
+          ∙ ap (λ (ys : List X). ys ++ take place (set xs round x)) (drop-set-lt place xs round x (omega arith))
+          ∙ ap (λ (ys : List X). drop place xs ++ ys) (take-set-lt place xs round x (omega arith))
+          ∙ sym (set-append_right (drop place xs) (take place xs) (n - place) at x behind (omega arith)
+          ∙ ap (λ (k : ℕ). drop place xs ++ set (take place xs) k x) same)
+    ]
+
 -- ---- a list that is filled up
 
 pub length-filled : {X : Type 0} (empty : X) (room : ℕ) (xs : List X) → length xs ≤ room → length (filled empty room xs) ≡ room
@@ -132,6 +154,12 @@ filled_whole : {X : Type 0} (empty : X) (room : ℕ) (xs : List X) → length xs
 filled_whole empty room xs whole =
     let none : room - length xs ≡ 0 = omega arith in
     ap (λ (k : ℕ). xs ++ replicate k empty) none ∙ append-nil xs
+
+-- one put where something stood
+filled_set : {X : Type 0} (empty : X) (room place : ℕ) (xs : List X) (x : X) → place < length xs → filled empty room (set xs place x) ≡ set (filled empty room xs) place x
+filled_set {X = X} empty room place xs x within =
+    ap (λ (k : ℕ). set xs place x ++ replicate (room - k) empty) (length-set xs place x)
+    ∙ sym (set-append_left xs (replicate (room - length xs) empty) place x within)
 
 -- what is put where something stood, or right behind that: how long the list is then
 pub length-put : {X : Type 0} (place : ℕ) (xs es new : List X) → place ≤ length xs → new ≡ take place xs ++ es ++ drop (place + length es) xs
@@ -259,3 +287,65 @@ lent_past r ring first count lent other ring_is view were there past is other_is
     ∙ ap (λ (ys : List EntityState). drop start cells ++ ys)
     (ap (λ (k : ℕ). take (count - k) (take start cells)) left ∙ take-take (count - behind) start cells (omega arith)))
     ∙ lent_of r ring first count ring_is view were there
+
+-- ---- what is put into the ring where something lay
+
+-- the place of one that was placed was written
+is_written : (r : Inside) (ring : RingState) (number : ℕ) → IsRing r → ring_in r ≡ ring → number < ring.placed → ring.placed ≤ number + length ring.recent
+    → number % r.room < length r.cells.items
+is_written r ring number is view were there =
+    let placed : ring.placed ≡ r.placed = ap (λ (ring : RingState). ring.placed) (sym view) in
+    let room : length ring.recent ≡ r.room = room_of r ring is view in
+    let below : number % r.room < r.room = mod-lt number {m = r.room} is.0 in
+    let within : number % r.room + 1 ≤ length r.cells.items =
+    lies_within number 1 r.placed r.room (length r.cells.items) is.0 (omega arith) (omega arith) is.1 is.2 (omega arith) in
+    omega arith
+
+set_round : (placed n number : ℕ) (cells : List EntityState) (entity : EntityState) → length cells ≡ n → 0 < n → number < placed → placed ≤ number + n
+    → turned (placed % n) (set cells (number % n) entity) ≡ (with_entity_at (record { placed = placed; recent = turned (placed % n) cells }) number entity).recent
+set_round placed n number cells entity whole some were there =
+    let at : ℕ = number + n - placed in
+    let same : number + length (turned (placed % n) cells) - placed ≡ at = omega (arith, length-turned (placed % n) cells) in
+    let round : (placed % n + at) % n ≡ number % n =
+    mod-add-mod placed n at ∙ ap (λ (k : ℕ). k % n) (let e : placed + at ≡ number + n = omega arith in e) ∙ add-mod_right number n in
+    ap (λ (k : ℕ). turned (placed % n) (set cells k entity)) (sym round)
+    ∙ turned_set (placed % n) at n cells entity whole (mod-lt placed {m = n} some) (omega arith)
+    ∙ ap (λ (k : ℕ). set (turned (placed % n) cells) k entity) (sym same)
+
+-- and another that is put there is the ring's entity of that number
+pub put_there : (r : Inside) (ring : RingState) (number : ℕ) (entity : EntityState) → IsRing r → ring_in r ≡ ring → number < ring.placed → ring.placed ≤ number + length ring.recent
+    → record { placed = r.placed; recent = turned (r.placed % r.room) (filled (zero_entity 0) r.room (set r.cells.items (number % r.room) entity)) } ≡ with_entity_at ring number entity
+put_there r ring number entity is view were there =
+    let cells = filled (zero_entity 0) r.room r.cells.items in
+    let whole : length cells ≡ r.room = length-filled (zero_entity 0) r.room r.cells.items is.2 in
+    let placed : ring.placed ≡ r.placed = ap (λ (ring : RingState). ring.placed) (sym view) in
+    let room : length ring.recent ≡ r.room = room_of r ring is view in
+    let written = filled_set (zero_entity 0) r.room (number % r.room) r.cells.items entity (is_written r ring number is view were there) in
+    let round = set_round r.placed r.room number cells entity whole is.0 (omega arith) (omega arith) in
+    ap (λ (recent : List EntityState). record { placed = r.placed; recent = recent }) (ap (turned (r.placed % r.room)) written ∙ round)
+    ∙ ap (λ (ring : RingState). with_entity_at ring number entity) view
+
+-- the list from one on, behind one that is put at it or behind it
+drop_put : (ring : RingState) (entity : EntityState) (number first : ℕ) → first ≤ number → number < ring.placed → ring.placed ≤ first + length ring.recent
+    → drop (first + length (with_entity_at ring number entity).recent - ring.placed) (with_entity_at ring number entity).recent
+    ≡ set (drop (first + length ring.recent - ring.placed) ring.recent) (number - first) entity
+drop_put ring entity number first behind was there =
+    let start : ℕ = first + length ring.recent - ring.placed in
+    let at : ℕ = number + length ring.recent - ring.placed in
+    let same : at ≡ start + (number - first) = omega arith in
+    ap (λ (k : ℕ). drop (first + k - ring.placed) (set ring.recent at entity)) (length-set ring.recent at entity)
+    ∙ ap (λ (k : ℕ). drop start (set ring.recent k entity)) same
+    ∙ drop-set-add start ring.recent (number - first) entity
+
+pub put_next : PutIsNext
+put_next ring entity first count was there =
+    let start : ℕ = first + length ring.recent - ring.placed in
+    let same : first + count - first ≡ count = omega arith in
+    ap (take (count + 1)) (drop_put ring entity (first + count) first (omega arith) was there)
+    ∙ ap (λ (k : ℕ). take (count + 1) (set (drop start ring.recent) k entity)) same
+    ∙ take_more_set (drop start ring.recent) count entity (omega (arith, length-drop start ring.recent))
+
+pub put_behind : PutLeavesOthers
+put_behind ring entity number first count within was there =
+    ap (take count) (drop_put ring entity number first (omega arith) was there)
+    ∙ take-set-le count (drop (first + length ring.recent - ring.placed) ring.recent) (number - first) entity (omega arith)

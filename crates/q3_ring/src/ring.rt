@@ -1,7 +1,7 @@
 //! Entities in one ring. Keeps the rules "server frames and their shared entity ring" and "held snapshots of a client", the
 //! engine's `svs.snapshotEntities` (sv_snapshot.c) and `cl.parseEntities` (cl_parse.c).
 
-ghost use Rattle.std.specs.Prelude.{◌≡◌, ◌+◌, ◌-◌, ◌%◌, ◌^◌, ◌<◌, ◌≤◌, ◌++◌, length, take, drop, min, vec_capacity, IfOk, IsTrue};
+ghost use Rattle.std.specs.Prelude.{◌≡◌, ◌+◌, ◌-◌, ◌%◌, ◌^◌, ◌<◌, ◌≤◌, ◌++◌, length, take, drop, min, max, vec_capacity, IfOk, IsTrue};
 ghost use Rattle.q3_entity.specs.Entities.{zero_entity, run_of};
 ghost use Rattle.q3_ring.specs.Ring.{new_ring, with_entities, with_entity_at, entities_from, EndsWith, PlacesOnce};
 ghost use Rattle.q3_ring.specs.Turned.{turned, filled};
@@ -137,10 +137,7 @@ impl Ring {
         ensures placed { self.new.placed ≡ placed }
         ensures room { length self.new.recent ≡ length self.old.recent }
     {
-        let taken = placed.min(self.room as u64) as usize;
-        while self.cells.len() < taken {
-            let _ = self.cells.push(EntityState::zero(0));
-        }
+        fill_up(&mut self.cells, placed.min(self.room as u64) as usize);
         self.placed = placed;
     }
 
@@ -153,6 +150,18 @@ impl Ring {
     {
         let place = (number % self.room as u64) as usize;
         self.cells[place] = *entity;
+    }
+}
+
+/// Zero states behind the cells that there are, up to so many.
+fn fill_up(cells: &mut Vec<EntityState>, count: usize)
+    requires room { count ≤ vec_capacity cells.old }
+    ensures least { count ≤ length cells.new.items }
+    ensures most { length cells.new.items ≤ max count (length cells.old.items) }
+    ensures room { vec_capacity cells.old ≤ vec_capacity cells.new }
+{
+    if cells.len() < count {
+        cells.resize_with(count, || EntityState::zero(0)).unwrap();
     }
 }
 

@@ -1,13 +1,13 @@
 -- What is held stays what it is.
-use Rattle.std.proofs.Common.{◌≡◌, ℕ, ◌+◌, ◌<◌, ◌≤◌, ◌≢◌, length, map, get_or, replicate, zero, suc, Option, Some, None, inl, inr, refl, sym, ap, ◌∙◌, subst, arith}
+use Rattle.std.proofs.Common.{◌≡◌, ℕ, ◌+◌, ◌<◌, ◌≤◌, ◌≢◌, List, length, map, get_or, replicate, zero, suc, Option, Some, None, inl, inr, refl, sym, ap, ◌∙◌, subst, arith}
 use Rattle.std.specs.Prelude.{IfSome, option_map}
 use Rattle.std.proofs.lemmas.Bool.{cases_eq}
 use Rattle.std.proofs.lemmas.List.{length-set, length-map, get_or-set_same, get_or-set_other}
 use Rattle.std.proofs.Math.ListN.{get_or-map}
 use Rattle.q3_ring.specs.Snapshot.{Snapshot}
-use Rattle.q3_ring.specs.Places.{most_places, place_of, no_places}
+use Rattle.q3_ring.specs.Places.{most_places, place_of, no_places, put_at_number}
 use Rattle.q3_player.specs.declared.head.SnapHead.{SnapHead}
-use Rattle.q3_rings.specs.Rings.{HeldSnapshot, HeldSnapshots, IsHeldIn, IsOlder, AreHeldSnapshots, no_snapshots, older, accept_at}
+use Rattle.q3_rings.specs.Rings.{HeldSnapshot, HeldSnapshots, IsHeldIn, IsOlder, AreHeldSnapshots, CanPutBack, no_snapshots, older, accept_at, put_back_at}
 use Rattle.q3_rings.proofs.Aging.{remains_head, remains_head_from, remains_few}
 
 -- the number, the age and the entities of one that is older
@@ -66,10 +66,9 @@ older_than_new ring newest place (Some one) snapshot is = λ lower.
     let counted = is.counted in
     omega arith
 
-new_is_last : (place : ℕ) (other : Option HeldSnapshot) (snapshot : Snapshot) → IfSome other (IsHeldIn snapshot.head.number place)
-    → IfSome other (IsOlder (record { snapshot = snapshot; age = length snapshot.entities }))
-new_is_last place None snapshot is = tt
-new_is_last place (Some other) snapshot is = λ lower. let accepted = is.accepted in absurd (omega arith)
+new_is_last : (place : ℕ) (other : Option HeldSnapshot) (held : HeldSnapshot) → IfSome other (IsHeldIn held.snapshot.head.number place) → IfSome other (IsOlder held)
+new_is_last place None held is = tt
+new_is_last place (Some other) held is = λ lower. let accepted = is.accepted in absurd (omega arith)
 
 -- what stands in another place, and in that of the number
 pub accept_other : (snapshots : HeldSnapshots) (snapshot : Snapshot) (place : ℕ) → place ≢ place_of snapshot.head.number
@@ -108,7 +107,7 @@ ages_stay snapshots snapshot place other are newer =
     elim (cases_eq place (place_of snapshot.head.number)) [
       | inl here ↦
           subst (λ one. IfSome one (λ one. IfSome later (IsOlder one))) (sym (at_new place here))
-          (new_is_last other later snapshot (each_stays snapshots snapshot other are newer))
+          (new_is_last other later new (each_stays snapshots snapshot other are newer))
       | inr apart ↦
           let count = length snapshot.entities in
           let before : Option HeldSnapshot = option_map (older snapshots.ring count) (get_or snapshots.places place None) in
@@ -130,6 +129,58 @@ accept_stays snapshots snapshot are newer = record {
   each = λ place. each_stays snapshots snapshot place are newer;
   ages = λ place other. ages_stay snapshots snapshot place other are newer;
 }
+
+-- ---- what is put back
+
+-- what holds of each place holds where one is put in its own
+put_each : (places : List (Option HeldSnapshot)) (held : HeldSnapshot) (P : ℕ → Option HeldSnapshot → Type 0) → length places ≡ most_places
+    → P (place_of held.snapshot.head.number) (Some held) → ((place : ℕ) → P place (get_or places place None))
+    → (place : ℕ) → P place (get_or (put_at_number places held.snapshot.head.number held) place None)
+put_each places held P count here each place =
+    let own : ℕ = place_of held.snapshot.head.number in
+    let new : List (Option HeldSnapshot) = put_at_number places held.snapshot.head.number held in
+    elim (cases_eq place own) [
+      | inl same ↦ subst (λ place. P place (get_or new place None)) (sym same) (subst (P own) (sym (get_or-set_same places own (Some held) None (omega arith))) here)
+      | inr other ↦ subst (P place) (sym (get_or-set_other places own place (Some held) None other)) (each place)
+    ]
+
+-- what was held in a place is held there behind a higher number
+held_below : (newest number place : ℕ) (held : Option HeldSnapshot) → newest ≤ number → IfSome held (IsHeldIn newest place) → IfSome held (IsHeldIn number place)
+held_below newest number place None above is = tt
+held_below newest number place (Some held) above is = record {
+  here = is.here;
+  some = is.some;
+  accepted = let accepted = is.accepted in omega arith;
+  counted = is.counted;
+}
+
+-- all are older than the one that is put back
+older_than_back : (one : Option HeldSnapshot) (held : HeldSnapshot) → IfSome one (λ one. length one.snapshot.entities + held.age ≤ one.age) → IfSome one (λ one. IsOlder one held)
+older_than_back None held is = tt
+older_than_back (Some one) held is = λ lower. is
+
+pub put_back_stays : (snapshots : HeldSnapshots) (held : HeldSnapshot) → AreHeldSnapshots snapshots
+    → CanPutBack snapshots held.snapshot.head.number held.age (length held.snapshot.entities) → AreHeldSnapshots (put_back_at snapshots held)
+put_back_stays snapshots held are can =
+    let number : ℕ = held.snapshot.head.number in
+    let places = snapshots.places in
+    let new : List (Option HeldSnapshot) = put_at_number places number held in
+    let newer : snapshots.newest < number = can.newer in
+    let each : (place : ℕ) → IfSome (get_or new place None) (IsHeldIn number place) =
+    put_each places held (λ place one. IfSome one (IsHeldIn number place)) are.count
+    (record { here = refl; some = omega arith; accepted = omega arith; counted = can.counted })
+    (λ place. held_below snapshots.newest number place (get_or places place None) (omega arith) (are.each place)) in
+    record {
+      ring = are.ring;
+      count = length-set places (place_of number) (Some held) ∙ are.count;
+      each = each;
+      ages = λ place other.
+          put_each places held (λ place one. IfSome one (λ one. IfSome (get_or new other None) (IsOlder one))) are.count
+          (new_is_last other (get_or new other None) held (each other))
+          (λ place. put_each places held (λ other later. IfSome (get_or places place None) (λ one. IfSome later (IsOlder one))) are.count
+          (older_than_back (get_or places place None) held (can.older place)) (λ other. are.ages place other) other)
+          place;
+    }
 
 -- nothing is held
 pub none_at : (count place : ℕ) → get_or {A = Option HeldSnapshot} (replicate count None) place None ≡ None

@@ -1,5 +1,5 @@
 -- How a snapshot that is held grows older.
-use Rattle.std.proofs.Common.{◌≡◌, ℕ, ◌+◌, ◌-◌, ◌≤◌, true, false, List, length, inl, inr, refl, arith}
+use Rattle.std.proofs.Common.{◌≡◌, ℕ, ◌+◌, ◌-◌, ◌≤◌, true, false, List, [], length, inl, inr, refl, sym, ap, arith}
 use Rattle.std.proofs.lemmas.Bool.{cases_Bool, leb-false, le-leb, lt-leb}
 use Rattle.q3_entity.specs.declared.state.EntityState.{EntityState}
 use Rattle.q3_player.specs.declared.head.SnapHead.{SnapHead}
@@ -26,9 +26,21 @@ remain_alike ring head entities others age other same alike = elim (cases_Bool (
   | inr old ↦ rw (same, old) refl
 ]
 
+-- one that has no entities where it is old is whole
+pub remains_whole : (ring : ℕ) (held : HeldSnapshot) → (is_young ring held.age ≡ false → held.snapshot.entities ≡ []) → held_remains ring held ≡ held
+remains_whole ring held none = elim (cases_Bool (is_young ring held.age)) [
+  | inl young ↦ rw young refl
+  | inr old ↦
+      let is : held.snapshot.entities ≡ [] = none old in
+      rw old (ap (λ (entities : List EntityState). record held { snapshot = record { head = held.snapshot.head; entities = entities } }) (sym is))
+]
+
+pub young_remains : (ring : ℕ) (held : HeldSnapshot) → is_young ring held.age ≡ true → held_remains ring held ≡ held
+young_remains ring held young = rw young refl
+
 -- a list that was just placed is there
 pub new_remains : (ring : ℕ) (held : HeldSnapshot) → 512 ≤ ring → held.age ≤ most_entities → held_remains ring held ≡ held
-new_remains ring held room few = let young : is_young ring held.age ≡ true = le-leb held.age (ring - most_entities) (omega arith) in rw young refl
+new_remains ring held room few = young_remains ring held (le-leb held.age (ring - most_entities) (omega arith))
 
 -- the head stays
 pub remains_head : (ring : ℕ) (held : HeldSnapshot) → (held_remains ring held).snapshot.head ≡ held.snapshot.head

@@ -1,5 +1,5 @@
 -- What is kept of snapshots, behind one that is accepted.
-use Rattle.std.proofs.Common.{◌≡◌, ℕ, ◌+◌, ◌-◌, ◌<◌, ◌≤◌, List, [], ◌∷◌, ◌++◌, length, map, get_or, Option, Some, None, refl, sym, ap, ◌∙◌, subst, arith}
+use Rattle.std.proofs.Common.{◌≡◌, ℕ, ◌+◌, ◌-◌, ◌^◌, ◌<◌, ◌≤◌, List, [], ◌∷◌, ◌++◌, length, map, get_or, Option, Some, None, refl, sym, ap, ◌∙◌, subst, arith}
 use Rattle.std.specs.Prelude.{IfSome, option_map}
 use Rattle.std.specs.List.{All}
 use Rattle.std.proofs.lemmas.Bool.{leb-true, le-leb}
@@ -14,9 +14,10 @@ use Rattle.q3_ring.specs.Ring.{RingState, with_entities, entities_from}
 use Rattle.q3_ring.specs.Places.{most_places, place_of, no_places, at_number, put_at_number}
 use Rattle.q3_ring.specs.Laws.{PlacedIsThere, OthersStay}
 use Rattle.q3_rings.specs.declared.rings.Rings.TheInside.{Inside}
+use Rattle.q3_rings.specs.declared.rings.Back.{Back}
 use Rattle.q3_rings.specs.Loans.{head_from}
-use Rattle.q3_rings.specs.Rings.{HeldSnapshot, RingsState, AreHeldSnapshots, held_remains, older, accept_in}
-use Rattle.q3_rings.specs.KeptRings.{held_in, rings_in, IsKept, AreKept}
+use Rattle.q3_rings.specs.Rings.{HeldSnapshot, RingsState, AreHeldSnapshots, held_remains, older, accept_at, accept_in}
+use Rattle.q3_rings.specs.KeptRings.{held_in, begun_in, rings_in, IsKept, IsBack, AreKept}
 use Rattle.q3_rings.proofs.Aging.{older_remains, remain_alike, new_remains, remains_head_from}
 use Rattle.q3_rings.proofs.Accepting.{accept_stays, none_are_held}
 
@@ -24,7 +25,7 @@ room_stays : (ring : RingState) (entities : List EntityState) → length (with_e
 room_stays ring entities = length-drop (length entities) (ring.recent ++ entities) ∙ omega (arith, length-append ring.recent entities)
 
 -- what is kept, as what is held
-abbrev as_held : RingState → Kept → HeldSnapshot
+abbrev pub as_held : RingState → Kept → HeldSnapshot
 as_held ring kept = held_remains (length ring.recent) (held_in ring kept)
 
 -- a snapshot whose entities are placed next
@@ -69,19 +70,32 @@ accepted_inside r head entities = record {
   ring = with_entities r.ring entities;
   places = put_at_number r.places head.number (next_kept r.ring head entities);
   newest = head.number;
+  begun = r.begun;
 }
 
-pub accepted_is : PlacedIsThere → OthersStay → (r : Inside) (head : SnapHead) (entities : List EntityState) → AreKept r → length entities ≤ most_entities
+pub accepted_is : PlacedIsThere → OthersStay → (r : Inside) (head : SnapHead) (entities : List EntityState) → AreKept r → r.begun ≡ None → length entities ≤ most_entities
     → rings_in (accepted_inside r head entities) ≡ accept_in (rings_in r) (record { head = head; entities = entities })
-accepted_is there others r head entities are few =
+accepted_is there others r head entities are none few =
     let places : map (option_map (as_held (with_entities r.ring entities))) (put_at_number r.places head.number (next_kept r.ring head entities))
     ≡ put_at_number (map (option_map (older (length r.ring.recent) (length entities))) (map (option_map (as_held r.ring)) r.places)) head.number
     (record { snapshot = record { head = head; entities = entities }; age = length entities }) =
     map-set (option_map (as_held (with_entities r.ring entities))) r.places (place_of head.number) (Some (next_kept r.ring head entities))
     ∙ ap (λ held. put_at_number (map (option_map (as_held (with_entities r.ring entities))) r.places) head.number held) (next_is there r.ring head entities are.held.ring few)
     ∙ ap (λ list. put_at_number list head.number (record { snapshot = record { head = head; entities = entities }; age = length entities })) (places_older others r.ring entities r.places are.each) in
-    ap (λ room. record { held = record { ring = room; newest = head.number; places = map (option_map (as_held (with_entities r.ring entities))) (accepted_inside r head entities).places }; placed = r.ring.placed + length entities }) (room_stays r.ring entities)
-    ∙ ap (λ list. record { held = record { ring = length r.ring.recent; newest = head.number; places = list }; placed = r.ring.placed + length entities }) places
+    let begun : option_map (begun_in (with_entities r.ring entities)) r.begun ≡ option_map (begun_in r.ring) r.begun =
+    ap (option_map (begun_in (with_entities r.ring entities))) none ∙ sym (ap (option_map (begun_in r.ring)) none) in
+    let placed : ℕ = r.ring.placed + length entities in
+    ap (λ room. record {
+      held = record { ring = room; newest = head.number; places = map (option_map (as_held (with_entities r.ring entities))) (accepted_inside r head entities).places };
+      placed = placed;
+      begun = option_map (begun_in (with_entities r.ring entities)) r.begun;
+    }) (room_stays r.ring entities)
+    ∙ ap (λ list. record {
+      held = record { ring = length r.ring.recent; newest = head.number; places = list };
+      placed = placed;
+      begun = option_map (begun_in (with_entities r.ring entities)) r.begun;
+    }) places
+    ∙ ap (λ begun. record { held = accept_at (rings_in r).held (record { head = head; entities = entities }); placed = placed; begun = begun }) begun
 
 -- ---- what is kept
 
@@ -107,15 +121,16 @@ place_stays : OthersStay → (ring : RingState) (entities : List EntityState) (p
 place_stays others ring entities None is = tt
 place_stays others ring entities (Some kept) is = kept_stays others ring entities kept is
 
-pub accepted_stays : PlacedIsThere → OthersStay → (r : Inside) (head : SnapHead) (entities : List EntityState) → AreKept r → r.newest < head.number → Rises entities
+pub accepted_stays : PlacedIsThere → OthersStay → (r : Inside) (head : SnapHead) (entities : List EntityState) → AreKept r → r.begun ≡ None → r.newest < head.number → Rises entities
     → AreKept (accepted_inside r head entities)
-accepted_stays there others r head entities are newer rises = record {
-  held = subst (λ (rings : RingsState). AreHeldSnapshots rings.held) (sym (accepted_is there others r head entities are rises.few))
+accepted_stays there others r head entities are none newer rises = record {
+  held = subst (λ (rings : RingsState). AreHeldSnapshots rings.held) (sym (accepted_is there others r head entities are none rises.few))
       (accept_stays (rings_in r).held (record { head = head; entities = entities }) are.held newer);
   placed = let placed = are.placed in let few = rises.few in omega arith;
   each = All-set (λ place. IfSome place (IsKept (with_entities r.ring entities))) r.places (place_of head.number) (Some (next_kept r.ring head entities))
       (next_is_kept there r.ring head entities are.held.ring rises)
       (All-weaker (λ place. IfSome place (IsKept r.ring)) (λ place. IfSome place (IsKept (with_entities r.ring entities))) (place_stays others r.ring entities) r.places are.each);
+  begun = subst (λ (begun : Option Back). IfSome begun (IsBack (rings_in (accepted_inside r head entities)).held (with_entities r.ring entities))) (sym none) tt;
 }
 
 -- ---- what is lent of it
@@ -139,9 +154,10 @@ head_at r rings place number kept is within same at =
 
 -- ---- where nothing is kept
 
-pub nothing_is_kept : (ring : RingState) → 512 ≤ length ring.recent → ring.placed ≡ 0 → AreKept (record { ring = ring; places = no_places; newest = 0 })
+pub nothing_is_kept : (ring : RingState) → 512 ≤ length ring.recent → ring.placed ≤ 2 ^ 32 → AreKept (record { ring = ring; places = no_places; newest = 0; begun = None })
 nothing_is_kept ring room placed = record {
   held = none_are_held (length ring.recent) room;
   placed = omega arith;
   each = All-replicate (λ place. IfSome place (IsKept ring)) most_places None tt;
+  begun = tt;
 }

@@ -6,3 +6,4 @@ pub mod Near
 pub mod Behind
 pub mod Added
 pub mod Kept
+pub mod PuttingBack

@@ -6,7 +6,7 @@ use Rattle.q3_ring.specs.Ring.{RingState, entities_from}
 use Rattle.q3_ring.specs.Kept.{snapshot_in}
 use Rattle.q3_rings.specs.declared.rings.Rings.TheInside.{Inside}
 use Rattle.q3_rings.specs.declared.rings.Back.{Back}
-use Rattle.q3_rings.specs.Rings.{HeldSnapshot, Begun, RingsState, AreHeldSnapshots, CanPutBack, is_young, held_remains}
+use Rattle.q3_rings.specs.Rings.{HeldSnapshot, HeldSnapshots, Begun, RingsState, AreHeldSnapshots, CanPutBack, is_young, held_remains}
 
 -- a snapshot at its age
 abbrev pub held_in : RingState → Kept → HeldSnapshot
@@ -38,15 +38,15 @@ pub record IsKept (ring : RingState) (kept : Kept) : Type 0 where
   pub rises : is_young (length ring.recent) (held_in ring kept).age ≡ true → Rises (snapshot_in ring kept).entities
 
 -- what is being put back has its place in the ring, and the entities that it has by now rise
-pub record IsBack (r : Inside) (back : Back) : Type 0 where
-  pub within : back.first + back.count ≤ r.ring.placed
+pub record IsBack (held : HeldSnapshots) (ring : RingState) (back : Back) : Type 0 where
+  pub within : back.first + back.count ≤ ring.placed
   pub begun : back.placed ≤ back.count
-  pub can : CanPutBack (rings_in r).held back.head.number (r.ring.placed - back.first) back.count
-  pub rises : Rises (entities_from r.ring back.first back.placed)
+  pub can : CanPutBack held back.head.number (ring.placed - back.first) back.count
+  pub rises : Rises (entities_from ring back.first back.placed)
 
 -- numbers rise, so of each number at most one list was placed
 pub record AreKept (r : Inside) : Type 0 where
   pub held : AreHeldSnapshots (rings_in r).held
   pub placed : r.ring.placed ≤ 2 ^ 32 + most_entities * r.newest
   pub each : All (λ place. IfSome place (IsKept r.ring)) r.places
-  pub begun : IfSome r.begun (IsBack r)
+  pub begun : IfSome r.begun (IsBack (rings_in r).held r.ring)

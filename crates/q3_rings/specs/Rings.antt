@@ -118,11 +118,8 @@ put_back_in rings held = record rings { held = put_back_at rings.held held }
 abbrev pub begin_in : RingsState → SnapHead → ℕ → ℕ → RingsState
 begin_in rings head age count = record rings { begun = Some (record { head = head; age = age; count = count; entities = [] }) }
 
-abbrev pub with_entity : EntityState → Begun → Begun
-with_entity entity begun = record begun { entities = begun.entities ++ entity ∷ [] }
-
 abbrev pub place_in : RingsState → EntityState → RingsState
-place_in rings entity = record rings { begun = option_map (with_entity entity) rings.begun }
+place_in rings entity = record rings { begun = option_map (λ (begun : Begun). record begun { entities = begun.entities ++ entity ∷ [] }) rings.begun }
 
 -- what is begun, as what is held then
 abbrev pub held_of : Begun → HeldSnapshot

@@ -4,7 +4,7 @@
 ghost use Rattle.std.specs.Prelude.{◌≡◌, ◌+◌, ◌<◌, ◌≤◌, ◌^◌, [], ◌∷◌, ◌++◌, length, option_map, slice_index_or, None, IfOk, IfSome, MatchOption};
 ghost use Rattle.q3_entity.specs.Entities.{Rises, run_of};
 ghost use Rattle.q3_rings.specs.Loans.{snapshot_of};
-ghost use Rattle.q3_rings.specs.Rings.{Begun, AreHeldSnapshots, CanPutBack, no_rings, held_snapshot, view_at, accept_in, restored, put_back_in, begin_in, place_in, end_in};
+ghost use Rattle.q3_rings.specs.Rings.{AreHeldSnapshots, CanPutBack, no_rings, held_snapshot, view_at, accept_in, restored, put_back_in, begin_in, place_in, end_in};
 
 use crate::views::{Held, SnapView};
 use q3_entity::{EntityState, Run};
@@ -140,7 +140,6 @@ impl Rings {
     }
 
     /// Holds nothing more, and counts entities anew.
-    #[tactic(auto, using(crate::proofs::Kept::nothing_is_kept))]
     pub fn wipe(&mut self)
         ensures { self.new ≡ no_rings self.old.held.ring }
     {
@@ -155,10 +154,8 @@ impl Rings {
         requires { placed ≤ 2 ^ 32 }
         ensures { self.new ≡ restored self.old placed }
     {
+        self.wipe();
         self.ring.restore(placed);
-        self.places.clear();
-        self.newest = 0;
-        self.begun = None;
     }
 
     /// Holds a snapshot again, at the age that it had: `begin_back`, `place_back` and `end_back` at once.
@@ -213,19 +210,20 @@ impl Rings {
         ensures { self.new ≡ end_in self.old }
     {
         if let Some(back) = self.begun.take() {
-            self.places.keep(&back.head, back.first, back.count, back.first);
+            self.places
+                .keep(&back.head, back.first, back.count, back.first);
             self.newest = back.head.number;
         }
     }
 
-    /// How many entities were placed since `new` or the last `wipe`.
+    /// How many entities were placed since `new` or the last `wipe`, or count as placed by `restore` and were placed since.
     pub fn placed(&self) -> u64
         ensures { result ≡ self.now.placed }
     {
         self.ring.placed()
     }
 
-    /// The newest number accepted since `new` or the last `wipe`, 0 for none.
+    /// The newest number accepted or put back since `new`, the last `wipe` or the last `restore`, 0 for none.
     pub fn newest(&self) -> u32
         ensures newest { result ≡ self.now.held.newest }
         ensures held { AreHeldSnapshots self.now.held }
