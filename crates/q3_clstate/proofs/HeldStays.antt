@@ -18,8 +18,9 @@ use Rattle.q3_ring.specs.Places.{most_places, place_of, at_number, no_places}
 use Rattle.q3_rings.specs.declared.rings.NoBase.{NoBase}
 use Rattle.q3_rings.specs.declared.rings.NoBase.TheVariants.{NeverHeld, Overwritten, EntitiesGone}
 use Rattle.q3_rings.specs.Rings.{HeldSnapshot, HeldSnapshots, AreHeldSnapshots, is_young, young, snapshot_under, held_snapshot, view_at, older, accept_at}
+use Rattle.q3_rings.specs.ByNumber.{HoldsNewest}
 use Rattle.q3_clstate.specs.State.{AppliedState, context_of}
-use Rattle.q3_clstate.specs.Standing.{IsWellHeld, HoldsNewest, IsApplied}
+use Rattle.q3_clstate.specs.Standing.{IsWellHeld, IsApplied}
 
 -- ---- a snapshot that is held
 

@@ -1,5 +1,5 @@
 -- How a client's state is kept, and what is done with a snapshot.
-use Rattle.std.specs.Prelude.{ℕ, if◌then◌else◌}
+use Rattle.std.specs.Prelude.{◌≡◌, ℕ, None, if◌then◌else◌}
 use Rattle.q3_ring.specs.Snapshot.{Snapshot}
 use Rattle.q3_rings.specs.Rings.{HeldSnapshots, accept_at, held_snapshot}
 use Rattle.q3_clstate.specs.declared.applied.SnapOutcome.{SnapOutcome}
@@ -22,9 +22,10 @@ state_in s = record {
   held = s.holding.rings.held;
 }
 
--- what is kept is well formed and in range
-abbrev pub Stands : Inside → Type 0
-Stands s = IsApplied (state_in s)
+-- what is kept is well formed and in range, and no snapshot is being put back
+pub record Stands (s : Inside) : Type 0 where
+  pub applied : IsApplied (state_in s)
+  pub none : s.holding.rings.begun ≡ None
 
 -- what is held behind a snapshot that was read, and what is told of it
 abbrev pub held_behind : HeldSnapshots → ℕ → Snapshot → HeldSnapshots

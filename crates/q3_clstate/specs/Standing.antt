@@ -1,5 +1,5 @@
 -- What every state is that messages left: all that it holds is well formed and in range.
-use Rattle.std.specs.Prelude.{◌≡◌, ◌⊎◌, ℕ, ◌^◌, ◌<◌, false, [], All, Option, IfSome, MatchOption}
+use Rattle.std.specs.Prelude.{◌≡◌, ℕ, ◌^◌, ◌<◌, false, [], All, IfSome}
 use Rattle.q3_text.specs.Texts.{IsText}
 use Rattle.q3_config.specs.Strings.{AreStrings}
 use Rattle.q3_config.specs.Laws.{HoldTexts}
@@ -9,8 +9,8 @@ use Rattle.q3_entity.specs.Baselines.{AreLines}
 use Rattle.q3_profile.specs.declared.profile.Profile.{Profile}
 use Rattle.q3_profile.specs.Profile.{IsCodec}
 use Rattle.q3_svmsg.specs.Laws.{IsHead, AreEntities}
-use Rattle.q3_ring.specs.Places.{at_number}
-use Rattle.q3_rings.specs.Rings.{HeldSnapshot, HeldSnapshots, AreHeldSnapshots, is_young}
+use Rattle.q3_rings.specs.Rings.{HeldSnapshot, AreHeldSnapshots, is_young}
+use Rattle.q3_rings.specs.ByNumber.{HoldsNewest}
 use Rattle.q3_clstate.specs.State.{AppliedState}
 
 -- what is held of a snapshot, in a ring with so much room: its head, and its entities, of which none is left where it is too old
@@ -20,11 +20,6 @@ pub record IsWellHeld (profile : Profile) (ring : ℕ) (held : HeldSnapshot) : T
   pub entities : AreEntities profile held.snapshot.entities
   pub normal : AreNormal profile.entity held.snapshot.entities
   pub gone : is_young ring held.age ≡ false → held.snapshot.entities ≡ []
-
--- the newest snapshot stands in its place, where one was accepted
-abbrev pub HoldsNewest : HeldSnapshots → Type 0
-HoldsNewest held =
-    (held.newest ≡ 0) ⊎ MatchOption (at_number held.places held.newest) ⊥ (λ one. one.snapshot.head.number ≡ held.newest)
 
 -- the profile has a code and tables; numbers are in their ranges; the last text is one; the config strings and the pending text are
 -- within their limits, of bytes that a text may hold; the baselines and all that is held of snapshots are in normal form, by rising

@@ -1,6 +1,6 @@
 //! What a message is read against.
 
-ghost use Rattle.std.specs.Prelude.{◌≡◌, ◌≤◌, IfOk};
+ghost use Rattle.std.specs.Prelude.{◌≡◌, ◌≤◌, None, IfOk};
 ghost use Rattle.q3_entity.specs.Baselines.{no_lines};
 ghost use Rattle.q3_entity.specs.Entities.{Rises};
 ghost use Rattle.q3_rings.specs.Rings.{no_snapshots, held_snapshot};
@@ -29,6 +29,7 @@ impl Holding {
         requires most { ring ≤ 65536 }
         ensures held { IfOk result (λ holding. holding.rings.held ≡ no_snapshots ring) }
         ensures lines { IfOk result (λ holding. holding.baselines ≡ no_lines) }
+        ensures none { IfOk result (λ holding. holding.rings.begun ≡ None) }
     {
         Ok(Holding {
             rings: Rings::new(alloc, ring)?,
@@ -40,6 +41,7 @@ impl Holding {
     pub fn start(&mut self, message: &mut ServerMessage)
         ensures held { self.new.rings.held ≡ no_snapshots self.old.rings.held.ring }
         ensures lines { self.new.baselines ≡ message.old.baselines }
+        ensures none { self.new.rings.begun ≡ None }
     {
         self.rings.wipe();
         swap(&mut self.baselines, &mut message.baselines);
@@ -49,8 +51,10 @@ impl Holding {
     pub fn accept(&mut self, number: u32, base: u32, message: &ServerMessage) -> SnapOutcome
         requires number { message.now.head.number ≡ number }
         requires rises { Rises message.now.entities.value.items }
+        requires none { self.old.rings.begun ≡ None }
         ensures held { self.new.rings.held ≡ held_behind self.old.rings.held number (record { head = message.now.head; entities = message.now.entities.value.items }) }
         ensures lines { self.new.baselines ≡ self.old.baselines }
+        ensures none { self.new.rings.begun ≡ None }
         ensures outcome { result ≡ read_outcome self.old.rings.held number base }
     {
         if self.is_stale(number) {

@@ -44,6 +44,13 @@ impl MapSettings {
         })
     }
 
+    /// These config strings, and this id.
+    pub fn of(configs: Configs, id: u32) -> MapSettings
+        ensures { result ≡ record { strings = configs; id = id } }
+    {
+        MapSettings { configs, id }
+    }
+
     /// Executes commands of the server, one after the other.
     pub fn execute(&mut self, commands: &[Command])
         ensures { self.new ≡ after_texts self.old commands.now }

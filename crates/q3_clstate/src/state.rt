@@ -9,11 +9,15 @@ ghost use Rattle.q3_entity.specs.Entities.{Rises, run_of};
 ghost use Rattle.q3_rings.specs.Loans.{snapshot_of, head_of, head_from};
 ghost use Rattle.q3_rings.specs.Rings.{AreHeldSnapshots, view_at};
 ghost use Rattle.q3_clstate.specs.Standing.{IsApplied};
+ghost use Rattle.q3_clstate.specs.Saving.{saved_in, ReadsState};
+ghost use Rattle.q3_savestate.specs.Buffers.{Appends};
+ghost use Rattle.q3_savestate.specs.Lending.{HasAges};
+ghost use Rattle.q3_savestate.specs.State.{state_bytes, state_at};
 ghost use Rattle.q3_clstate.specs.State.{new_state, apply_at, state_behind, answered, heard_in};
 
 use crate::applied::{Applied, Log, SnapOutcome};
 use crate::holding::Holding;
-use crate::laws::apply_stays;
+use crate::laws::{apply_stays, saved_is_applied};
 use crate::settings::MapSettings;
 use q3_bits::NoMemory;
 use q3_config::Configs;
@@ -21,6 +25,7 @@ use q3_entity::Baselines;
 use q3_entity::laws::list_rises;
 use q3_profile::Profile;
 use q3_rings::{Held, NoBase, SnapView};
+use q3_savestate::{Parts, Saved, StateError, append_state};
 use q3_svmsg::{Illegible, Section, ServerMessage, read_server_message};
 use q3_text::Text;
 use q3_window::Incoming;
@@ -130,6 +135,52 @@ impl ClState {
             number,
             game: false,
             snap,
+        })
+    }
+
+    /// Puts the state behind bytes, as an index of a demo keeps it. The ages of all snapshots that are held are below 2^32, as they
+    /// are behind 1,048,576 messages at most. `Err` is want of memory; the bytes are as they were then.
+    pub fn write_state(&self, into: &mut Vec<u8>) -> Result<(), NoMemory>
+        requires ages { HasAges self.now.held }
+        ensures { Appends into.old.items into.new.items (state_bytes self.now.profile (saved_in self.now)) result }
+    {
+        let parts = Parts {
+            number: self.number,
+            incoming: &self.incoming,
+            has_game: self.has_game,
+            id: self.settings.id(),
+            slot: self.slot,
+            feed: self.feed,
+            configs: self.settings.configs(),
+            baselines: &self.holding.baselines,
+            rings: &self.holding.rings,
+        };
+        append_state(&self.profile, parts, into)
+    }
+
+    /// The state that bytes are, by a profile whose ring for a client's entities has 512 to 65,536 places. `Err` is want of memory, or
+    /// `NotState` exactly where they are none, with the place of the first field that is cut short or breaks a rule, or of the first
+    /// byte behind the state.
+    pub fn read_state(alloc: Global, profile: &Profile, bytes: &[u8]) -> Result<ClState, StateError>
+        requires least { 512 ≤ profile.now.parse_ring }
+        requires most { profile.now.parse_ring ≤ 65536 }
+        ensures { ReadsState profile.now (state_at profile.now bytes.now) result }
+    {
+        saved_is_applied();
+        let saved = Saved::read(alloc, profile, bytes)?;
+        Ok(ClState {
+            profile: profile.copy()?,
+            number: saved.number,
+            incoming: saved.incoming,
+            has_game: saved.has_game,
+            slot: saved.slot,
+            feed: saved.feed,
+            settings: MapSettings::of(saved.configs, saved.id),
+            holding: Holding {
+                rings: saved.rings,
+                baselines: saved.baselines,
+            },
+            message: ServerMessage::new(alloc)?,
         })
     }
 

@@ -2,6 +2,7 @@
 //! or breaks a rule. The format is this project's own.
 #![tactic(auto)]
 
+pub mod append;
 pub mod buffer;
 pub mod cursor;
 mod entities;
@@ -12,7 +13,8 @@ pub mod state;
 mod texts;
 mod writing;
 
+pub use append::append_state;
 pub use buffer::Buffer;
 pub use cursor::Cursor;
 pub use error::StateError;
-pub use state::{Parts, Saved, write_state};
+pub use state::{Parts, Saved};
