@@ -7,3 +7,4 @@ pub mod Behind
 pub mod Added
 pub mod Kept
 pub mod PuttingBack
+pub mod Numbered

@@ -1,7 +1,7 @@
 -- The snapshots that are held, by rising number.
-use Rattle.std.specs.Prelude.{◌≡◌, ◌⊎◌, ℕ, zero, suc, ◌==◌, if◌then◌else◌, List, [], ◌∷◌, ◌++◌, Option, Some, None, MatchOption}
+use Rattle.std.specs.Prelude.{◌≡◌, ◌⊎◌, ℕ, zero, suc, ◌==◌, if◌then◌else◌, false, List, [], ◌∷◌, ◌++◌, slice_index_or, Option, Some, None, IfSome, MatchOption}
 use Rattle.q3_ring.specs.Places.{at_number}
-use Rattle.q3_rings.specs.Rings.{HeldSnapshot, HeldSnapshots}
+use Rattle.q3_rings.specs.Rings.{HeldSnapshot, HeldSnapshots, is_young}
 
 -- the snapshot that is held under a number, also where its entities are gone
 abbrev pub of_number : ℕ → Option HeldSnapshot → Option HeldSnapshot
@@ -29,3 +29,8 @@ by_number snapshots = held_up_to snapshots snapshots.newest
 abbrev pub HoldsNewest : HeldSnapshots → Type 0
 HoldsNewest held =
     (held.newest ≡ 0) ⊎ MatchOption (at_number held.places held.newest) ⊥ (λ one. one.snapshot.head.number ≡ held.newest)
+
+-- of a snapshot that is so old that others may have taken its entities' places none is left
+abbrev pub GoneAreEmpty : HeldSnapshots → Type 0
+GoneAreEmpty snapshots =
+    (place : ℕ) → IfSome (slice_index_or snapshots.places place None) (λ held. is_young snapshots.ring held.age ≡ false → held.snapshot.entities ≡ [])

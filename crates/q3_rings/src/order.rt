@@ -1,10 +1,11 @@
 //! The snapshots that are held, by rising number.
 
-ghost use Rattle.std.specs.Prelude.{◌≡◌, ◌<◌, ◌≤◌, ℕ, None, option_map};
+ghost use Rattle.std.specs.Prelude.{◌≡◌, ◌<◌, ◌≤◌, ℕ, Some, None, length, option_map};
 ghost use Rattle.q3_entity.specs.Entities.{run_of};
 ghost use Rattle.q3_ring.specs.Places.{place_of};
 ghost use Rattle.q3_rings.specs.Loans.{head_of, head_from};
-ghost use Rattle.q3_rings.specs.Rings.{HeldSnapshot, AreHeldSnapshots};
+ghost use Rattle.q3_rings.specs.Rings.{HeldSnapshot};
+ghost use Rattle.q3_rings.specs.ByNumber.{by_number};
 ghost use Rattle.q3_rings.specs.ByNumber as spec;
 
 use crate::rings::Rings;
@@ -15,6 +16,20 @@ use q3_entity::Run;
 const PLACES: u8 = 32;
 
 impl Rings {
+    /// How many snapshots are held.
+    pub fn count(&self) -> u8
+        ensures { result ≡ length (by_number self.now.held) }
+    {
+        let _newest = self.newest();
+        let mut count = 0;
+        for place in 0..PLACES {
+            if self.held(place).is_some() {
+                count += 1;
+            }
+        }
+        count
+    }
+
     /// The least number above `last` under which a snapshot is held, or the newest where that is less. `last` is below the newest.
     pub fn next_number(&self, last: u32) -> u32
         requires { last < self.now.held.newest }
@@ -45,6 +60,7 @@ impl Rings {
     pub fn entities_of(&self, number: u32) -> Run<'_>
         ensures { (held : HeldSnapshot) → spec.held_under self.now.held number ≡ Some held → run_of result ≡ held.snapshot.entities }
     {
+        let _newest = self.newest();
         match self.view(number) {
             Some(view) => view.entities,
             None => Run::of(&[]),

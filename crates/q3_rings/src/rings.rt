@@ -5,6 +5,7 @@ ghost use Rattle.std.specs.Prelude.{◌≡◌, ◌+◌, ◌<◌, ◌≤◌, ◌^
 ghost use Rattle.q3_entity.specs.Entities.{Rises, run_of};
 ghost use Rattle.q3_rings.specs.Loans.{snapshot_of};
 ghost use Rattle.q3_rings.specs.Rings.{AreHeldSnapshots, CanPutBack, no_rings, held_snapshot, view_at, accept_in, restored, put_back_in, begin_in, place_in, end_in};
+ghost use Rattle.q3_rings.specs.ByNumber.{GoneAreEmpty};
 
 use crate::views::{Held, SnapView};
 use q3_entity::{EntityState, Run};
@@ -227,6 +228,7 @@ impl Rings {
     pub fn newest(&self) -> u32
         ensures newest { result ≡ self.now.held.newest }
         ensures held { AreHeldSnapshots self.now.held }
+        ensures gone { GoneAreEmpty self.now.held }
     {
         self.newest
     }
