@@ -1,5 +1,6 @@
 pub mod Records
 pub mod Playing
+pub mod Player
 pub mod Report
 pub mod Running
 pub mod Steps

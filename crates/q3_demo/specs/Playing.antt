@@ -27,9 +27,10 @@ unplayed profile = record { state = new_state profile; records = 0; last = 0; at
 abbrev pub next_piece : List ℕ → Played → Result Piece DemoError
 next_piece demo played = piece_of (drop played.at demo) played.at played.last
 
--- one record more, and the text that tells it
+-- one record more, what its message did, and the text that tells it
 pub record Stepped : Type 0 where
   pub played : Played
+  pub applied : Application
   pub text : List ℕ
 
 -- the lines of a record: the first of it, and what becomes of its message
@@ -40,6 +41,7 @@ record_text index number applied =
 abbrev pub played_on : Played → ℕ → ℕ → Application → Stepped
 played_on played number next applied = record {
   played = record { state = applied.state; records = played.records + 1; last = number; at = next };
+  applied = applied;
   text = record_text played.records number applied;
 }
 

@@ -5,6 +5,7 @@ mod compose;
 pub mod error;
 pub mod laws;
 mod lines;
+pub mod player;
 mod playing;
 pub mod record;
 pub mod recorder;
@@ -12,6 +13,7 @@ mod state;
 
 pub use compose::{compose_game, compose_whole};
 pub use error::DemoError;
+pub use player::Player;
 pub use playing::play;
 pub use record::{LONGEST_RECORD, Piece, next_record};
 pub use recorder::{Noted, Recorder};

@@ -1,0 +1,142 @@
+//! Plays a demo record by record.
+
+ghost use Rattle.std.specs.Prelude.{◌≡◌, ◌+◌, ◌<◌, ◌≤◌, List, ℕ, [], length, drop, IfOk};
+ghost use Rattle.q3_demo.specs.Player.{PlaysOn};
+ghost use Rattle.q3_demo.specs.Playing.{unplayed, step};
+ghost use Rattle.q3_demo.specs.Running.{HasFrom, OnlyAsks, ReadCause};
+
+use crate::error::DemoError;
+use crate::record::{LONGEST_RECORD, Piece, next_record};
+use q3_bits::NoMemory;
+use q3_clstate::{Applied, ClState, Log};
+use q3_io::Files;
+use q3_profile::Profile;
+use q3_text::Commands;
+use std::alloc::Global;
+use std::marker::Model;
+
+/// How far a demo was played: what its messages left, how many they are, the number of the last, 0 for none, and the place behind them.
+/// After `new` and `behind` no call takes memory.
+#[derive(Drop)]
+pub struct Player {
+    state: ClState,
+    records: u32,
+    last: u32,
+    at: u64,
+    log: Log,
+    message: Vec<u8>,
+}
+
+impl Model for Player {
+    ghost use Rattle.std.specs.Prelude.{◌≡◌, length};
+    ghost use Rattle.q3_demo.specs.Records.{longest_record};
+    ghost use Rattle.q3_demo.specs.Player.{PlayerState};
+
+    ghost Value = { PlayerState };
+
+    ghost view = { λ p. record { played = record { state = p.state; records = p.records; last = p.last; at = p.at }; heard = p.log.commands } };
+
+    ghost invariant = { λ p. length p.message.items ≡ longest_record };
+}
+
+impl Player {
+    /// Plays from a demo's first record on. The profile's ring for a client's entities has 512 to 65,536 places. `Err` is want of memory.
+    pub fn new(alloc: Global, profile: &Profile) -> Result<Player, NoMemory>
+        requires least { 512 ≤ profile.now.parse_ring }
+        requires most { profile.now.parse_ring ≤ 65536 }
+        ensures { IfOk result (λ player. player ≡ record { played = unplayed profile.now; heard = [] }) }
+    {
+        let state = ClState::new(alloc, profile)?;
+        Player::behind(alloc, state, 0, 0)
+    }
+
+    /// Goes on behind so many records, at the place of the next one, from what they left. `Err` is want of memory.
+    pub fn behind(alloc: Global, state: ClState, records: u32, at: u64) -> Result<Player, NoMemory>
+        ensures { IfOk result (λ player. player ≡ record { played = record { state = state; records = records; last = state.number; at = at }; heard = [] }) }
+    {
+        let last = state.number();
+        Ok(Player {
+            state,
+            records,
+            last,
+            at,
+            log: Log {
+                commands: Commands::new(alloc)?,
+            },
+            message: vec![in alloc; 0; LONGEST_RECORD]?,
+        })
+    }
+
+    /// Plays the next record, and tells what became of its message; `None` comes at the demo's end. `Err` is as `next_record` says, or
+    /// `Message` exactly where the message isn't legible.
+    pub fn next<F: Files>(&mut self, files: &mut F, file: usize) -> Result<Option<Applied>, DemoError>
+        requires given { file < F.given files.old }
+        requires few { self.old.played.records < 4294967295 }
+        ensures plays { (bytes : List ℕ) × HasFrom (F.told files.old) file self.old.played.at bytes
+            × ((demo : List ℕ) → drop self.old.played.at demo ≡ bytes → PlaysOn (step demo self.old.played) self.old self.new result) }
+        ensures given { F.given files.new ≡ F.given files.old }
+        ensures asks { OnlyAsks (F.told files.old) (F.told files.new) }
+        ensures read_cause { ReadCause (F.faults files.old) (F.faults files.new) result }
+        ensures others { F.write_faults files.new ≡ F.write_faults files.old }
+    {
+        let piece = next_record(files, file, self.at, self.last, &mut self.message)?;
+        let Piece::Message { number, length, next } = piece else {
+            return Ok(None);
+        };
+        let applied = self.apply(number, length)?;
+        self.records += 1;
+        self.last = number;
+        self.at = next;
+        Ok(Some(applied))
+    }
+
+    /// Applies the message that was read, of so many bytes.
+    fn apply(&mut self, number: u32, length: usize) -> Result<Applied, DemoError> {
+        match self.state.apply(number, &self.message[..length], &mut self.log) {
+            Ok(applied) => Ok(applied),
+            Err(cause) => Err(DemoError::Message(self.at, cause)),
+        }
+    }
+
+    /// What the messages left.
+    pub fn state(&self) -> &ClState
+        ensures { result.now ≡ self.now.played.state }
+    {
+        &self.state
+    }
+
+    /// What the messages left, and nothing else.
+    pub fn into_state(self) -> ClState
+        ensures { result ≡ self.played.state }
+    {
+        self.state
+    }
+
+    /// How many records were played.
+    pub fn records(&self) -> u32
+        ensures { result ≡ self.now.played.records }
+    {
+        self.records
+    }
+
+    /// The place behind them.
+    pub fn place(&self) -> u64
+        ensures { result ≡ self.now.played.at }
+    {
+        self.at
+    }
+
+    /// The number of the last of them, 0 for none.
+    pub fn last(&self) -> u32
+        ensures { result ≡ self.now.played.last }
+    {
+        self.last
+    }
+
+    /// The commands that the last message executed.
+    pub fn log(&self) -> &Log
+        ensures { result.now.commands ≡ self.now.heard }
+    {
+        &self.log
+    }
+}
