@@ -24,7 +24,7 @@ use q3_config::Configs;
 use q3_entity::Baselines;
 use q3_entity::laws::list_rises;
 use q3_profile::Profile;
-use q3_rings::{Held, NoBase, SnapView};
+use q3_rings::{Held, NoBase, Rings, SnapView};
 use q3_savestate::{Parts, Saved, StateError, append_state};
 use q3_svmsg::{Illegible, Section, ServerMessage, read_server_message};
 use q3_text::Text;
@@ -253,6 +253,13 @@ impl ClState {
         ensures { result.now ≡ self.now.lines }
     {
         &self.holding.baselines
+    }
+
+    /// The snapshots that are held.
+    pub fn rings(&self) -> &Rings
+        ensures { result.now.held ≡ self.now.held }
+    {
+        &self.holding.rings
     }
 
     /// Lends the snapshot of a number, if it is held.
