@@ -5,4 +5,6 @@ pub mod Below
 pub mod Hearing
 pub mod HeldStays
 pub mod Stays
+pub mod Saving
+pub mod Within
 mod Printing

@@ -30,7 +30,6 @@ pub fn applied_is_context()
 pub fn within_stays()
     ensures { WithinStays }
 {
-    apply_stays();
     svmsg::read_is_spelled();
 }
 

@@ -4,7 +4,7 @@
 //! own is which bases are held, that a snapshot without its base changes nothing, that config commands change strings as
 //! messages are applied, and that the last text becomes empty where a gamestate's command number isn't the last executed.
 
-ghost use Rattle.std.specs.Prelude.{◌≡◌, ◌<◌, ◌≤◌, option_map, slice_index_or, None, IfOk, IfSome};
+ghost use Rattle.std.specs.Prelude.{◌≡◌, ◌<◌, ◌≤◌, All, option_map, slice_index_or, None, IfOk, IfSome};
 ghost use Rattle.q3_entity.specs.Entities.{Rises, run_of};
 ghost use Rattle.q3_rings.specs.Loans.{snapshot_of, head_of, head_from};
 ghost use Rattle.q3_rings.specs.Rings.{AreHeldSnapshots, view_at};
@@ -17,7 +17,7 @@ ghost use Rattle.q3_clstate.specs.State.{new_state, apply_at, state_behind, answ
 
 use crate::applied::{Applied, Log, SnapOutcome};
 use crate::holding::Holding;
-use crate::laws::{apply_stays, saved_is_applied};
+use crate::laws::{apply_stays, read_is_written};
 use crate::settings::MapSettings;
 use q3_bits::NoMemory;
 use q3_config::Configs;
@@ -166,10 +166,12 @@ impl ClState {
         requires most { profile.now.parse_ring ≤ 65536 }
         ensures { ReadsState profile.now (state_at profile.now bytes.now) result }
     {
-        saved_is_applied();
+        bytes_fit(bytes);
+        read_is_written();
+        let own = profile.copy()?;
         let saved = Saved::read(alloc, profile, bytes)?;
         Ok(ClState {
-            profile: profile.copy()?,
+            profile: own,
             number: saved.number,
             incoming: saved.incoming,
             has_game: saved.has_game,
@@ -288,3 +290,8 @@ impl ClState {
         self.holding.rings.newest()
     }
 }
+
+/// Bytes are below 256, as their type tells.
+fn bytes_fit(bytes: &[u8])
+    ensures { All (λ byte. byte < 256) bytes.now }
+{}

@@ -1,5 +1,8 @@
 //! Why bytes are no state.
 
+ghost use Rattle.std.specs.Prelude.{◌≡◌};
+ghost use Rattle.q3_savestate.specs.declared.error.StateError.TheVariants as errors;
+
 use q3_bits::NoMemory;
 
 /// Why a state wasn't read.
@@ -12,6 +15,8 @@ pub enum StateError {
 }
 
 impl From<NoMemory> for StateError {
+    ghost from_gives = { λ _ e. e ≡ errors.NoMemory };
+
     fn from(_: NoMemory) -> StateError {
         StateError::NoMemory
     }

@@ -47,8 +47,11 @@ invariant_of-self-in-Nothing c =
     let none : message.section ≡ Nothing = search rules in
     let commands : c.as_slice.result.now ≡ message.commands = search rules in
     let ran : c.as_slice-2.result.now ≡ fresh_of now.executed.executed message.commands = search rules in
-    stands_as (state_behind now (apply_at now c.args.number c.args.message.now)) _ (c.apply_stays.ensures.apply now c.args.number c.args.message.now fits c.self.invariant)
-    (rw (← c.in_ok-read_server_message.ensures.reads, none, c.execute.ensures.window, commands, c.execute-2.ensures, ran) refl)
+    record {
+      applied = stands_as (state_behind now (apply_at now c.args.number c.args.message.now)) _ (c.apply_stays.ensures.apply now c.args.number c.args.message.now fits c.self.invariant.applied)
+      (rw (← c.in_ok-read_server_message.ensures.reads, none, c.execute.ensures.window, commands, c.execute-2.ensures, ran) refl);
+      none = c.self.invariant.none;
+    }
 
 pub invariant_of-self-in-Snap-default-true : goal.invariant_of-self-in-Snap-default-true
 invariant_of-self-in-Snap-default-true c =
@@ -60,9 +63,12 @@ invariant_of-self-in-Snap-default-true c =
     let commands : c.as_slice.result.now ≡ message.commands = search rules in
     let ran : c.as_slice-2.result.now ≡ fresh_of now.executed.executed message.commands = search rules in
     let heard = hearing now message.commands in
-    stands_as (state_behind now (apply_at now c.args.number c.args.message.now)) _ (c.apply_stays.ensures.apply now c.args.number c.args.message.now fits c.self.invariant)
-    (rw (← c.in_ok-read_server_message.ensures.reads, held, c.accept-snap.ensures.held, c.accept-snap.ensures.lines, c.execute.ensures.window, commands, c.execute-2.ensures, ran)
-    (snap_state heard c.args.number base (record { head = message.head; entities = message.entities.value.items }) (is_stale now.held c.args.number)))
+    record {
+      applied = stands_as (state_behind now (apply_at now c.args.number c.args.message.now)) _ (c.apply_stays.ensures.apply now c.args.number c.args.message.now fits c.self.invariant.applied)
+      (rw (← c.in_ok-read_server_message.ensures.reads, held, c.accept-snap.ensures.held, c.accept-snap.ensures.lines, c.execute.ensures.window, commands, c.execute-2.ensures, ran)
+      (snap_state heard c.args.number base (record { head = message.head; entities = message.entities.value.items }) (is_stale now.held c.args.number)));
+      none = c.accept-snap.ensures.none;
+    }
 
 pub invariant_of-self-in-Snap-default-false : goal.invariant_of-self-in-Snap-default-false
 invariant_of-self-in-Snap-default-false c =
@@ -74,9 +80,12 @@ invariant_of-self-in-Snap-default-false c =
     let commands : c.as_slice.result.now ≡ message.commands = search rules in
     let ran : c.as_slice-2.result.now ≡ fresh_of now.executed.executed message.commands = search rules in
     let heard = hearing now message.commands in
-    stands_as (state_behind now (apply_at now c.args.number c.args.message.now)) _ (c.apply_stays.ensures.apply now c.args.number c.args.message.now fits c.self.invariant)
-    (rw (← c.in_ok-read_server_message.ensures.reads, skipped, c.execute.ensures.window, commands, c.execute-2.ensures, ran)
-    (skip_state heard c.args.number base (is_stale now.held c.args.number)))
+    record {
+      applied = stands_as (state_behind now (apply_at now c.args.number c.args.message.now)) _ (c.apply_stays.ensures.apply now c.args.number c.args.message.now fits c.self.invariant.applied)
+      (rw (← c.in_ok-read_server_message.ensures.reads, skipped, c.execute.ensures.window, commands, c.execute-2.ensures, ran)
+      (skip_state heard c.args.number base (is_stale now.held c.args.number)));
+      none = c.self.invariant.none;
+    }
 
 pub invariant_of-self-in-Game : goal.invariant_of-self-in-Game
 invariant_of-self-in-Game c =
@@ -86,5 +95,8 @@ invariant_of-self-in-Game c =
     let game : message.section ≡ Game = search rules in
     let commands : c.as_slice.result.now ≡ message.commands = search rules in
     let ran : c.as_slice-2.result.now ≡ fresh_of now.executed.executed message.commands = search rules in
-    stands_as (state_behind now (apply_at now c.args.number c.args.message.now)) _ (c.apply_stays.ensures.apply now c.args.number c.args.message.now fits c.self.invariant)
-    (rw (← c.in_ok-read_server_message.ensures.reads, game, c.start.ensures.settings, c.start-in-Game.ensures.held, c.start-in-Game.ensures.lines, c.start.ensures.lines, c.jump.ensures, c.execute.ensures.window, commands, c.execute-2.ensures, ran) refl)
+    record {
+      applied = stands_as (state_behind now (apply_at now c.args.number c.args.message.now)) _ (c.apply_stays.ensures.apply now c.args.number c.args.message.now fits c.self.invariant.applied)
+      (rw (← c.in_ok-read_server_message.ensures.reads, game, c.start.ensures.settings, c.start-in-Game.ensures.held, c.start-in-Game.ensures.lines, c.start.ensures.lines, c.jump.ensures, c.execute.ensures.window, commands, c.execute-2.ensures, ran) refl);
+      none = c.start-in-Game.ensures.none;
+    }
