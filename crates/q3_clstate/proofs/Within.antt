@@ -26,7 +26,7 @@ use Rattle.q3_clstate.proofs.HeldStays.{context_is}
 abbrev AreSoOld : ℕ → List (Option HeldSnapshot) → Type 0
 AreSoOld most places = All (λ place. IfSome place (λ held. held.age ≤ most)) places
 
-IsSoOld : ℕ → Option HeldSnapshot → Type 0
+abbrev IsSoOld : ℕ → Option HeldSnapshot → Type 0
 IsSoOld most place = IfSome place (λ held. held.age ≤ most)
 
 none_old : (most : ℕ) → AreSoOld most (no_places {X = HeldSnapshot})
