@@ -9,7 +9,6 @@ use Rattle.q3_index.specs.declared.index.Checkpoint.{Checkpoint}
 use Rattle.q3_index.specs.declared.error.SeekError.{SeekError}
 use Rattle.q3_index.specs.declared.error.SeekError.TheVariants.{NotIndex, PastEnd, Demo}
 use Rattle.q3_index.specs.Text.{spacing}
-use Rattle.q3_index.specs.Opening.{Heads}
 
 -- how far a demo was played at a checkpoint behind so many records, by the state that the index's bytes spell there
 abbrev pub restored : Profile → List ℕ → ℕ → Checkpoint → Result Played SeekError
@@ -26,8 +25,8 @@ abbrev pub greatest : List Checkpoint → ℕ → Option Checkpoint
 greatest checkpoints number = if nat_lt number spacing then None else slice_get checkpoints (number / spacing - 1)
 
 -- what so many records leave: those from there on are played
-unfoldable pub seek_at : Profile → List ℕ → List ℕ → Heads → ℕ → Result Played SeekError
-seek_at profile demo index heads number =
-    if nat_lt heads.records number then Err (PastEnd heads.records) else (do
-      start ← restored_if profile index (spacing * (number / spacing)) (greatest heads.checkpoints number)
+unfoldable pub seek_at : Profile → List ℕ → List ℕ → ℕ → List Checkpoint → ℕ → Result Played SeekError
+seek_at profile demo index records checkpoints number =
+    if nat_lt records number then Err (PastEnd records) else (do
+      start ← restored_if profile index (spacing * (number / spacing)) (greatest checkpoints number)
       fault_as Demo (play_first (number - start.records) demo start))

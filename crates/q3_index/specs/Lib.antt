@@ -1,0 +1,5 @@
+pub mod Text
+pub mod Opening
+pub mod Seeking
+pub mod Running
+pub mod Laws
