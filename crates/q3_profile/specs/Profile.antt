@@ -7,7 +7,7 @@ use Rattle.toml.specs.Data.{Members, as_integer, as_str}
 use Rattle.q3_bits.specs.CodeWords.{bits_of_text, code_fault}
 use Rattle.q3_fields.specs.declared.table.TableError.{TableError}
 use Rattle.q3_fields.specs.declared.table.TableError.TheVariants as table
-use Rattle.q3_fields.specs.Kinds.{Layout, IsTable, table_of, least_number_bits}
+use Rattle.q3_fields.specs.Kinds.{Layout, HasNumberBits, IsTable, table_of}
 use Rattle.q3_bits.specs.ResultBind.{◌>>=◌}
 use Rattle.q3_bits.specs.Words.{IsCode}
 use Rattle.q3_profile.specs.declared.error.Key.{Key}
@@ -77,12 +77,12 @@ checked bytes = do
   profile_at (mark_of bytes) document
 
 -- what every profile of the program's type is, as its code and its tables tell: a code, and tables; the numbers of
--- entities have at least 10 bits
+-- entities have as many bits as the protocol allows
 pub record IsCodec (profile : Profile) : Type 0 where
   pub code : IsCode profile.code
   pub entity : IsTable profile.entity
   pub player : IsTable profile.player
-  pub numbers : least_number_bits ≤ profile.entity.number_bits
+  pub numbers : HasNumberBits profile.entity.number_bits
 
 -- a profile whose rings and protocol passed their checks
 pub record IsProfile (profile : Profile) : Type 0 where
