@@ -1,2 +1,4 @@
 pub mod Fields
 pub mod Words
+pub mod EntitiesBack
+pub mod EntitiesWere
