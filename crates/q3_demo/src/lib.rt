@@ -15,6 +15,6 @@ pub use compose::{compose_game, compose_whole};
 pub use error::DemoError;
 pub use player::Player;
 pub use playing::play;
-pub use record::{LONGEST_RECORD, Piece, next_record};
+pub use record::{LONGEST_RECORD, Piece, next_record, read_whole};
 pub use recorder::{Noted, Recorder};
 pub use state::print_state;

@@ -1,7 +1,7 @@
 //! Plays a demo record by record.
 
 ghost use Rattle.std.specs.Prelude.{◌≡◌, ◌+◌, ◌<◌, ◌≤◌, List, ℕ, [], length, drop, IfOk};
-ghost use Rattle.q3_demo.specs.Player.{PlaysOn};
+ghost use Rattle.q3_demo.specs.Player.{PlaysOn, step_of_all};
 ghost use Rattle.q3_demo.specs.Playing.{unplayed, step};
 ghost use Rattle.q3_demo.specs.Running.{HasFrom, OnlyAsks, ReadCause};
 
@@ -14,6 +14,9 @@ use q3_profile::Profile;
 use q3_text::Commands;
 use std::alloc::Global;
 use std::marker::Model;
+
+/// How many records are played at most.
+const MOST_RECORDS: u32 = 1_048_576;
 
 /// How far a demo was played: what its messages left, how many they are, the number of the last, 0 for none, and the place behind them.
 /// After `new` and `behind` no call takes memory.
@@ -88,6 +91,28 @@ impl Player {
         self.last = number;
         self.at = next;
         Ok(Some(applied))
+    }
+
+    /// The same of a demo that is played from its first record on: behind 1,048,576 records anything but the demo's end is refused, as
+    /// `Truncated`.
+    pub fn next_of_all<F: Files>(&mut self, files: &mut F, file: usize) -> Result<Option<Applied>, DemoError>
+        requires given { file < F.given files.old }
+        ensures plays { (bytes : List ℕ) × HasFrom (F.told files.old) file self.old.played.at bytes
+            × ((demo : List ℕ) → drop self.old.played.at demo ≡ bytes → PlaysOn (step_of_all demo self.old.played) self.old self.new result) }
+        ensures given { F.given files.new ≡ F.given files.old }
+        ensures asks { OnlyAsks (F.told files.old) (F.told files.new) }
+        ensures read_cause { ReadCause (F.faults files.old) (F.faults files.new) result }
+        ensures others { F.write_faults files.new ≡ F.write_faults files.old }
+    {
+        if self.records < MOST_RECORDS {
+            return self.next(files, file);
+        }
+        match next_record(files, file, self.at, self.last, &mut self.message) {
+            Ok(Piece::End) => Ok(None),
+            Ok(Piece::Message { .. }) => Err(DemoError::Truncated(self.at)),
+            Err(DemoError::ReadFault) => Err(DemoError::ReadFault),
+            Err(_) => Err(DemoError::Truncated(self.at)),
+        }
     }
 
     /// Applies the message that was read, of so many bytes.

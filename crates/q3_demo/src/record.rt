@@ -133,7 +133,7 @@ fn no_head<F: Files>(files: &mut F, file: usize) -> Result<Option<Head>, DemoErr
 }
 
 /// Reads bytes from a place on until the buffer is full or the file ends, and answers how many came.
-fn read_whole<F: Files>(
+pub fn read_whole<F: Files>(
     files: &mut F,
     file: usize,
     at: u64,
