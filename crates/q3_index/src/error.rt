@@ -62,3 +62,19 @@ impl From<AllocError> for SeekError {
         SeekError::NoMemory
     }
 }
+
+impl<T: Drop> From<AllocFailed<T>> for IndexError {
+    ghost from_gives = { λ _ e. e ≡ opening.NoMemory };
+
+    fn from(_: AllocFailed<T>) -> IndexError {
+        IndexError::NoMemory
+    }
+}
+
+impl<T: Drop> From<AllocFailed<T>> for SeekError {
+    ghost from_gives = { λ _ e. e ≡ seeking.NoMemory };
+
+    fn from(_: AllocFailed<T>) -> SeekError {
+        SeekError::NoMemory
+    }
+}
