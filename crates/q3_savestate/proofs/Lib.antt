@@ -5,3 +5,5 @@ pub mod EntitiesWere
 pub mod Rows
 pub mod Parts
 pub mod Heads
+pub mod HeldInOrder
+pub mod HeldRules
