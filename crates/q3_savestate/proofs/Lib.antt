@@ -7,3 +7,4 @@ pub mod Parts
 pub mod Heads
 pub mod HeldInOrder
 pub mod HeldRules
+pub mod SnapshotsBack
