@@ -8,3 +8,4 @@ pub mod Heads
 pub mod HeldInOrder
 pub mod HeldRules
 pub mod SnapshotsBack
+pub mod HeldSoFar
