@@ -9,3 +9,4 @@ pub mod HeldInOrder
 pub mod HeldRules
 pub mod SnapshotsBack
 pub mod HeldSoFar
+pub mod SnapshotsWere

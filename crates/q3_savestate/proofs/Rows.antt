@@ -97,6 +97,12 @@ were_last {read = read} {spelled = spelled} {Q = Q} f first holds = record {
       (spelled step.0.0, holds step.0.0 one.0, one.1);
 }
 
+-- what holds of what is read gives what else holds
+pub were_so : {Y : Type 0} {read : Cursor → Field Y} {Q R : Y → List ℕ → Type 0} → HasRead read Q → ((y : Y) (text : List ℕ) → Q y text → R y text) → HasRead read R
+were_so row so = record {
+  has = λ cursor y left bytes is. let one = row.has cursor y left bytes is in (one.0, so y one.0 one.1, one.2);
+}
+
 -- a row of reads whose text is that of its value
 pub were_row : {X : Type 0} {read : Cursor → Field X} (spelled : X → List ℕ) (P : X → Type 0) → HasRead read (λ x text. P x × (text ≡ spelled x)) → WasRead read spelled P
 were_row spelled P row = record {
