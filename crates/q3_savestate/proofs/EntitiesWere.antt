@@ -39,6 +39,7 @@ numbered_words table least cursor next rest number words is fit e f =
       normal = ap (λ words. record { number = number; words = words }) more.normal;
     }
 
+-- it stood there
 entity_was : (table : Layout) (least : ℕ) (cursor : Cursor) (entity : EntityState) (rest : Cursor) → IsTable table → All (λ byte. byte < 256) cursor.bytes
     → entity_at table least cursor ≡ Ok (entity, rest) → ReadsEntity table least cursor entity rest
 unfolding entity_at
@@ -68,6 +69,7 @@ one_before table count least cursor next rest entity others one more = record {
   normal = All-cons (IsNormal table) entity others one.normal more.normal;
 }
 
+-- they stood there
 pub reads_entities : (table : Layout) (count least : ℕ) (cursor : Cursor) (entities : List EntityState) (rest : Cursor) → IsTable table → All (λ byte. byte < 256) cursor.bytes
     → entities_at table count least cursor ≡ Ok (entities, rest) → ReadsEntities table count least cursor entities rest
 unfolding entities_at

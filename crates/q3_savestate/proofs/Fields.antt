@@ -1,7 +1,7 @@
 -- Fields: what was written is read, and what is read stood there.
 use Rattle.std.proofs.Common.{◌≡◌, ℕ, zero, suc, ◌+◌, ◌*◌, ◌/◌, ◌^◌, ◌<◌, ◌≤◌, Bool, true, false, if◌then◌else◌, List, [], ◌∷◌, ◌++◌, length, take, Ok, Err, inl, inr, refl, sym, ap, subst, ◌∙◌, arith}
 use Rattle.std.specs.Prelude.{◌&&◌, ◌==◌, not, nat_lt, nat_le, All}
-use Rattle.std.specs.List.{list_all}
+use Rattle.std.specs.List.{flat_map, list_all}
 use Rattle.std.specs.Int.{byte_at, bytes_low_first}
 use Rattle.std.proofs.Math.Nat.{div-div-eq-div-mul, div-one, pow-suc}
 use Rattle.std.proofs.lemmas.Bool.{cases_lt, and_parts, and_from, leb-true, le-leb, le-ltb, ltb-true, ltb-false, lt-ltb, eqb-false, ne_eqb, not-true, not_from_false}
@@ -11,6 +11,7 @@ use Rattle.byteorder.specs.Endian.{little_bytes, little_from, little_number}
 use Rattle.byteorder.specs.Numbers.{length-bytes_low_first, little_from-cons, little_from-lt, little_number-reads_back}
 use Rattle.q3_text.specs.Texts.{IsTextByte}
 use Rattle.q3_savestate.specs.Cursor.{Cursor, Field, behind, field_at, number_at, is_text_byte, text_at}
+use Rattle.q3_savestate.specs.Entities.{counted}
 
 -- ---- what stands in front
 
@@ -31,6 +32,11 @@ took_both cursor next rest first others one more = record {
   place = omega (arith, one.place, more.place, length-append first others);
   fit = more.fit;
 }
+
+-- items behind their number
+pub took_counted : {X : Type 0} (item : X → List ℕ) (count : ℕ) (cursor next rest : Cursor) (items : List X) → Took cursor (little_bytes 2 count) next → Took next (flat_map item items) rest
+    → length items ≡ count → Took cursor (counted item items) rest
+took_counted item count cursor next rest items one more long = rw long (took_both cursor next rest (little_bytes 2 count) (flat_map item items) one more)
 
 -- ---- any field
 
@@ -53,10 +59,11 @@ carried {X = X} P a x b y e is =
     let same = both_same a x b y e in
     subst (λ (rest : Cursor). P x rest) same.1 (subst (λ (z : X). P z b) same.0 is)
 
--- by what the two tests of a field say
+-- a field by what its two tests say
 abbrev field_by : {X : Type 0} → Bool → Bool → ℕ → X → Cursor → Field X
 field_by short holds at y next = if short then Err at else if holds then Ok (y, next) else Err at
 
+-- an answer came from there, with both tests passed
 by_tests : {X : Type 0} (short holds : Bool) (at : ℕ) (y x : X) (next rest : Cursor) → field_by short holds at y next ≡ Ok (x, rest)
     → (short ≡ false) × (holds ≡ true) × (x ≡ y) × (rest ≡ next)
 by_tests true holds at y x next rest e = absurd cc
@@ -82,6 +89,15 @@ took_field count cursor rest fit there is = record {
 
 -- ---- numbers
 
+-- a byte of a number
+this_byte : (x j byte n : ℕ) → byte < 256 → x / 256 ^ j ≡ byte + 256 * n → byte_at j x ≡ byte
+this_byte x zero byte n below is = rw (sym (div-one x), is) (omega arith)
+this_byte x (suc j) byte n below is = rw is (omega arith)
+
+-- and the number behind the byte
+next_byte : (x j byte n : ℕ) → byte < 256 → x / 256 ^ j ≡ byte + 256 * n → x / 256 ^ suc j ≡ n
+next_byte x j byte n below is = ap (λ (p : ℕ). x / p) (pow-suc 256 j) ∙ sym (div-div-eq-div-mul x (256 ^ j) 256) ∙ rw is (omega arith)
+
 -- bytes of a number, from one of them on
 bytes_of : (j x : ℕ) (bytes : List ℕ) → All (λ byte. byte < 256) bytes → x / 256 ^ j ≡ little_from 0 (length bytes) bytes → bytes_low_first j (length bytes) x ≡ bytes
 bytes_of j x [] fit is = refl
@@ -90,13 +106,6 @@ bytes_of j x (byte ∷ bytes) fit is =
     let whole : x / 256 ^ j ≡ byte + 256 * little_from 0 (length bytes) bytes = is ∙ ap (λ n. byte + 256 * n) (little_from-cons 0 (length bytes) byte bytes) in
     let others : x / 256 ^ suc j ≡ little_from 0 (length bytes) bytes = next_byte x j byte (little_from 0 (length bytes) bytes) below whole in
     rw (this_byte x j byte (little_from 0 (length bytes) bytes) below whole, bytes_of (suc j) x bytes (All-tail (λ byte. byte < 256) byte bytes fit) others) refl
-  where
-    this_byte : (x j byte n : ℕ) → byte < 256 → x / 256 ^ j ≡ byte + 256 * n → byte_at j x ≡ byte
-    this_byte x zero byte n below is = rw (sym (div-one x), is) (omega arith)
-    this_byte x (suc j) byte n below is = rw is (omega arith)
-
-    next_byte : (x j byte n : ℕ) → byte < 256 → x / 256 ^ j ≡ byte + 256 * n → x / 256 ^ suc j ≡ n
-    next_byte x j byte n below is = ap (λ (p : ℕ). x / p) (pow-suc 256 j) ∙ sym (div-div-eq-div-mul x (256 ^ j) 256) ∙ rw is (omega arith)
 
 -- bytes are those of the number that they are
 pub bytes_of_number : (bytes : List ℕ) → All (λ byte. byte < 256) bytes → little_bytes (length bytes) (little_number (length bytes) bytes) ≡ bytes
@@ -140,6 +149,7 @@ pub record Numbered (count least most : ℕ) (cursor : Cursor) (n : ℕ) (rest :
   pub below : n ≤ most
   pub fits : n < 256 ^ count
 
+-- it stood there
 pub numbered : (count least most : ℕ) (cursor : Cursor) (n : ℕ) (rest : Cursor) → All (λ byte. byte < 256) cursor.bytes → number_at count least most cursor ≡ Ok (n, rest)
     → Numbered count least most cursor n rest
 numbered count least most cursor n rest fit e =
@@ -180,6 +190,7 @@ bytes_pass [] each = refl
 bytes_pass (byte ∷ text) each =
     and_from (is_text_byte byte) (list_all is_text_byte text) (byte_passes byte (All-head IsTextByte byte text each)) (bytes_pass text (All-tail IsTextByte byte text each))
 
+-- and only such bytes
 bytes_were : (text : List ℕ) → list_all is_text_byte text ≡ true → All IsTextByte text
 bytes_were [] pass = All-nil IsTextByte
 bytes_were (byte ∷ text) pass =
@@ -197,6 +208,7 @@ pub record Worded (count : ℕ) (cursor : Cursor) (text : List ℕ) (rest : Curs
   pub long : length text ≡ count
   pub each : All IsTextByte text
 
+-- it stood there
 pub worded : (count : ℕ) (cursor : Cursor) (text : List ℕ) (rest : Cursor) → All (λ byte. byte < 256) cursor.bytes → text_at count cursor ≡ Ok (text, rest) → Worded count cursor text rest
 worded count cursor text rest fit e =
     let was = field_was count (λ bytes. bytes) (list_all is_text_byte) cursor text rest e in

@@ -2,6 +2,9 @@ pub mod Fields
 pub mod Words
 pub mod EntitiesBack
 pub mod EntitiesWere
+pub mod Gaps
+pub mod LinesBack
+pub mod TextsBack
 pub mod Rows
 pub mod Parts
 pub mod Heads

@@ -66,7 +66,7 @@ words_back kinds words at rest few are normal =
 
 -- ---- what is read stood there
 
--- words that were read, one for each kind
+-- words that are read, as many as there are kinds
 record HasRead (kinds : List Kind) (cursor : Cursor) (words : List ℕ) (rest : Cursor) : Type 0 where
   took : Took cursor (flat_map (little_bytes 4) words) rest
   count : length words ≡ length kinds
@@ -89,6 +89,7 @@ has_read kind kinds cursor next rest word words fit e behind =
       normal = rw (first, more.normal) refl;
     }
 
+-- one for each kind
 front_were : (kinds : List Kind) (cursor : Cursor) (words : List ℕ) (rest : Cursor) → All (λ byte. byte < 256) cursor.bytes → words_at kinds cursor ≡ Ok (words, rest) → HasRead kinds cursor words rest
 unfolding words_at normal_words
 front_were [] cursor words rest fit e =
@@ -105,6 +106,7 @@ unfolding normal_words
 zeros_normal zero = refl
 zeros_normal (suc count) = ap (λ words. 0 ∷ words) (zeros_normal count)
 
+-- also behind words in normal form
 padded_normal : (kinds : List Kind) (words : List ℕ) (count : ℕ) → length words ≡ length kinds → normal_words kinds words ≡ words
     → normal_words kinds (words ++ replicate count 0) ≡ words ++ replicate count 0
 unfolding normal_words
@@ -134,6 +136,7 @@ padded_read kinds cursor words rest few has = record {
   normal = padded_normal kinds words (64 - length words) has.count has.normal;
 }
 
+-- they stood there
 pub reads_words : (kinds : List Kind) (cursor : Cursor) (words : List ℕ) (rest : Cursor) → length kinds ≤ 64 → All (λ byte. byte < 256) cursor.bytes → state_words_at kinds cursor ≡ Ok (words, rest)
     → ReadsWords kinds cursor words rest
 unfolding state_words_at
