@@ -1,21 +1,20 @@
 -- Heads of snapshots, and the states of players.
-use Rattle.std.proofs.Common.{◌≡◌, ℕ, zero, suc, ◌+◌, ◌-◌, ◌*◌, ◌^◌, ◌<◌, ◌≤◌, Bool, true, List, [], ◌∷◌, ◌++◌, length, map, refl, sym, ap, subst, ◌∙◌, arith}
-use Rattle.std.specs.Prelude.{All, ℤ, pos, neg_ℤ, ◌≤ℤ◌, Ok}
+use Rattle.std.proofs.Common.{◌≡◌, ℕ, zero, suc, ◌-◌, ◌*◌, ◌^◌, ◌<◌, ◌≤◌, List, [], ◌∷◌, ◌++◌, length, map, refl, sym, ap, subst, ◌∙◌, arith}
+use Rattle.std.specs.Prelude.{All, ℤ}
 use Rattle.std.specs.Int.{w16, cast_unsigned, cast_signed}
 use Rattle.std.specs.List.{flat_map, concat}
-use Rattle.std.proofs.lemmas.Int.{ints, to_z-of_z, of_z-to_z}
+use Rattle.std.proofs.lemmas.Int.{ints, of_z-to_z}
 use Rattle.std.proofs.lemmas.List.{length-map}
 use Rattle.std.proofs.lemmas.List.Elements.{All-nil, All-cons, All-head, All-tail, All-map, All-weaker}
 use Rattle.byteorder.specs.Endian.{little_bytes}
 use Rattle.q3_fields.specs.Kinds.{AreKinds}
-use Rattle.q3_fields.specs.States.{AreWords, normal_words}
+use Rattle.q3_fields.specs.States.{AreWords}
 use Rattle.q3_player.specs.declared.state.PlayerState.{PlayerState}
 use Rattle.q3_player.specs.declared.head.SnapHead.{SnapHead}
 use Rattle.q3_player.specs.State.{IsShort, AreShorts, IsState, IsNormal}
 use Rattle.q3_profile.specs.declared.profile.Profile.{Profile}
-use Rattle.q3_savestate.specs.Cursor.{Cursor, Field, number_at}
 use Rattle.q3_savestate.specs.Snapshots.{shorts_bytes, player_bytes, head_bytes, numbers_at, shorts_at, player_at, head_at}
-use Rattle.q3_savestate.proofs.Rows.{IsByte, ReadsBack, back_then, back_last, back_end, WasRead, HasRead, were_then, were_last, were_end, were_row}
+use Rattle.q3_savestate.proofs.Rows.{IsByte, ReadsBack, back_then, back_last, back_end, WasRead, were_then, were_last, were_end, were_row}
 use Rattle.q3_savestate.proofs.Parts.{bytes_read, bytes_were_read, number_read, number_was_read, words_read, words_were_read}
 
 -- ---- numbers
@@ -51,8 +50,8 @@ numbers_were_read bytes zero = were_row (flat_map (little_bytes bytes)) (λ numb
     (were_end [] ((refl, All-nil (λ n. n < 256 ^ bytes)), refl))
 numbers_were_read bytes (suc count) = were_row (flat_map (little_bytes bytes)) (λ numbers. (length numbers ≡ suc count) × All (λ n. n < 256 ^ bytes) numbers)
     (were_then _ (number_was_read bytes 0 (highest bytes)) (λ n fits.
-      were_last (λ others. n ∷ others) (numbers_were_read bytes count) (λ numbers are.
-        ((ap suc are.0, All-cons (λ n. n < 256 ^ bytes) n numbers fits.fits are.1), refl))))
+    were_last (λ others. n ∷ others) (numbers_were_read bytes count) (λ numbers are.
+    ((ap suc are.0, All-cons (λ n. n < 256 ^ bytes) n numbers fits.fits are.1), refl))))
 
 -- ---- signed values
 
@@ -103,11 +102,10 @@ shorts_read values are =
     (subst (ReadsBack shorts_at (flat_map (little_bytes 2) numbers)) (shorts_back values are.each) read)
 
 pub shorts_were_read : WasRead shorts_at shorts_bytes AreShorts
-shorts_were_read = were_row shorts_bytes AreShorts (were_last (λ numbers. map (cast_signed w16) numbers) (numbers_were_read 2 16) (λ numbers are.
-  (
-    record { count = length-map numbers (cast_signed w16) ∙ are.0; each = numbers_are_shorts numbers are.1 },
-    sym (patterns_text (map (cast_signed w16) numbers) ∙ ap (flat_map (little_bytes 2)) (patterns_back numbers are.1)),
-  )))
+shorts_were_read = were_row shorts_bytes AreShorts (were_last (λ numbers. map (cast_signed w16) numbers) (numbers_were_read 2 16) (λ numbers are. (
+  record { count = length-map numbers (cast_signed w16) ∙ are.0; each = numbers_are_shorts numbers are.1 },
+  sym (patterns_text (map (cast_signed w16) numbers) ∙ ap (flat_map (little_bytes 2)) (patterns_back numbers are.1)),
+)))
 
 -- ---- players
 
@@ -133,13 +131,17 @@ pub player_was_read : (profile : Profile) → AreKinds profile.player.kinds → 
 unfolding player_at
 player_was_read profile are = were_row (player_bytes profile) (IsPlayer profile)
     (were_then _ (words_were_read profile.player.kinds are) (λ words state.
-      were_then _ shorts_were_read (λ stats first.
-        were_then _ shorts_were_read (λ persistant second.
-          were_then _ shorts_were_read (λ ammo third.
-            were_then _ (numbers_were_read 4 16) (λ powerups last.
-              were_end (record { words = words; stats = stats; persistant = persistant; ammo = ammo; powerups = powerups })
-              ((record { words = state.0; stats = first; persistant = second; ammo = third; powerups = record { count = last.0; each = last.1 } },
-              ap (λ (words : List ℕ). record { words = words; stats = stats; persistant = persistant; ammo = ammo; powerups = powerups }) state.1), refl)))))))
+    were_then _ shorts_were_read (λ stats first.
+    were_then _ shorts_were_read (λ persistant second.
+    were_then _ shorts_were_read (λ ammo third.
+    were_then _ (numbers_were_read 4 16) (λ powerups last.
+    were_end (record { words = words; stats = stats; persistant = persistant; ammo = ammo; powerups = powerups }) (
+      (
+        record { words = state.0; stats = first; persistant = second; ammo = third; powerups = record { count = last.0; each = last.1 } },
+        ap (λ (words : List ℕ). record { words = words; stats = stats; persistant = persistant; ammo = ammo; powerups = powerups }) state.1,
+      ),
+      refl,
+    )))))))
 
 -- ---- heads
 
@@ -166,10 +168,11 @@ pub head_was_read : (profile : Profile) (number : ℕ) → AreKinds profile.play
 unfolding head_at
 head_was_read profile number are = were_row (head_bytes profile) (λ head. IsHead profile head × (head.number ≡ number))
     (were_then _ (number_was_read 4 0 4294967295) (λ time first.
-      were_then _ (number_was_read 1 0 255) (λ flags second.
-        were_then _ (number_was_read 1 0 32) (λ count third.
-          were_then _ (bytes_were_read count) (λ area fourth.
-            were_then _ (player_was_read profile are) (λ player is.
-              were_end (record { number = number; time = time; flags = flags; area = record { items = area }; player = player })
-              ((record { time = first.fits; flags = second.fits; area = fourth.1; short = omega (arith, fourth.0, third.below); player = is }, refl),
-              ap (λ (count : ℕ). concat (little_bytes 4 time ∷ little_bytes 1 flags ∷ little_bytes 1 count ∷ area ∷ player_bytes profile player ∷ [])) (sym fourth.0))))))))
+    were_then _ (number_was_read 1 0 255) (λ flags second.
+    were_then _ (number_was_read 1 0 32) (λ count third.
+    were_then _ (bytes_were_read count) (λ area fourth.
+    were_then _ (player_was_read profile are) (λ player is.
+    were_end (record { number = number; time = time; flags = flags; area = record { items = area }; player = player }) (
+      (record { time = first.fits; flags = second.fits; area = fourth.1; short = omega (arith, fourth.0, third.below); player = is }, refl),
+      ap (λ (count : ℕ). concat (little_bytes 4 time ∷ little_bytes 1 flags ∷ little_bytes 1 count ∷ area ∷ player_bytes profile player ∷ [])) (sym fourth.0),
+    )))))))

@@ -1,5 +1,5 @@
 -- The rules that snapshots keep which are read one after the other.
-use Rattle.std.proofs.Common.{◌≡◌, ℕ, zero, suc, ◌+◌, ◌-◌, ◌<◌, ◌≤◌, ◌==◌, ◌&&◌, ◌||◌, Bool, true, false, if◌then◌else◌, List, [], ◌∷◌, ◌++◌, length, get_or, set, Option, Some, None, inl, inr, refl, sym, ap, subst, ◌∙◌, arith}
+use Rattle.std.proofs.Common.{◌≡◌, ℕ, zero, suc, ◌+◌, ◌-◌, ◌<◌, ◌≤◌, ◌==◌, ◌&&◌, ◌||◌, true, false, List, [], ◌∷◌, length, get_or, set, Option, Some, None, inl, inr, refl, sym, ap, subst, arith}
 use Rattle.std.specs.Prelude.{All, IfSome, min, nat_lt, nat_le}
 use Rattle.std.specs.Option.{is_none}
 use Rattle.std.proofs.lemmas.Bool.{cases_lt, and_from, eq-eqb, le-leb, lt-ltb, or_left, or_right, cond_both}
@@ -71,8 +71,8 @@ next_is_slot snapshots n count held one holds is here ends most =
     let newest = is.newest in
     and_from (nat_lt held.newest number && nat_le number last_number && is_none (at_number held.places number)) (nat_lt 0 left || (number == snapshots.newest))
     (and_from (nat_lt held.newest number && nat_le number last_number) (is_none (at_number held.places number))
-      (and_from (nat_lt held.newest number) (nat_le number last_number) (lt-ltb held.newest number (omega (arith, there.1))) (le-leb number last_number most))
-      (ap is_none (next_is_free snapshots n held one is here)))
+    (and_from (nat_lt held.newest number) (nat_le number last_number) (lt-ltb held.newest number (omega (arith, there.1))) (le-leb number last_number most))
+    (ap is_none (next_is_free snapshots n held one is here)))
     (last_or_more snapshots n count number holds there.1 ends)
   where
     -- more are left, or it is the newest

@@ -1,6 +1,6 @@
 -- Snapshots that are put back by rising number: what is held so far, and in what order.
-use Rattle.std.proofs.Common.{◌≡◌, ◌≢◌, ◌⊎◌, ℕ, zero, suc, ◌+◌, ◌-◌, ◌^◌, ◌<◌, ◌≤◌, ◌==◌, ◌&&◌, ◌||◌, Bool, true, false, if◌then◌else◌, List, [], ◌∷◌, ◌++◌, length, get_or, set, Option, Some, None, inl, inr, refl, sym, ap, subst, ◌∙◌, arith}
-use Rattle.std.specs.Prelude.{All, IfSome, MatchOption, min, nat_lt, nat_le}
+use Rattle.std.proofs.Common.{◌≡◌, ◌≢◌, ℕ, zero, suc, ◌+◌, ◌-◌, ◌^◌, ◌<◌, ◌≤◌, ◌==◌, ◌&&◌, ◌||◌, true, false, [], ◌∷◌, ◌++◌, length, get_or, Option, Some, None, inl, inr, refl, sym, ap, subst, ◌∙◌, arith}
+use Rattle.std.specs.Prelude.{IfSome, MatchOption, min, nat_lt, nat_le}
 use Rattle.std.specs.Option.{is_none}
 use Rattle.std.proofs.lemmas.Bool.{cases_eq, eq-eqb, eqb-true, ne_eqb, and_parts, or_cases, ltb-true, leb-true, both_ways, cond_both}
 use Rattle.std.proofs.lemmas.List.{append-nil, get_or-set_same, get_or-set_other, nil_from_length}
@@ -9,7 +9,7 @@ use Rattle.std.proofs.lemmas.Option.{IfSome_then}
 use Rattle.q3_entity.specs.Entities.{most_entities}
 use Rattle.q3_ring.specs.Places.{most_places, place_of, at_number}
 use Rattle.q3_rings.specs.Rings.{HeldSnapshot, HeldSnapshots, IsHeldIn, AreHeldSnapshots, CanPutBack, is_young, no_snapshots, put_back_at}
-use Rattle.q3_rings.specs.ByNumber.{of_number, held_under, one_of, held_up_to, by_number, HoldsNewest}
+use Rattle.q3_rings.specs.ByNumber.{of_number, held_under, held_up_to, by_number}
 use Rattle.q3_rings.specs.Laws.{SnapshotsStay}
 use Rattle.q3_profile.specs.declared.profile.Profile.{Profile}
 use Rattle.q3_savestate.specs.Snapshots.{last_number, is_slot, most_of}
@@ -189,7 +189,7 @@ well_put profile held newest left most one stay so_far is =
       room = so_far.well.room;
       held = stay.put_back held one so_far.well.held (can_put_back profile held newest left most one so_far is);
       newest = inr (subst (λ o. MatchOption o ⊥ (λ (other : HeldSnapshot). other.snapshot.head.number ≡ number))
-        (sym (get_or-set_same held.places (place_of number) (Some one) None (omega arith))) refl);
+          (sym (get_or-set_same held.places (place_of number) (Some one) None (omega arith))) refl);
       each = All-set (λ place. IfSome place (IsHeldWell profile held.ring)) held.places (place_of number) (Some one) (is_well profile held newest left most one is) so_far.well.each;
     }
 

@@ -13,3 +13,4 @@ pub mod HeldRules
 pub mod SnapshotsBack
 pub mod HeldSoFar
 pub mod SnapshotsWere
+pub mod Whole

@@ -1,24 +1,23 @@
 -- Snapshots: what was written is read.
-use Rattle.std.proofs.Common.{◌≡◌, ◌⊎◌, ℕ, zero, suc, ◌+◌, ◌-◌, ◌^◌, ◌<◌, ◌≤◌, ◌==◌, Bool, true, false, if◌then◌else◌, List, [], ◌∷◌, ◌++◌, length, get_or, Option, Some, None, Ok, inl, inr, refl, sym, ap, subst, ◌∙◌, arith}
-use Rattle.std.specs.Prelude.{IfSome, MatchOption}
+use Rattle.std.proofs.Common.{◌≡◌, ℕ, zero, suc, ◌+◌, ◌-◌, ◌^◌, ◌<◌, ◌≤◌, ◌==◌, true, if◌then◌else◌, List, [], ◌∷◌, ◌++◌, length, Option, Some, Ok, inl, inr, refl, sym, ap, subst, arith}
+use Rattle.std.specs.Prelude.{IfSome}
 use Rattle.std.specs.List.{flat_map, concat}
 use Rattle.std.proofs.lemmas.Bool.{cases_lt, cond_both, eqb-false}
 use Rattle.std.proofs.lemmas.List.{append-nil}
 use Rattle.byteorder.specs.Endian.{little_bytes, little_number}
-use Rattle.q3_fields.specs.Kinds.{AreKinds, IsTable}
 use Rattle.q3_ring.specs.Places.{most_places, place_of}
-use Rattle.q3_rings.specs.Rings.{HeldSnapshot, HeldSnapshots, IsHeldIn, AreHeldSnapshots, is_young, no_snapshots, put_back_at}
-use Rattle.q3_rings.specs.ByNumber.{held_under, one_of, by_number, HoldsNewest}
+use Rattle.q3_rings.specs.Rings.{HeldSnapshot, HeldSnapshots, IsHeldIn, no_snapshots, put_back_at}
+use Rattle.q3_rings.specs.ByNumber.{held_under, one_of, HoldsNewest}
 use Rattle.q3_profile.specs.declared.profile.Profile.{Profile}
 use Rattle.q3_profile.specs.Profile.{IsCodec}
 use Rattle.q3_savestate.specs.Snapshots.{last_number, is_slot, slot_at, most_of, snapshot_bytes, snapshots_bytes, snapshot_at, snapshots_after, snapshots_at}
 use Rattle.q3_savestate.specs.Standing.{IsHeldWell, AreWellHeld}
 use Rattle.q3_savestate.proofs.Fields.{field_back, number_of_bytes}
-use Rattle.q3_savestate.proofs.Rows.{ReadsBack, reads_back, back_then, back_last, back_end}
+use Rattle.q3_savestate.proofs.Rows.{ReadsBack, reads_back, back_then, back_end}
 use Rattle.q3_savestate.proofs.Parts.{number_read, entities_read}
 use Rattle.q3_savestate.proofs.Heads.{IsHead, head_read}
 use Rattle.q3_savestate.proofs.HeldInOrder.{none_or_one, held_from, held_is_there, newest_is_held, some_left, IsUpTo, none_is_up_to, up_to_passes, up_to_put, up_to_newest}
-use Rattle.q3_savestate.proofs.HeldRules.{each_at, in_order, few_are_held, next_is_slot, AreYounger, all_are_younger, others_are_younger, next_are_younger, IsNext, next_is, few_entities}
+use Rattle.q3_savestate.proofs.HeldRules.{each_at, in_order, few_are_held, next_is_slot, AreYounger, all_are_younger, others_are_younger, next_are_younger, next_is, few_entities}
 
 -- a number that meets its rule
 slot_read : (held : HeldSnapshots) (newest left number : ℕ) → number < 2 ^ 31 → is_slot held newest left number ≡ true
@@ -72,7 +71,7 @@ others_read profile snapshots n (suc count) most held codec are ends is young =
           subst Reads (sym found.1)
           (back_then _ (snapshot_read profile held snapshots.newest (length rest) most _ snapshots.newest one codec may well next.place next.age)
           (others_read profile snapshots (suc n) count (one.age - length one.snapshot.entities) (put_back_at held one) codec are (omega arith)
-            (up_to_put snapshots n held one are.held is found.1) (next_are_younger snapshots n one are.held found.1)))
+          (up_to_put snapshots n held one are.held is found.1) (next_are_younger snapshots n one are.held found.1)))
     ]
 
 -- the newest number is one of a message
@@ -93,9 +92,9 @@ enough : (snapshots : HeldSnapshots) → HoldsNewest snapshots → (if snapshots
 enough snapshots holds =
     cond_both (snapshots.newest == 0) 0 1 (λ least. least ≤ length (held_from snapshots 0 snapshots.newest)) (λ none. omega arith)
     (λ some.
-      let apart = eqb-false snapshots.newest 0 some in
-      let same : suc (snapshots.newest - 1) ≡ snapshots.newest = omega arith in
-      subst (λ count. 1 ≤ length (held_from snapshots 0 count)) same (some_left snapshots 0 (snapshots.newest - 1) holds (omega arith)))
+    let apart = eqb-false snapshots.newest 0 some in
+    let same : suc (snapshots.newest - 1) ≡ snapshots.newest = omega arith in
+    subst (λ count. 1 ≤ length (held_from snapshots 0 count)) same (some_left snapshots 0 (snapshots.newest - 1) holds (omega arith)))
 
 -- all of them
 pub snapshots_read : (profile : Profile) (snapshots : HeldSnapshots) → IsCodec profile → AreWellHeld profile snapshots

@@ -1,6 +1,5 @@
 -- Snapshots: what is read is well held, and was written so.
-use Rattle.std.proofs.Common.{◌≡◌, ℕ, zero, suc, ◌+◌, ◌-◌, ◌^◌, ◌<◌, ◌≤◌, ◌==◌, Bool, true, false, if◌then◌else◌, List, [], ◌∷◌, ◌++◌, length, inl, inr, refl, sym, ap, subst, ◌∙◌, append_assoc, arith}
-use Rattle.std.specs.Prelude.{All}
+use Rattle.std.proofs.Common.{◌≡◌, ℕ, zero, suc, ◌-◌, ◌<◌, ◌≤◌, ◌==◌, true, if◌then◌else◌, List, [], ◌∷◌, ◌++◌, length, inl, inr, refl, sym, ap, subst, ◌∙◌, append_assoc, arith}
 use Rattle.std.specs.List.{flat_map, concat}
 use Rattle.std.proofs.lemmas.Bool.{cases_lt, cond_both, eqb-true}
 use Rattle.std.proofs.lemmas.List.{append-nil}
@@ -13,12 +12,11 @@ use Rattle.q3_rings.specs.ByNumber.{held_up_to, by_number}
 use Rattle.q3_rings.specs.Laws.{SnapshotsStay}
 use Rattle.q3_profile.specs.declared.profile.Profile.{Profile}
 use Rattle.q3_profile.specs.Profile.{IsCodec}
-use Rattle.q3_savestate.specs.Cursor.{Cursor}
-use Rattle.q3_savestate.specs.Entities.{entity_bytes, counted}
+use Rattle.q3_savestate.specs.Entities.{entity_bytes}
 use Rattle.q3_savestate.specs.Snapshots.{last_number, is_slot, slot_at, most_of, head_bytes, snapshot_bytes, snapshots_bytes, snapshot_at, snapshots_after, snapshots_at}
 use Rattle.q3_savestate.specs.Standing.{AreWellHeld}
 use Rattle.q3_savestate.proofs.Fields.{field_was, word_was}
-use Rattle.q3_savestate.proofs.Rows.{IsByte, WasRead, HasRead, were_then, were_end, were_row, were_so}
+use Rattle.q3_savestate.proofs.Rows.{WasRead, HasRead, were_then, were_end, were_row, were_so}
 use Rattle.q3_savestate.proofs.Parts.{IsWithin, number_was_read, entities_were_read, AreRising}
 use Rattle.q3_savestate.proofs.Heads.{IsHead, head_was_read}
 use Rattle.q3_savestate.proofs.HeldSoFar.{put_is_last, is_newer, IsReadNext, IsSoFar, none_so_far, one_more_so_far}
@@ -61,15 +59,14 @@ snapshot_was_read : (profile : Profile) (held : HeldSnapshots) (newest left most
 unfolding snapshot_at
 snapshot_was_read profile held newest left most codec = were_row (snapshot_bytes profile) (IsReadNext profile held newest left most)
     (were_then _ (slot_was_read held newest left) (λ number may.
-      were_then _ (number_was_read 4 0 most) (λ age young.
-        were_then _ (head_was_read profile number codec.player.kinds) (λ head is.
-          were_then _ (number_was_read 2 0 (most_of held.ring age)) (λ count few.
-            were_then _ (entities_were_read profile.entity count 0 codec.entity) (λ entities are.
-              were_end (record { snapshot = record { head = head; entities = entities }; age = age })
-              (
-                made profile held newest left most number age count head entities may young is.0 is.1 few are,
-                spelled profile number age count head entities is.1 are.long,
-              )))))))
+    were_then _ (number_was_read 4 0 most) (λ age young.
+    were_then _ (head_was_read profile number codec.player.kinds) (λ head is.
+    were_then _ (number_was_read 2 0 (most_of held.ring age)) (λ count few.
+    were_then _ (entities_were_read profile.entity count 0 codec.entity) (λ entities are.
+    were_end (record { snapshot = record { head = head; entities = entities }; age = age }) (
+      made profile held newest left most number age count head entities may young is.0 is.1 few are,
+      spelled profile number age count head entities is.1 are.long,
+    )))))))
 
 -- what was read behind what is held so far
 record IsReadOn (profile : Profile) (held : HeldSnapshots) (newest left : ℕ) (all : HeldSnapshots) (text : List ℕ) : Type 0 where
@@ -107,8 +104,8 @@ others_were_read profile newest zero most held codec stay so_far =
     were_end held (record { well = so_far.well; others = []; count = refl; order = sym (append-nil (by_number held)); spelled = refl; some = λ more. absurd (omega arith); none = λ none. refl })
 others_were_read profile newest (suc left) most held codec stay so_far =
     were_then _ (snapshot_was_read profile held newest left most codec) (λ one is.
-      were_so (others_were_read profile newest left (one.age - length one.snapshot.entities) (put_back_at held one) codec stay (one_more_so_far profile held newest left most one stay so_far is))
-      (λ all text on. read_on profile held newest left most one all text so_far is on))
+    were_so (others_were_read profile newest left (one.age - length one.snapshot.entities) (put_back_at held one) codec stay (one_more_so_far profile held newest left most one stay so_far is))
+    (λ all text on. read_on profile held newest left most one all text so_far is on))
 
 -- the newest number, how many there are, and all of them, as they are written
 whole : (profile : Profile) (newest count ring : ℕ) (all : HeldSnapshots) (text : List ℕ) → (if newest == 0 then 0 else 1) ≤ count
@@ -136,6 +133,6 @@ pub snapshots_were_read : (profile : Profile) → IsCodec profile → SnapshotsS
 unfolding snapshots_at
 snapshots_were_read profile codec stay room = were_row (snapshots_bytes profile) (AreWellHeld profile)
     (were_then _ (number_was_read 4 0 last_number) (λ newest below.
-      were_then _ (number_was_read 1 (if newest == 0 then 0 else 1) most_places) (λ count few.
-        were_so (others_were_read profile newest count 4294967295 (no_snapshots profile.parse_ring) codec stay (none_so_far profile 4294967295 stay room))
-        (λ all text on. (on.well, whole profile newest count profile.parse_ring all text few.above on)))))
+    were_then _ (number_was_read 1 (if newest == 0 then 0 else 1) most_places) (λ count few.
+    were_so (others_were_read profile newest count 4294967295 (no_snapshots profile.parse_ring) codec stay (none_so_far profile 4294967295 stay room))
+    (λ all text on. (on.well, whole profile newest count profile.parse_ring all text few.above on)))))
