@@ -5,3 +5,12 @@ pub mod EntitiesWere
 pub mod Gaps
 pub mod LinesBack
 pub mod TextsBack
+pub mod Rows
+pub mod Parts
+pub mod Heads
+pub mod HeldInOrder
+pub mod HeldRules
+pub mod SnapshotsBack
+pub mod HeldSoFar
+pub mod SnapshotsWere
+pub mod Whole

@@ -1,0 +1,5 @@
+use Rattle.q3_savestate.proofs.Whole.{read_is_written}
+use Rattle.q3_savestate.proofs.laws.read_is_written.Goals as goal
+
+pub returns : goal.returns
+returns c = read_is_written c.snapshots_stay.ensures
