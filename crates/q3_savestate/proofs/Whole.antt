@@ -217,5 +217,5 @@ whole_was_read profile stay codec room few =
 -- what is read was written so
 pub read_is_written : SnapshotsStay → ReadIsWritten
 unfolding state_at
-read_is_written stay profile bytes saved codec room few each e =
-    (whole_was_read profile stay codec room few).has (record { at = 0; bytes = bytes }) saved each e
+read_is_written stay profile bytes saved codec room each e =
+    (whole_was_read profile stay codec room codec.numbers.1).has (record { at = 0; bytes = bytes }) saved each e

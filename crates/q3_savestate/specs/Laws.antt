@@ -1,6 +1,5 @@
 -- Laws of states and their bytes.
 use Rattle.std.specs.Prelude.{◌≡◌, ℕ, ◌<◌, ◌≤◌, List, All, Ok}
-use Rattle.q3_fields.specs.Kinds.{most_number_bits}
 use Rattle.q3_profile.specs.declared.profile.Profile.{Profile}
 use Rattle.q3_profile.specs.Profile.{IsCodec}
 use Rattle.q3_savestate.specs.State.{Saved, state_bytes, state_at}
@@ -13,6 +12,5 @@ WrittenIsRead = (profile : Profile) (saved : Saved) → IsCodec profile → 512 
 
 -- what is read is a state that is well formed and in range, and was written so: of each state there is one spelling
 abbrev pub ReadIsWritten : Type 0
-ReadIsWritten = (profile : Profile) (bytes : List ℕ) (saved : Saved) → IsCodec profile → 512 ≤ profile.parse_ring
-    → profile.entity.number_bits ≤ most_number_bits → All (λ byte. byte < 256) bytes → state_at profile bytes ≡ Ok saved
-    → IsSaved profile saved × (bytes ≡ state_bytes profile saved)
+ReadIsWritten = (profile : Profile) (bytes : List ℕ) (saved : Saved) → IsCodec profile → 512 ≤ profile.parse_ring → All (λ byte. byte < 256) bytes
+    → state_at profile bytes ≡ Ok saved → IsSaved profile saved × (bytes ≡ state_bytes profile saved)
