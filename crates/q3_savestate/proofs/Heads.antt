@@ -15,7 +15,7 @@ use Rattle.q3_player.specs.State.{IsShort, AreShorts, IsState, IsNormal}
 use Rattle.q3_profile.specs.declared.profile.Profile.{Profile}
 use Rattle.q3_savestate.specs.Snapshots.{shorts_bytes, player_bytes, head_bytes, numbers_at, shorts_at, player_at, head_at}
 use Rattle.q3_savestate.proofs.Rows.{IsByte, ReadsBack, back_then, back_last, back_end, WasRead, were_then, were_last, were_end, were_row}
-use Rattle.q3_savestate.proofs.Parts.{bytes_read, bytes_were_read, number_read, number_was_read, words_read, words_were_read}
+use Rattle.q3_savestate.proofs.PartsRead.{bytes_read, bytes_were_read, number_read, number_was_read, words_read, words_were_read}
 
 -- ---- numbers
 
@@ -44,6 +44,7 @@ numbers_read bytes (suc count) (n ∷ numbers) few long fit =
     back_then _ (number_read bytes 0 (highest bytes) n below (omega arith) (at_most bytes n few below))
     (back_last (λ others. n ∷ others) (numbers_read bytes count numbers few (omega arith) (All-tail (λ n. n < 256 ^ bytes) n numbers fit)))
 
+-- so many are read, of so many bytes each
 pub numbers_were_read : (bytes count : ℕ) → WasRead (numbers_at bytes count) (flat_map (little_bytes bytes)) (λ numbers. (length numbers ≡ count) × All (λ n. n < 256 ^ bytes) numbers)
 unfolding numbers_at
 numbers_were_read bytes zero = were_row (flat_map (little_bytes bytes)) (λ numbers. (length numbers ≡ 0) × All (λ n. n < 256 ^ bytes) numbers)
@@ -64,9 +65,11 @@ patterns_text (value ∷ values) = ap (λ text. little_bytes 2 (cast_unsigned w1
 short_back : (value : ℤ) → IsShort value → cast_signed w16 (cast_unsigned w16 value) ≡ value
 short_back value is = omega (arith, ints)
 
+-- and the pattern has 16 bits
 pattern_fits : (value : ℤ) → IsShort value → cast_unsigned w16 value < 256 ^ 2
 pattern_fits value is = omega (arith, ints)
 
+-- so are all of them
 shorts_back : (values : List ℤ) → All IsShort values → map (cast_signed w16) (map (cast_unsigned w16) values) ≡ values
 shorts_back [] are = refl
 shorts_back (value ∷ values) are =
@@ -74,6 +77,7 @@ shorts_back (value ∷ values) are =
     let first = short_back value (All-head IsShort value values are) in
     cc
 
+-- and all patterns have 16 bits
 patterns_fit : (values : List ℤ) → All IsShort values → All (λ n. n < 256 ^ 2) (map (cast_unsigned w16) values)
 patterns_fit values are = All-map (λ n. n < 256 ^ 2) (cast_unsigned w16) values (All-weaker IsShort (λ value. cast_unsigned w16 value < 256 ^ 2) pattern_fits values are)
 
@@ -81,6 +85,7 @@ patterns_fit values are = All-map (λ n. n < 256 ^ 2) (cast_unsigned w16) values
 number_is_short : (n : ℕ) → n < 256 ^ 2 → IsShort (cast_signed w16 n)
 number_is_short n fits = (omega (arith, ints), omega (arith, ints))
 
+-- so are all of them
 patterns_back : (numbers : List ℕ) → All (λ n. n < 256 ^ 2) numbers → map (cast_unsigned w16) (map (cast_signed w16) numbers) ≡ numbers
 patterns_back [] fit = refl
 patterns_back (n ∷ numbers) fit =
@@ -88,6 +93,7 @@ patterns_back (n ∷ numbers) fit =
     let first = of_z-to_z w16 n (All-head (λ n. n < 256 ^ 2) n numbers fit) in
     cc
 
+-- and all of these are signed values of 16 bits
 numbers_are_shorts : (numbers : List ℕ) → All (λ n. n < 256 ^ 2) numbers → All IsShort (map (cast_signed w16) numbers)
 numbers_are_shorts numbers fit = All-map IsShort (cast_signed w16) numbers (All-weaker (λ n. n < 256 ^ 2) (λ n. IsShort (cast_signed w16 n)) number_is_short numbers fit)
 
@@ -101,6 +107,7 @@ shorts_read values are =
     subst (λ text. ReadsBack shorts_at text values) (sym (patterns_text values))
     (subst (ReadsBack shorts_at (flat_map (little_bytes 2) numbers)) (shorts_back values are.each) read)
 
+-- 16 are read
 pub shorts_were_read : WasRead shorts_at shorts_bytes AreShorts
 shorts_were_read = were_row shorts_bytes AreShorts (were_last (λ numbers. map (cast_signed w16) numbers) (numbers_were_read 2 16) (λ numbers are. (
   record { count = length-map numbers (cast_signed w16) ∙ are.0; each = numbers_are_shorts numbers are.1 },
@@ -113,6 +120,7 @@ shorts_were_read = were_row shorts_bytes AreShorts (were_last (λ numbers. map (
 powerups_read : (words : List ℕ) → AreWords 16 words → ReadsBack (numbers_at 4 16) (flat_map (little_bytes 4) words) words
 powerups_read words are = numbers_read 4 16 words (omega arith) are.count are.each
 
+-- a state in normal form is read
 pub player_read : (profile : Profile) (player : PlayerState) → AreKinds profile.player.kinds → IsState player → IsNormal profile.player.kinds player
     → ReadsBack (player_at profile) (player_bytes profile player) player
 unfolding player_at
@@ -127,6 +135,7 @@ player_read profile player are is normal =
 abbrev pub IsPlayer : Profile → PlayerState → Type 0
 IsPlayer profile player = IsState player × IsNormal profile.player.kinds player
 
+-- and what is read is one
 pub player_was_read : (profile : Profile) → AreKinds profile.player.kinds → WasRead (player_at profile) (player_bytes profile) (IsPlayer profile)
 unfolding player_at
 player_was_read profile are = were_row (player_bytes profile) (IsPlayer profile)
@@ -153,6 +162,7 @@ pub record IsHead (profile : Profile) (head : SnapHead) : Type 0 where
   pub short : length head.area.items ≤ 32
   pub player : IsPlayer profile head.player
 
+-- a head is read under its number
 pub head_read : (profile : Profile) (head : SnapHead) → AreKinds profile.player.kinds → IsHead profile head
     → ReadsBack (head_at profile head.number) (head_bytes profile head) head
 unfolding head_at
@@ -163,6 +173,7 @@ head_read profile head are is =
     (back_then _ (bytes_read (length head.area.items) head.area.items refl)
     (back_then _ (player_read profile head.player are is.player.0 is.player.1) (back_end head)))))
 
+-- and what is read is a head under it
 pub head_was_read : (profile : Profile) (number : ℕ) → AreKinds profile.player.kinds
     → WasRead (head_at profile number) (head_bytes profile) (λ head. IsHead profile head × (head.number ≡ number))
 unfolding head_at

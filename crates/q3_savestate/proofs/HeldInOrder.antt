@@ -20,6 +20,7 @@ abbrev pub held_from : HeldSnapshots → ℕ → ℕ → List HeldSnapshot
 held_from snapshots n zero = []
 held_from snapshots n (suc count) = one_of (held_under snapshots (suc n)) ++ held_from snapshots (suc n) count
 
+-- those up to a number, and those of so many behind it
 pub up_to_from : (snapshots : HeldSnapshots) (n count m : ℕ) → m ≡ n + count → held_up_to snapshots m ≡ held_up_to snapshots n ++ held_from snapshots n count
 unfolding held_up_to
 up_to_from snapshots n zero m is =
@@ -31,6 +32,7 @@ up_to_from snapshots n (suc count) m is =
 
 -- ---- what is held under a number
 
+-- what is held under a number is what stands in its place, and has that number
 under_one : (number : ℕ) (o : Option HeldSnapshot) (one : HeldSnapshot) → of_number number o ≡ Some one → (o ≡ Some one) × (one.snapshot.head.number ≡ number)
 under_one number None one is = absurd cc
 under_one number (Some held) one is = elim (cases_eq held.snapshot.head.number number) [
@@ -48,9 +50,10 @@ pub held_is_there : (snapshots : HeldSnapshots) (number : ℕ) (one : HeldSnapsh
     → (at_number snapshots.places number ≡ Some one) × (one.snapshot.head.number ≡ number)
 held_is_there snapshots number one is = under_one number (at_number snapshots.places number) one is
 
-under_none : (number place : ℕ) (o : Option HeldSnapshot) → of_number number o ≡ None → IfSome o (λ one. one.snapshot.head.number ≢ number)
-under_none number place None is = tt
-under_none number place (Some held) is = λ same.
+-- where none is, what stands there has another number
+under_none : (number : ℕ) (o : Option HeldSnapshot) → of_number number o ≡ None → IfSome o (λ one. one.snapshot.head.number ≢ number)
+under_none number None is = tt
+under_none number (Some held) is = λ same.
     let passes : of_number number (Some held) ≡ Some held = rw (eq-eqb held.snapshot.head.number number same) refl in
     cc
 
@@ -65,7 +68,7 @@ pub none_has_number : (snapshots : HeldSnapshots) (number : ℕ) → AreHeldSnap
 none_has_number snapshots number are none place = elim (cases_eq place (place_of number)) [
   | inl same ↦
       subst (λ place. IfSome (get_or snapshots.places place None) (λ one. one.snapshot.head.number ≢ number)) (sym same)
-      (under_none number place (at_number snapshots.places number) none)
+      (under_none number (at_number snapshots.places number) none)
   | inr other ↦ elsewhere snapshots.newest place number (get_or snapshots.places place None) other (are.each place)
 ]
 
@@ -74,6 +77,7 @@ newest_stands : (newest : ℕ) (o : Option HeldSnapshot) → MatchOption o ⊥ (
 newest_stands newest None stands = absurd stands
 newest_stands newest (Some one) stands = (one, rw (eq-eqb one.snapshot.head.number newest stands) refl)
 
+-- and it is held under its number
 pub newest_is_held : (snapshots : HeldSnapshots) → HoldsNewest snapshots → 0 < snapshots.newest → (one : HeldSnapshot) × (held_under snapshots snapshots.newest ≡ Some one)
 newest_is_held snapshots holds some = elim holds [
   | inl none ↦ absurd (omega arith)
@@ -111,10 +115,12 @@ nothing_at zero place = refl
 nothing_at (suc count) zero = refl
 nothing_at (suc count) (suc place) = nothing_at count place
 
+-- no number is 0
 up_to_none : (newest place : ℕ) (o : Option HeldSnapshot) → IfSome o (IsHeldIn newest place) → up_to 0 o ≡ None
 up_to_none newest place None is = refl
 up_to_none newest place (Some one) is = rw (lt-leb one.snapshot.head.number 0 is.some) refl
 
+-- so where nothing was put back, all up to 0 was
 pub none_is_up_to : (snapshots : HeldSnapshots) → AreHeldSnapshots snapshots → IsUpTo snapshots 0 (no_snapshots snapshots.ring)
 none_is_up_to snapshots are = record {
   ring = refl;
@@ -132,6 +138,7 @@ up_to_next n (Some one) other = elim (cases_lt n one.snapshot.head.number) [
   | inr within ↦ rw (le-leb one.snapshot.head.number n within, le-leb one.snapshot.head.number (suc n) (omega arith)) refl
 ]
 
+-- so what was put back up to one number was up to the next
 pub up_to_passes : (snapshots : HeldSnapshots) (n : ℕ) (held : HeldSnapshots) → AreHeldSnapshots snapshots → IsUpTo snapshots n held → held_under snapshots (suc n) ≡ None
     → IsUpTo snapshots (suc n) held
 up_to_passes snapshots n held are is none = record {
@@ -185,6 +192,7 @@ put_below place held one count above below =
           (IfSome_then (get_or held.places place None) below (λ other within. omega arith))
     ]
 
+-- with it all up to that number were put back
 pub up_to_put : (snapshots : HeldSnapshots) (n : ℕ) (held : HeldSnapshots) (one : HeldSnapshot) → AreHeldSnapshots snapshots → IsUpTo snapshots n held
     → held_under snapshots (suc n) ≡ Some one → IsUpTo snapshots (suc n) (put_back_at held one)
 up_to_put snapshots n held one are is here =
@@ -217,6 +225,7 @@ newest_same snapshots held holds is same = elim (cases_lt 0 snapshots.newest) [
       omega (arith, there.1, below)
 ]
 
+-- so what was put back up to the newest is all that is held
 pub up_to_newest : (snapshots held : HeldSnapshots) → AreHeldSnapshots snapshots → HoldsNewest snapshots → IsUpTo snapshots snapshots.newest held → held ≡ snapshots
 up_to_newest snapshots held are holds is =
     let same : (place : ℕ) → get_or held.places place None ≡ get_or snapshots.places place None =

@@ -23,11 +23,13 @@ filled [] = 0
 filled (None ∷ places) = filled places
 filled (Some one ∷ places) = suc (filled places)
 
+-- no more than there are
 filled_few : (places : List (Option HeldSnapshot)) → filled places ≤ length places
 filled_few [] = omega arith
 filled_few (None ∷ places) = let few = filled_few places in omega arith
 filled_few (Some one ∷ places) = let few = filled_few places in omega arith
 
+-- one that is put into a free place takes it
 filled_set : (places : List (Option HeldSnapshot)) (i : ℕ) (one : HeldSnapshot) → i < length places → get_or places i None ≡ None
     → filled (set places i (Some one)) ≡ suc (filled places)
 filled_set [] i one within free = absurd (omega arith)
@@ -55,6 +57,7 @@ pub in_order : (snapshots : HeldSnapshots) → by_number snapshots ≡ held_from
 unfolding held_up_to
 in_order snapshots = up_to_from snapshots 0 snapshots.newest snapshots.newest (omega arith)
 
+-- so no more than 32 are held
 pub few_are_held : (snapshots : HeldSnapshots) → AreHeldSnapshots snapshots → length (held_from snapshots 0 snapshots.newest) ≤ most_places
 few_are_held snapshots are = let few = few_from snapshots 0 snapshots.newest (no_snapshots snapshots.ring) are (none_is_up_to snapshots are) in omega arith
 
@@ -97,17 +100,20 @@ each_at P places place each = elim (cases_lt place (length places)) [
 pub record AreYounger (snapshots : HeldSnapshots) (n most : ℕ) : Type 0 where
   pub each : (place : ℕ) → IfSome (get_or snapshots.places place None) (λ other. n < other.snapshot.head.number → other.age ≤ most)
 
+-- an age has 32 bits
 pub all_are_younger : (profile : Profile) (snapshots : HeldSnapshots) → AreWellHeld profile snapshots → AreYounger snapshots 0 4294967295
 all_are_younger profile snapshots are = record {
   each = λ place. IfSome_then (get_or snapshots.places place None) (each_at (IsHeldWell profile snapshots.ring) snapshots.places place are.each)
       (λ other well above. let age = well.age in omega arith);
 }
 
+-- those above the next number are among them
 pub others_are_younger : (snapshots : HeldSnapshots) (n most : ℕ) → AreYounger snapshots n most → AreYounger snapshots (suc n) most
 others_are_younger snapshots n most are = record {
   each = λ place. IfSome_then (get_or snapshots.places place None) (are.each place) (λ other age above. age (omega arith));
 }
 
+-- and those above one that is held are younger than it, by its entities
 pub next_are_younger : (snapshots : HeldSnapshots) (n : ℕ) (one : HeldSnapshot) → AreHeldSnapshots snapshots → held_under snapshots (suc n) ≡ Some one
     → AreYounger snapshots (suc n) (one.age - length one.snapshot.entities)
 next_are_younger snapshots n one are here =
@@ -127,6 +133,7 @@ pub record IsNext (profile : Profile) (snapshots : HeldSnapshots) (n most : ℕ)
   pub well : IsHeldWell profile snapshots.ring one
   pub age : one.age ≤ most
 
+-- so it is
 pub next_is : (profile : Profile) (snapshots : HeldSnapshots) (n most : ℕ) (one : HeldSnapshot) → AreWellHeld profile snapshots → AreYounger snapshots n most
     → held_under snapshots (suc n) ≡ Some one → IsNext profile snapshots n most one
 next_is profile snapshots n most one are young here =

@@ -14,7 +14,7 @@ use Rattle.q3_rings.specs.Laws.{SnapshotsStay}
 use Rattle.q3_profile.specs.declared.profile.Profile.{Profile}
 use Rattle.q3_savestate.specs.Snapshots.{last_number, is_slot, most_of}
 use Rattle.q3_savestate.specs.Standing.{IsHeldWell, AreWellHeld}
-use Rattle.q3_savestate.proofs.Parts.{AreRising}
+use Rattle.q3_savestate.proofs.PartsRead.{AreRising}
 use Rattle.q3_savestate.proofs.Heads.{IsHead}
 use Rattle.q3_savestate.proofs.HeldInOrder.{held_from, up_to_from, nothing_at}
 
@@ -30,6 +30,7 @@ put_is_held held one count =
 of_another : (number : ℕ) (one : HeldSnapshot) → number ≢ one.snapshot.head.number → of_number number (Some one) ≡ None
 of_another number one other = rw (ne_eqb one.snapshot.head.number number (λ same. other (sym same))) refl
 
+-- under another number
 put_under : (held : HeldSnapshots) (one : HeldSnapshot) (number : ℕ) → length held.places ≡ most_places → at_number held.places one.snapshot.head.number ≡ None
     → number ≢ one.snapshot.head.number → held_under (put_back_at held one) number ≡ held_under held number
 put_under held one number count free other =
@@ -43,6 +44,7 @@ put_under held one number count free other =
       | inr apart ↦ ap (of_number number) (get_or-set_other held.places own (place_of number) (Some one) None apart)
     ]
 
+-- up to a lower number
 put_up_to : (held : HeldSnapshots) (one : HeldSnapshot) (number : ℕ) → length held.places ≡ most_places → at_number held.places one.snapshot.head.number ≡ None
     → number < one.snapshot.head.number → held_up_to (put_back_at held one) number ≡ held_up_to held number
 unfolding held_up_to
@@ -57,12 +59,14 @@ not_above : (newest number place : ℕ) (o : Option HeldSnapshot) → newest < n
 not_above newest number place None above is = refl
 not_above newest number place (Some one) above is = let accepted = is.accepted in of_another number one (omega arith)
 
+-- so nothing is left behind it
 none_from : (held : HeldSnapshots) (n count : ℕ) → AreHeldSnapshots held → held.newest ≤ n → held_from held n count ≡ []
 none_from held n zero are above = refl
 none_from held n (suc count) are above =
     let none = not_above held.newest (suc n) (place_of (suc n)) (at_number held.places (suc n)) (omega arith) (are.each (place_of (suc n))) in
     rw none (none_from held (suc n) count are (omega arith))
 
+-- and all are those up to any higher number
 up_to_above : (held : HeldSnapshots) (n : ℕ) → AreHeldSnapshots held → held.newest ≤ n → held_up_to held n ≡ by_number held
 up_to_above held n are above =
     up_to_from held held.newest (n - held.newest) n (omega arith)
@@ -78,6 +82,7 @@ last_is held one n is are newer free =
     let last : held_under (put_back_at held one) (suc n) ≡ Some one = subst (λ number. held_under (put_back_at held one) number ≡ Some one) is (put_is_held held one are.count) in
     rw (front, last) refl
 
+-- behind all of them
 pub put_is_last : (held : HeldSnapshots) (one : HeldSnapshot) → AreHeldSnapshots held → held.newest < one.snapshot.head.number
     → at_number held.places one.snapshot.head.number ≡ None → by_number (put_back_at held one) ≡ by_number held ++ one ∷ []
 put_is_last held one are newer free =
@@ -93,6 +98,7 @@ pub record IsNewer (held : HeldSnapshots) (newest left number : ℕ) : Type 0 wh
   pub free : at_number held.places number ≡ None
   pub last : left ≡ 0 → number ≡ newest
 
+-- where its test passes, it is so
 pub is_newer : (held : HeldSnapshots) (newest left number : ℕ) → is_slot held newest left number ≡ true → IsNewer held newest left number
 is_newer held newest left number may =
     let four = and_parts (nat_lt held.newest number && nat_le number last_number && is_none (at_number held.places number)) (nat_lt 0 left || (number == newest)) may in
@@ -155,6 +161,7 @@ pub record IsSoFar (profile : Profile) (most : ℕ) (held : HeldSnapshots) : Typ
   pub well : AreWellHeld profile held
   pub older : (place : ℕ) → IfSome (get_or held.places place None) (λ one. length one.snapshot.entities + most ≤ one.age)
 
+-- where nothing was read
 pub none_so_far : (profile : Profile) (most : ℕ) → SnapshotsStay → 512 ≤ profile.parse_ring → IsSoFar profile most (no_snapshots profile.parse_ring)
 none_so_far profile most stay room = record {
   well = record {
@@ -166,6 +173,7 @@ none_so_far profile most stay room = record {
   older = λ place. subst (λ o. IfSome o (λ one. length one.snapshot.entities + most ≤ one.age)) (sym (nothing_at most_places place)) tt;
 }
 
+-- what is read next may be put back
 can_put_back : (profile : Profile) (held : HeldSnapshots) (newest left most : ℕ) (one : HeldSnapshot) → IsSoFar profile most held → IsReadNext profile held newest left most one
     → CanPutBack held one.snapshot.head.number one.age (length one.snapshot.entities)
 can_put_back profile held newest left most one so_far is =
@@ -211,6 +219,7 @@ older_put profile held newest left most place one so_far is =
           (IfSome_then (get_or held.places place None) (so_far.older place) (λ other older. omega arith))
     ]
 
+-- one more is held so far
 pub one_more_so_far : (profile : Profile) (held : HeldSnapshots) (newest left most : ℕ) (one : HeldSnapshot) → SnapshotsStay → IsSoFar profile most held
     → IsReadNext profile held newest left most one → IsSoFar profile (one.age - length one.snapshot.entities) (put_back_at held one)
 one_more_so_far profile held newest left most one stay so_far is = record {

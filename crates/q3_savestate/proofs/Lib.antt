@@ -6,7 +6,7 @@ pub mod Gaps
 pub mod LinesBack
 pub mod TextsBack
 pub mod Rows
-pub mod Parts
+pub mod PartsRead
 pub mod Heads
 pub mod HeldInOrder
 pub mod HeldRules

@@ -5,6 +5,7 @@ use Rattle.q3_bits.specs.ResultBind.{◌>>=◌, bind_ok, bind_is}
 use Rattle.q3_savestate.specs.Cursor.{Cursor, Field}
 use Rattle.q3_savestate.proofs.Fields.{Took, took_none, took_both, carried}
 
+-- a byte
 abbrev pub IsByte : ℕ → Type 0
 IsByte byte = byte < 256
 

@@ -14,7 +14,7 @@ use Rattle.q3_savestate.specs.Snapshots.{last_number, is_slot, slot_at, most_of,
 use Rattle.q3_savestate.specs.Standing.{IsHeldWell, AreWellHeld}
 use Rattle.q3_savestate.proofs.Fields.{field_back, number_of_bytes}
 use Rattle.q3_savestate.proofs.Rows.{ReadsBack, reads_back, back_then, back_end}
-use Rattle.q3_savestate.proofs.Parts.{number_read, entities_read}
+use Rattle.q3_savestate.proofs.PartsRead.{number_read, entities_read}
 use Rattle.q3_savestate.proofs.Heads.{IsHead, head_read}
 use Rattle.q3_savestate.proofs.HeldInOrder.{none_or_one, held_from, held_is_there, newest_is_held, some_left, IsUpTo, none_is_up_to, up_to_passes, up_to_put, up_to_newest}
 use Rattle.q3_savestate.proofs.HeldRules.{each_at, in_order, few_are_held, next_is_slot, AreYounger, all_are_younger, others_are_younger, next_are_younger, next_is, few_entities}

@@ -17,7 +17,7 @@ use Rattle.q3_savestate.specs.Snapshots.{last_number, is_slot, slot_at, most_of,
 use Rattle.q3_savestate.specs.Standing.{AreWellHeld}
 use Rattle.q3_savestate.proofs.Fields.{field_was, word_was}
 use Rattle.q3_savestate.proofs.Rows.{WasRead, HasRead, were_then, were_end, were_row, were_so}
-use Rattle.q3_savestate.proofs.Parts.{IsWithin, number_was_read, entities_were_read, AreRising}
+use Rattle.q3_savestate.proofs.PartsRead.{IsWithin, number_was_read, entities_were_read, AreRising}
 use Rattle.q3_savestate.proofs.Heads.{IsHead, head_was_read}
 use Rattle.q3_savestate.proofs.HeldSoFar.{put_is_last, is_newer, IsReadNext, IsSoFar, none_so_far, one_more_so_far}
 
@@ -97,6 +97,7 @@ read_on profile held newest left most one all text so_far is on =
       none = λ none. absurd (omega arith);
     }
 
+-- so many, one after the other
 others_were_read : (profile : Profile) (newest left most : ℕ) (held : HeldSnapshots) → IsCodec profile → SnapshotsStay → IsSoFar profile most held
     → HasRead (snapshots_after profile newest left most held) (IsReadOn profile held newest left)
 unfolding snapshots_after

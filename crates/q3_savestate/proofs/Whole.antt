@@ -23,7 +23,7 @@ use Rattle.q3_savestate.specs.State.{Saved, Start, flag_bytes, state_bytes, star
 use Rattle.q3_savestate.specs.Standing.{IsSaved, AreWellHeld}
 use Rattle.q3_savestate.specs.Laws.{WrittenIsRead, ReadIsWritten}
 use Rattle.q3_savestate.proofs.Rows.{ReadsBack, back_then, back_last, back_end, ReadsAllBack, all_back_then, WasRead, were_then, were_last, were_end, were_row, HasReadAll, all_were_then}
-use Rattle.q3_savestate.proofs.Parts.{MayPend, MayBeStrings, number_read, number_was_read, text_read, text_was_read, pending_read, pending_was_read, strings_read, strings_were_read, lines_read, lines_were_read}
+use Rattle.q3_savestate.proofs.PartsRead.{MayPend, MayBeStrings, number_read, number_was_read, text_read, text_was_read, pending_read, pending_was_read, strings_read, strings_were_read, lines_read, lines_were_read}
 use Rattle.q3_savestate.proofs.SnapshotsBack.{snapshots_read}
 use Rattle.q3_savestate.proofs.SnapshotsWere.{snapshots_were_read}
 
@@ -35,6 +35,7 @@ start_text start =
     concat (little_bytes 4 start.number ∷ little_bytes 4 start.id ∷ little_bytes 4 start.slot ∷ little_bytes 4 start.feed
     ∷ little_bytes 4 start.executed.executed ∷ little_bytes 2 (length start.executed.last) ∷ start.executed.last ∷ [])
 
+-- numbers in their ranges, and a text
 record IsStart (start : Start) : Type 0 where
   number : start.number < 2 ^ 31
   id : start.id < 2 ^ 31
@@ -43,6 +44,7 @@ record IsStart (start : Start) : Type 0 where
   executed : start.executed.executed < 2 ^ 32
   last : IsText start.executed.last
 
+-- they are read
 start_read : (start : Start) → IsStart start → ReadsBack start_at (start_text start) start
 unfolding start_at
 start_read start is =
@@ -60,6 +62,7 @@ start_read start is =
     (back_then _ (number_read 2 0 most_bytes (length start.executed.last) (omega arith) (omega arith) short)
     (back_then _ (text_read start.executed.last is.last.each) (back_end start)))))))
 
+-- and what is read is so
 start_was_read : WasRead start_at start_text IsStart
 unfolding start_at
 start_was_read = were_row start_text IsStart
@@ -88,6 +91,7 @@ start_was_read = were_row start_text IsStart
 
 -- ---- a flag
 
+-- a flag is read
 flag_read : (flag : Bool) → ReadsBack flag_at (flag_bytes flag) flag
 flag_read true = back_last (λ (number : ℕ). not (number == 0)) (number_read 1 0 1 1 (omega arith) (omega arith) (omega arith))
 flag_read false = back_last (λ (number : ℕ). not (number == 0)) (number_read 1 0 1 0 (omega arith) (omega arith) (omega arith))
@@ -99,6 +103,7 @@ of_flag number few = elim (cases_eq number 0) [
   | inr some ↦ let one : 1 ≡ number = omega arith in subst (λ number. little_bytes 1 number ≡ flag_bytes (not (number == 0))) one refl
 ]
 
+-- and what is read is one
 flag_was_read : WasRead flag_at flag_bytes (λ flag. Unit {0})
 flag_was_read = were_row flag_bytes (λ flag. Unit {0}) (were_last (λ (number : ℕ). not (number == 0)) (number_was_read 1 0 1) (λ number is. (tt, of_flag number is.below)))
 
@@ -108,10 +113,12 @@ flag_was_read = were_row flag_bytes (λ flag. Unit {0}) (were_last (λ (number :
 end_read : (saved : Saved) → ReadsAllBack (λ cursor. end_at cursor >>= λ none. Ok saved) [] saved
 end_read saved = record { from = λ cursor is. let none : (length cursor.bytes == 0) ≡ true = eq-eqb (length cursor.bytes) 0 (ap length is) in rw none refl }
 
+-- where the end is there, its test passed
 ends : (test : Bool) (at : ℕ) (none : Unit {0}) → (if test then Ok tt else Err at) ≡ Ok none → test ≡ true
 ends true at none is = refl
 ends false at none is = absurd cc
 
+-- so what is read to its end is the whole text
 end_was_read : {Q : Saved → List ℕ → Type 0} (saved : Saved) → Q saved [] → HasReadAll (λ cursor. end_at cursor >>= λ none. Ok saved) Q
 end_was_read {Q = Q} saved holds = record {
   has = λ cursor all bytes is.
@@ -149,9 +156,11 @@ whole_at profile cursor = do
 abbrev start_of : Saved → Start
 start_of saved = record { number = saved.number; id = saved.id; slot = saved.slot; feed = saved.feed; executed = saved.executed }
 
+-- of a state that is well formed it is in range
 is_start : (profile : Profile) (saved : Saved) → IsSaved profile saved → IsStart (start_of saved)
 is_start profile saved is = record { number = is.number; id = is.id; slot = is.slot; feed = is.feed; executed = is.executed; last = is.last }
 
+-- it is read
 whole_read : (profile : Profile) (saved : Saved) → IsCodec profile → IsSaved profile saved → ReadsAllBack (whole_at profile) (state_bytes profile saved) saved
 whole_read profile saved codec is =
     all_back_then _ (start_read (start_of saved) (is_start profile saved is))
@@ -203,6 +212,7 @@ is_saved profile start pending has_game texts lines held first second third four
 abbrev IsWritten : Profile → Saved → List ℕ → Type 0
 IsWritten profile saved text = IsSaved profile saved × (text ≡ state_bytes profile saved)
 
+-- and what is read is one, and its text
 whole_was_read : (profile : Profile) → SnapshotsStay → IsCodec profile → 512 ≤ profile.parse_ring → profile.entity.number_bits ≤ most_number_bits
     → HasReadAll (whole_at profile) (IsWritten profile)
 whole_was_read profile stay codec room few =

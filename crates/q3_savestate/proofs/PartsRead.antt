@@ -34,6 +34,7 @@ bytes_read count bytes long =
     reads_back (field_at count (λ bytes. bytes) (λ bytes. true)) bytes bytes count
     (λ at rest. field_back count (λ bytes. bytes) (λ bytes. true) bytes bytes rest at long refl refl)
 
+-- so many stood there
 pub bytes_were_read : (count : ℕ) → WasRead (field_at count (λ bytes. bytes) (λ bytes. true)) (λ bytes. bytes) (λ bytes. (length bytes ≡ count) × All IsByte bytes)
 bytes_were_read count = record {
   was = λ cursor x left bytes is.
@@ -55,6 +56,7 @@ pub record IsWithin (count least most n : ℕ) : Type 0 where
   pub below : n ≤ most
   pub fits : n < 256 ^ count
 
+-- a number that is read is within them, and its bytes stood there
 pub number_was_read : (count least most : ℕ) → WasRead (number_at count least most) (little_bytes count) (IsWithin count least most)
 number_was_read count least most = record {
   was = λ cursor n left bytes is.
@@ -64,11 +66,13 @@ number_was_read count least most = record {
 
 -- ---- words
 
+-- a state's words
 pub words_read : (kinds : List Kind) (words : List ℕ) → AreKinds kinds → AreWords 64 words → normal_words kinds words ≡ words
     → ReadsBack (state_words_at kinds) (words_bytes kinds words) words
 words_read kinds words are state normal =
     reads_back (state_words_at kinds) (words_bytes kinds words) words (length (words_bytes kinds words)) (λ at rest. words_back kinds words at rest are.few state normal)
 
+-- words that are read are in normal form
 pub words_were_read : (kinds : List Kind) → AreKinds kinds → WasRead (state_words_at kinds) (words_bytes kinds) (λ words. AreWords 64 words × (normal_words kinds words ≡ words))
 words_were_read kinds are = record {
   was = λ cursor words left bytes is. let was = reads_words kinds cursor words left are.few bytes is in ((was.are, was.normal), was.took);
@@ -76,6 +80,7 @@ words_were_read kinds are = record {
 
 -- ---- entities
 
+-- entities by rising number
 pub entities_read : (table : Layout) (least : ℕ) (entities : List EntityState) → IsTable table → RiseFrom (end_mark table) least entities → AreStates entities
     → AreNormal table entities → ReadsBack (entities_at table (length entities) least) (flat_map (entity_bytes table) entities) entities
 entities_read table least entities is rise states normal =
@@ -89,6 +94,7 @@ pub record AreRising (table : Layout) (count least : ℕ) (entities : List Entit
   pub states : AreStates entities
   pub normal : AreNormal table entities
 
+-- entities that are read rise
 pub entities_were_read : (table : Layout) (count least : ℕ) → IsTable table
     → WasRead (entities_at table count least) (flat_map (entity_bytes table)) (AreRising table count least)
 entities_were_read table count least is = record {
@@ -99,9 +105,11 @@ entities_were_read table count least is = record {
 
 -- ---- texts
 
+-- bytes that a text may hold
 pub text_read : (text : List ℕ) → All IsTextByte text → ReadsBack (text_at (length text)) text text
 text_read text each = reads_back (text_at (length text)) text text (length text) (λ at rest. text_back text at rest each)
 
+-- and only such bytes are read
 pub text_was_read : (count : ℕ) → WasRead (text_at count) (λ text. text) (λ text. (length text ≡ count) × All IsTextByte text)
 text_was_read count = record {
   was = λ cursor text left bytes is. let was = worded count cursor text left bytes is in ((was.long, was.each), was.took);
@@ -114,9 +122,11 @@ pub record MayPend (pending : Option Pending) : Type 0 where
   pub fits : IfSome pending (λ pending. (pending.index < places) × (length pending.text ≤ longest_string))
   pub each : IfSome pending (λ pending. All IsTextByte pending.text)
 
+-- what may be pending is read
 pub pending_read : (pending : Option Pending) → MayPend pending → ReadsBack pending_at (pending_bytes pending) pending
 pending_read pending is = reads_back pending_at (pending_bytes pending) pending (length (pending_bytes pending)) (λ at rest. pending_back pending at rest is.fits is.each)
 
+-- and what is read may be pending
 pub pending_was_read : WasRead pending_at pending_bytes MayPend
 pending_was_read = record {
   was = λ cursor pending left bytes e.
@@ -129,6 +139,7 @@ pending_was_read = record {
       );
 }
 
+-- config strings are read
 pub strings_read : (strings : Strings) → AreStrings strings → HoldTexts strings → ReadsBack strings_at (strings_bytes strings.texts) strings.texts
 strings_read strings are hold =
     reads_back strings_at (strings_bytes strings.texts) strings.texts (length (strings_bytes strings.texts)) (λ at rest. strings_back strings strings.texts at rest are hold refl)
@@ -140,6 +151,7 @@ pub record MayBeStrings (texts : List (List ℕ)) : Type 0 where
   pub short : All (λ text. length text ≤ longest_string) texts
   pub each : All (All IsTextByte) texts
 
+-- and what is read may be config strings
 pub strings_were_read : WasRead strings_at strings_bytes MayBeStrings
 strings_were_read = record {
   was = λ cursor texts left bytes e.
@@ -147,10 +159,12 @@ strings_were_read = record {
       (record { count = was.long; size = was.fits; short = was.short; each = was.each }, was.took);
 }
 
+-- baselines are read
 pub lines_read : (table : Layout) (lines : Lines) → IsTable table → AreLines table lines → ReadsBack (lines_at table) (lines_bytes table lines) lines
 lines_read table lines is are =
     reads_back (lines_at table) (lines_bytes table lines) lines (length (lines_bytes table lines)) (λ at rest. lines_back table lines at rest is are)
 
+-- and what is read are baselines, where no number is above the last place
 pub lines_were_read : (table : Layout) → IsTable table → end_mark table ≤ most_lines → WasRead (lines_at table) (lines_bytes table) (AreLines table)
 lines_were_read table is few = record {
   was = λ cursor lines left bytes e. let was = reads_lines table cursor lines left is few bytes e in (was.are, was.took);
