@@ -6,10 +6,11 @@ ghost use Rattle.q3_demo.specs.Running.{OnlyAsks};
 ghost use Rattle.q3_index.specs.Running.{Seeks, SeekCause};
 
 use crate::error::SeekError;
-use q3_clstate::{ClState, StateError};
+use q3_clstate::ClState;
 use q3_demo::{DemoError, Player, read_whole};
 use q3_io::Files;
 use q3_profile::Profile;
+use q3_savestate::StateError;
 use std::alloc::Global;
 use std::marker::Model;
 
