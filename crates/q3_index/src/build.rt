@@ -5,8 +5,7 @@ ghost use Rattle.q3_io.specs.Told.{Told, contents_at, contents_of, name_of};
 ghost use Rattle.q3_index.specs.Running.{Builds, BuildCause, BuildWrites};
 
 use crate::index::SPACING;
-use crate::opening::{CHECKPOINT_BYTES, MAGIC};
-use byteorder::{ByteOrder, LittleEndian};
+use crate::opening::{HEAD_BYTES, MAGIC};
 use q3_demo::{DemoError, Player};
 use q3_io::Files;
 use q3_profile::Profile;
@@ -48,7 +47,7 @@ pub fn build_index<F: Files>(
         records,
         checkpoints: records / SPACING,
     };
-    write_head(length, profile.mark, built, files, index)?;
+    write_head(alloc, length, profile.mark, built, files, index)?;
     write_checkpoints(alloc, profile, files, demo, index, built)?;
     Ok(built)
 }
@@ -61,13 +60,13 @@ fn count_records<F: Files>(alloc: Global, profile: &Profile, files: &mut F, demo
 }
 
 /// Writes the head of an index.
-fn write_head<F: Files>(length: u64, mark: u64, built: Built, files: &mut F, index: usize) -> Result<(), DemoError> {
-    let mut bytes = [0; 32];
-    bytes[..8].copy_from_slice(MAGIC);
-    LittleEndian::write_u64(&mut bytes[8..], length);
-    LittleEndian::write_u64(&mut bytes[16..], mark);
-    LittleEndian::write_u32(&mut bytes[24..], built.records);
-    LittleEndian::write_u32(&mut bytes[28..], built.checkpoints);
+fn write_head<F: Files>(alloc: Global, length: u64, mark: u64, built: Built, files: &mut F, index: usize) -> Result<(), DemoError> {
+    let mut bytes = Vec::with_capacity(alloc, HEAD_BYTES)?;
+    bytes.extend_from_slice(MAGIC)?;
+    bytes.extend_from_slice(&length.to_le_bytes())?;
+    bytes.extend_from_slice(&mark.to_le_bytes())?;
+    bytes.extend_from_slice(&built.records.to_le_bytes())?;
+    bytes.extend_from_slice(&built.checkpoints.to_le_bytes())?;
     append(files, index, &bytes)
 }
 
@@ -87,23 +86,25 @@ fn write_checkpoints<F: Files>(
             return Ok(());
         }
         if player.records() % SPACING == 0 {
-            put_checkpoint(&player, &mut bytes)?;
-            append(files, index, &bytes)?;
+            write_checkpoint(&player, files, index, &mut bytes)?;
         }
     }
     Ok(())
 }
 
-/// What a checkpoint has: how many records, the place of the next one, and what they left, behind its length.
-fn put_checkpoint(player: &Player, bytes: &mut Vec<u8>) -> Result<(), DemoError> {
+/// Writes a checkpoint: how many records, the place of the next one, and what they left, behind its length. The bytes are a place for it.
+fn write_checkpoint<F: Files>(player: &Player, files: &mut F, index: usize, bytes: &mut Vec<u8>) -> Result<(), DemoError> {
     bytes.clear();
-    bytes.extend_from_slice(&[0; CHECKPOINT_BYTES])?;
     player.state().write_state(bytes)?;
-    let length = (bytes.len() - CHECKPOINT_BYTES) as u32;
-    LittleEndian::write_u32(bytes, player.records());
-    LittleEndian::write_u64(&mut bytes[4..], player.place());
-    LittleEndian::write_u32(&mut bytes[12..], length);
-    Ok(())
+    write_numbers(player.records(), player.place(), bytes.len() as u32, files, index)?;
+    append(files, index, bytes)
+}
+
+/// Writes what stands in front of a checkpoint's state.
+fn write_numbers<F: Files>(records: u32, place: u64, length: u32, files: &mut F, index: usize) -> Result<(), DemoError> {
+    append(files, index, &records.to_le_bytes())?;
+    append(files, index, &place.to_le_bytes())?;
+    append(files, index, &length.to_le_bytes())
 }
 
 /// Puts bytes behind those of the index.
