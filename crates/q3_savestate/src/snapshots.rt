@@ -71,7 +71,7 @@ fn write_numbered<O: Sink>(profile: &Profile, rings: &Rings, number: u32, out: &
 /// Writes a snapshot: its number, its age, its head, and its entities as far as they are there.
 fn write_snapshot<O: Sink>(profile: &Profile, held: Held, entities: Run, out: &mut O) -> Result<(), Failed>
     requires age { held.age < 2 ^ 32 }
-    requires few { length (run_of entities.entry) ≤ most_entities }
+    requires few { length (run_of entities) ≤ most_entities }
     ensures adds { Adds (O.written out.old) (O.written out.new) (snapshot_bytes profile.now (record { snapshot = record { head = held.entry.head.now; entities = run_of entities.entry }; age = held.entry.age })) result }
     ensures cause { HasCause (O.faults out.old) (O.faults out.new) result }
 {
@@ -84,7 +84,7 @@ fn write_snapshot<O: Sink>(profile: &Profile, held: Held, entities: Run, out: &m
 
 /// Writes entities behind their number.
 fn write_run<O: Sink>(profile: &Profile, entities: Run, out: &mut O) -> Result<(), Failed>
-    requires few { length (run_of entities.entry) ≤ most_entities }
+    requires few { length (run_of entities) ≤ most_entities }
     ensures adds { Adds (O.written out.old) (O.written out.new) (counted (entity_bytes profile.now.entity) (run_of entities.entry)) result }
     ensures cause { HasCause (O.faults out.old) (O.faults out.new) result }
 {
