@@ -1,0 +1,4 @@
+pub mod Ranges
+pub mod WordsRead
+pub mod SetLines
+pub mod LinesRead
