@@ -5,3 +5,6 @@ pub mod Ranges
 pub mod WordsRead
 pub mod SetLines
 pub mod LinesRead
+pub mod EntitiesRead
+pub mod SnapshotRead
+pub mod SnapshotsRead

@@ -6,7 +6,7 @@ ghost use Rattle.std.specs.List.{flat_map};
 ghost use Rattle.byteorder.specs.Endian.{little_bytes};
 ghost use Rattle.q3_entity.specs.Entities.{run_of, most_entities};
 ghost use Rattle.q3_player.specs.State.{zero_player};
-ghost use Rattle.q3_rings.specs.Rings.{no_rings, no_snapshots};
+ghost use Rattle.q3_rings.specs.Rings.{AreHeldSnapshots, no_rings, no_snapshots};
 ghost use Rattle.q3_rings.specs.ByNumber.{held_under, one_of};
 ghost use Rattle.q3_savestate.specs.Entities.{counted, entity_bytes, entities_at};
 ghost use Rattle.q3_savestate.specs.Lending.{HasAges};
@@ -200,6 +200,7 @@ fn make_room(rings: &mut Rings, age: u32)
     requires first { rings.old.held.newest ≡ 0 → rings.old.held ≡ no_snapshots rings.old.held.ring }
     requires placed { 0 < rings.old.held.newest → age ≤ rings.old.placed }
     requires none { rings.old.begun ≡ None }
+    ensures are { AreHeldSnapshots rings.old.held }
     ensures held { rings.new.held ≡ rings.old.held }
     ensures placed { age ≤ rings.new.placed }
     ensures none { rings.new.begun ≡ None }
@@ -212,7 +213,8 @@ fn make_room(rings: &mut Rings, age: u32)
 /// Reads the number of a snapshot, before so many others: above that of the one before, modulo 32 another than any before, and that of the
 /// last is the newest.
 fn read_slot(cursor: &mut Cursor, newest: u32, left: u8, rings: &Rings) -> Result<u32, usize>
-    ensures { found result cursor.new ≡ slot_at rings.now.held newest left cursor.old }
+    ensures newer { IfOk result (λ number. rings.now.held.newest < number) }
+    ensures found { found result cursor.new ≡ slot_at rings.now.held newest left cursor.old }
 {
     let place = cursor.place();
     let number = cursor.long(0, u32::MAX)?;
@@ -243,6 +245,7 @@ fn read_entities(cursor: &mut Cursor, profile: &Profile, count: u16, rings: &mut
     requires few { count ≤ most_entities }
     ensures { found_in result rings.new cursor.new ≡ as_field (placed_in rings.old) (entities_at profile.now.entity count 0 cursor.old) }
 {
+    let _end = profile.entity.end();
     let mut entity = EntityState::zero(0);
     let mut least = 0;
     for _ in 0..count {
@@ -254,9 +257,10 @@ fn read_entities(cursor: &mut Cursor, profile: &Profile, count: u16, rings: &mut
 }
 
 /// Reads the head of a snapshot under this number.
-#[tactic(auto, unfolding(crate::specs::Snapshots::head_at))]
+#[tactic(auto, unfolding(crate::specs::Snapshots::head_at, q3_player::specs::Heads::empty_head))]
 fn read_head(cursor: &mut Cursor, profile: &Profile, number: u32) -> Result<SnapHead, usize>
-    ensures { found result cursor.new ≡ head_at profile.now number cursor.old }
+    ensures number { IfOk result (λ head. head.number ≡ number) }
+    ensures found { found result cursor.new ≡ head_at profile.now number cursor.old }
 {
     let mut head = SnapHead::new();
     head.number = number;
@@ -269,7 +273,7 @@ fn read_head(cursor: &mut Cursor, profile: &Profile, number: u32) -> Result<Snap
 }
 
 /// Reads a player.
-#[tactic(auto, unfolding(crate::specs::Snapshots::player_at))]
+#[tactic(auto, unfolding(crate::specs::Snapshots::player_at, q3_player::specs::State::zero_player))]
 fn read_player(cursor: &mut Cursor, profile: &Profile, player: &mut PlayerState) -> Result<(), usize>
     requires { player.old ≡ zero_player }
     ensures { found_in result player.new cursor.new ≡ player_at profile.now cursor.old }
