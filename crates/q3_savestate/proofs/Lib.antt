@@ -8,3 +8,5 @@ pub mod LinesRead
 pub mod EntitiesRead
 pub mod SnapshotRead
 pub mod SnapshotsRead
+pub mod SetStrings
+pub mod StringsRead
