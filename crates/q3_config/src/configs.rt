@@ -136,7 +136,8 @@ impl Configs {
 
     /// The big text of which pieces came, and the index that it is for. `None` exactly where nothing is pending.
     pub fn pending(&self) -> Option<(u32, &[u8])>
-        ensures { option_map (λ pending. record { index = pending.0; text = pending.1.now }) result ≡ self.now.pending }
+        ensures pending { option_map (λ pending. record { index = pending.0; text = pending.1.now }) result ≡ self.now.pending }
+        ensures strings { AreStrings self.now }
     {
         self.pending.get()
     }

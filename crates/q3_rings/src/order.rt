@@ -1,7 +1,7 @@
 //! The snapshots that are held, by rising number.
 
 ghost use Rattle.std.specs.Prelude.{◌≡◌, ◌<◌, ◌≤◌, ℕ, Some, None, length, option_map};
-ghost use Rattle.q3_entity.specs.Entities.{run_of};
+ghost use Rattle.q3_entity.specs.Entities.{Rises, run_of};
 ghost use Rattle.q3_ring.specs.Places.{place_of};
 ghost use Rattle.q3_rings.specs.Loans.{head_of, head_from};
 ghost use Rattle.q3_rings.specs.Rings.{HeldSnapshot};
@@ -58,7 +58,8 @@ impl Rings {
 
     /// Lends the entities of the snapshot of a number: none where they are gone.
     pub fn entities_of(&self, number: u32) -> Run<'_>
-        ensures { (held : HeldSnapshot) → spec.held_under self.now.held number ≡ Some held → run_of result ≡ held.snapshot.entities }
+        ensures entities { (held : HeldSnapshot) → spec.held_under self.now.held number ≡ Some held → run_of result ≡ held.snapshot.entities }
+        ensures rises { Rises (run_of result) }
     {
         let _newest = self.newest();
         match self.view(number) {

@@ -14,3 +14,15 @@ pub mod SnapshotsBack
 pub mod HeldSoFar
 pub mod SnapshotsWere
 pub mod Whole
+pub mod WrittenRows
+pub mod Numbers
+pub mod Numbered
+pub mod Ranges
+pub mod WordsRead
+pub mod SetLines
+pub mod LinesRead
+pub mod EntitiesRead
+pub mod SnapshotRead
+pub mod SnapshotsRead
+pub mod SetStrings
+pub mod StringsRead

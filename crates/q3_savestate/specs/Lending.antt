@@ -1,5 +1,7 @@
 -- What the program lends of a state that is written, and what it makes of one that is read.
-use Rattle.std.specs.Prelude.{◌≡◌, ◌⊎◌, ℕ, ◌^◌, ◌<◌, ⊤, All, None, IfSome, Result, Ok, Err}
+use Rattle.std.specs.Prelude.{◌≡◌, ℕ, ◌^◌, ◌<◌, Bool, ⊤, All, None, IfSome, Result, Ok, Err}
+use Rattle.q3_config.specs.Strings.{Strings}
+use Rattle.q3_entity.specs.Baselines.{Lines}
 use Rattle.q3_rings.specs.Rings.{HeldSnapshots}
 use Rattle.q3_savestate.specs.declared.error.StateError.{StateError}
 use Rattle.q3_savestate.specs.declared.error.StateError.TheVariants.{NoMemory, NotState}
@@ -36,6 +38,20 @@ saved_of saved = record {
 
 abbrev pub start_of : started.Start → Start
 start_of start = record { number = start.number; id = start.id; slot = start.slot; feed = start.feed; executed = start.incoming }
+
+-- a state of its parts
+abbrev pub saved_from : Start → Bool → Strings → Lines → HeldSnapshots → Saved
+saved_from start has_game strings lines held = record {
+  number = start.number;
+  executed = start.executed;
+  has_game = has_game;
+  id = start.id;
+  slot = start.slot;
+  feed = start.feed;
+  strings = strings;
+  lines = lines;
+  held = held;
+}
 
 -- the ages of all that is held have 32 bits
 abbrev pub HasAges : HeldSnapshots → Type 0

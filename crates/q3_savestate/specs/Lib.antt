@@ -5,5 +5,6 @@ pub mod Texts
 pub mod Snapshots
 pub mod State
 pub mod Lending
+pub mod Reading
 pub mod Standing
 pub mod Laws

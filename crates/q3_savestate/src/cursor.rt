@@ -1,6 +1,7 @@
 //! Bytes that are read field by field.
 
 ghost use Rattle.std.specs.Prelude.{◌≡◌, ◌+◌, ◌==◌, ◌<◌, ◌^◌, true, length};
+ghost use Rattle.std.specs.List.{list_all};
 ghost use Rattle.std.specs.Result.{result_map_both};
 ghost use Rattle.byteorder.specs.Endian.{little_number};
 ghost use Rattle.q3_fields.specs.Kinds.{IsKind};
@@ -126,7 +127,7 @@ impl<'a> Cursor<'a> {
     {
         let place = self.place;
         let bytes = self.take(count)?;
-        if !bytes.iter().all(|byte| is_text_byte(*byte)) {
+        if !are_text_bytes(bytes) {
             return Err(place);
         }
         Ok(bytes)
@@ -142,6 +143,13 @@ impl<'a> Cursor<'a> {
             Err(self.place)
         }
     }
+}
+
+/// Whether a text may hold these bytes.
+fn are_text_bytes(bytes: &[u8]) -> bool
+    ensures { result ≡ list_all is_text_byte bytes.now }
+{
+    bytes.iter().all(|byte| is_text_byte(*byte))
 }
 
 /// Whether a text may hold a byte.

@@ -15,7 +15,11 @@ use q3_fields::Table;
 use q3_io::{Failed, Sink, laws};
 
 /// Writes the words of a table's fields.
-pub(crate) fn write_words<O: Sink>(table: &Table, words: &[u32; 64], out: &mut O) -> Result<(), Failed>
+pub(crate) fn write_words<O: Sink>(
+    table: &Table,
+    words: &[u32; 64],
+    out: &mut O,
+) -> Result<(), Failed>
     ensures adds { Adds (O.written out.old) (O.written out.new) (words_bytes table.now.kinds words.now) result }
     ensures cause { HasCause (O.faults out.old) (O.faults out.new) result }
 {
@@ -26,7 +30,11 @@ pub(crate) fn write_words<O: Sink>(table: &Table, words: &[u32; 64], out: &mut O
 }
 
 /// Reads the words of a table's fields. Those behind them stay 0.
-pub(crate) fn read_words(cursor: &mut Cursor, table: &Table, words: &mut [u32; 64]) -> Result<(), usize>
+pub(crate) fn read_words(
+    cursor: &mut Cursor,
+    table: &Table,
+    words: &mut [u32; 64],
+) -> Result<(), usize>
     requires { words.old ≡ replicate 64 0 }
     ensures { found_in result words.new cursor.new ≡ state_words_at table.now.kinds cursor.old }
 {
@@ -39,7 +47,11 @@ pub(crate) fn read_words(cursor: &mut Cursor, table: &Table, words: &mut [u32; 6
 }
 
 /// Writes an entity.
-pub(crate) fn write_entity<O: Sink>(table: &Table, entity: &EntityState, out: &mut O) -> Result<(), Failed>
+pub(crate) fn write_entity<O: Sink>(
+    table: &Table,
+    entity: &EntityState,
+    out: &mut O,
+) -> Result<(), Failed>
     ensures adds { Adds (O.written out.old) (O.written out.new) (entity_bytes table.now entity.now) result }
     ensures cause { HasCause (O.faults out.old) (O.faults out.new) result }
 {
@@ -49,8 +61,13 @@ pub(crate) fn write_entity<O: Sink>(table: &Table, entity: &EntityState, out: &m
 }
 
 /// Reads an entity, whose number is at least this one.
-#[tactic(auto, unfolding(crate::specs::Entities::entity_at))]
-pub(crate) fn read_entity(cursor: &mut Cursor, table: &Table, least: u16, entity: &mut EntityState) -> Result<(), usize>
+#[tactic(auto, unfolding(crate::specs::Entities::entity_at, q3_entity::specs::Entities::zero_entity))]
+pub(crate) fn read_entity(
+    cursor: &mut Cursor,
+    table: &Table,
+    least: u16,
+    entity: &mut EntityState,
+) -> Result<(), usize>
     ensures { found_in result entity.new cursor.new ≡ entity_at table.now least cursor.old }
 {
     let number = cursor.short(least, table.end() - 1)?;
@@ -59,7 +76,11 @@ pub(crate) fn read_entity(cursor: &mut Cursor, table: &Table, least: u16, entity
 }
 
 /// Writes the baselines that are set.
-pub(crate) fn write_lines<O: Sink>(table: &Table, baselines: &Baselines, out: &mut O) -> Result<(), Failed>
+pub(crate) fn write_lines<O: Sink>(
+    table: &Table,
+    baselines: &Baselines,
+    out: &mut O,
+) -> Result<(), Failed>
     ensures adds { Adds (O.written out.old) (O.written out.new) (lines_bytes table.now baselines.now) result }
     ensures cause { HasCause (O.faults out.old) (O.faults out.new) result }
 {
@@ -75,7 +96,11 @@ pub(crate) fn write_lines<O: Sink>(table: &Table, baselines: &Baselines, out: &m
 
 /// Reads baselines.
 #[tactic(auto, unfolding(crate::specs::Entities::lines_at))]
-pub(crate) fn read_lines(cursor: &mut Cursor, table: &Table, baselines: &mut Baselines) -> Result<(), usize>
+pub(crate) fn read_lines(
+    cursor: &mut Cursor,
+    table: &Table,
+    baselines: &mut Baselines,
+) -> Result<(), usize>
     requires { baselines.old ≡ no_lines }
     ensures { found_in result baselines.new cursor.new ≡ lines_at table.now cursor.old }
 {

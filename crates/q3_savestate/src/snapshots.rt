@@ -1,14 +1,16 @@
 //! The snapshots that a client holds as bytes: each with its age, by rising number. Where its entities lie isn't kept, since ages alone decide
 //! whether a base is held.
 
-ghost use Rattle.std.specs.Prelude.{◌≡◌, ◌⊎◌, ◌+◌, ◌-◌, ◌^◌, ◌<◌, ◌≤◌, ◌∷◌, [], length, None, Some, IfOk, MatchResult};
+ghost use Rattle.std.specs.Prelude.{◌≡◌, ◌^◌, ◌<◌, ◌≤◌, [], length, None, Some, IfOk, MatchOption};
 ghost use Rattle.std.specs.List.{flat_map};
 ghost use Rattle.byteorder.specs.Endian.{little_bytes};
-ghost use Rattle.q3_entity.specs.Entities.{run_of};
+ghost use Rattle.q3_entity.specs.Entities.{run_of, most_entities};
 ghost use Rattle.q3_player.specs.State.{zero_player};
-ghost use Rattle.q3_rings.specs.Rings.{no_rings};
-ghost use Rattle.q3_rings.specs.ByNumber.{by_number, held_under, one_of};
-ghost use Rattle.q3_savestate.specs.Entities.{counted, entity_bytes};
+ghost use Rattle.q3_rings.specs.Rings.{AreHeldSnapshots, no_rings, no_snapshots};
+ghost use Rattle.q3_rings.specs.ByNumber.{held_under, one_of};
+ghost use Rattle.q3_savestate.specs.Entities.{counted, entity_bytes, entities_at};
+ghost use Rattle.q3_savestate.specs.Lending.{HasAges};
+ghost use Rattle.q3_savestate.specs.Reading.{as_field, found_with, placed_in, behind_one, MayPutBack};
 ghost use Rattle.q3_io.specs.Faults.{HasCause};
 ghost use Rattle.q3_io.specs.Written.{Adds};
 ghost use Rattle.q3_savestate.specs.Cursor.{found, found_in};
@@ -38,13 +40,14 @@ const MOST_AREA: u8 = 32;
 
 /// Writes the snapshots that are held.
 pub(crate) fn write_snapshots<O: Sink>(profile: &Profile, rings: &Rings, out: &mut O) -> Result<(), Failed>
+    requires ages { HasAges rings.now.held }
     ensures adds { Adds (O.written out.old) (O.written out.new) (snapshots_bytes profile.now rings.now.held) result }
     ensures cause { HasCause (O.faults out.old) (O.faults out.new) result }
 {
     laws::texts_follow();
     let newest = rings.newest();
     write_long(newest, out)?;
-    write_byte(count_held(rings), out)?;
+    write_byte(rings.count(), out)?;
     let mut last = 0;
     while last < newest {
         last = rings.next_number(last);
@@ -53,21 +56,9 @@ pub(crate) fn write_snapshots<O: Sink>(profile: &Profile, rings: &Rings, out: &m
     Ok(())
 }
 
-/// How many snapshots are held.
-fn count_held(rings: &Rings) -> u8
-    ensures { result ≡ length (by_number rings.now.held) }
-{
-    let mut count = 0;
-    for place in 0..PLACES {
-        if rings.held(place).is_some() {
-            count += 1;
-        }
-    }
-    count
-}
-
 /// Writes the snapshot of a number, if it is held.
 fn write_numbered<O: Sink>(profile: &Profile, rings: &Rings, number: u32, out: &mut O) -> Result<(), Failed>
+    requires ages { HasAges rings.now.held }
     ensures adds { Adds (O.written out.old) (O.written out.new) (flat_map (snapshot_bytes profile.now) (one_of (held_under rings.now.held number))) result }
     ensures cause { HasCause (O.faults out.old) (O.faults out.new) result }
 {
@@ -80,6 +71,7 @@ fn write_numbered<O: Sink>(profile: &Profile, rings: &Rings, number: u32, out: &
 /// Writes a snapshot: its number, its age, its head, and its entities as far as they are there.
 fn write_snapshot<O: Sink>(profile: &Profile, held: Held, entities: Run, out: &mut O) -> Result<(), Failed>
     requires age { held.age < 2 ^ 32 }
+    requires few { length (run_of entities) ≤ most_entities }
     ensures adds { Adds (O.written out.old) (O.written out.new) (snapshot_bytes profile.now (record { snapshot = record { head = held.entry.head.now; entities = run_of entities.entry }; age = held.entry.age })) result }
     ensures cause { HasCause (O.faults out.old) (O.faults out.new) result }
 {
@@ -92,6 +84,7 @@ fn write_snapshot<O: Sink>(profile: &Profile, held: Held, entities: Run, out: &m
 
 /// Writes entities behind their number.
 fn write_run<O: Sink>(profile: &Profile, entities: Run, out: &mut O) -> Result<(), Failed>
+    requires few { length (run_of entities) ≤ most_entities }
     ensures adds { Adds (O.written out.old) (O.written out.new) (counted (entity_bytes profile.now.entity) (run_of entities.entry)) result }
     ensures cause { HasCause (O.faults out.old) (O.faults out.new) result }
 {
@@ -159,23 +152,25 @@ fn write_longs<O: Sink>(words: &[u32; 16], out: &mut O) -> Result<(), Failed>
     out.write_all(&bytes)
 }
 
-/// Reads snapshots into a ring with the profile's room: whatever it held is gone.
+/// Reads snapshots into a ring with the profile's room, in which none is held.
 #[tactic(auto, unfolding(crate::specs::Snapshots::snapshots_at))]
 pub(crate) fn read_snapshots(cursor: &mut Cursor, profile: &Profile, rings: &mut Rings) -> Result<(), usize>
-    requires { rings.old ≡ no_rings profile.now.parse_ring }
+    requires least { 512 ≤ profile.now.parse_ring }
+    requires none { rings.old ≡ no_rings profile.now.parse_ring }
     ensures found { found_in result rings.new.held cursor.new ≡ snapshots_at profile.now cursor.old }
     ensures none { IfOk result (λ x. rings.new.begun ≡ None) }
 {
     let newest = cursor.long(0, LAST_NUMBER)?;
     let count = cursor.byte(u8::from(newest != 0), PLACES)?;
     let mut most = u32::MAX;
-    for left in (0..count).rev() {
-        most = read_snapshot(cursor, profile, newest, left, most, rings)?;
+    for k in 0..count {
+        most = read_snapshot(cursor, profile, newest, count - k - 1, most, rings)?;
     }
     Ok(())
 }
 
 /// Reads a snapshot of at most this age, before so many others, and answers the greatest age of the next one.
+#[tactic(auto, unfolding(crate::specs::Snapshots::snapshot_at))]
 fn read_snapshot(
     cursor: &mut Cursor,
     profile: &Profile,
@@ -184,12 +179,14 @@ fn read_snapshot(
     most: u32,
     rings: &mut Rings,
 ) -> Result<u32, usize>
+    requires least { 512 ≤ profile.now.parse_ring }
+    requires may { MayPutBack profile.now.parse_ring most rings.old }
+    ensures found { found_with result rings.new.held cursor.new ≡ as_field (behind_one rings.old.held) (snapshot_at profile.now rings.old.held newest left most cursor.old) }
+    ensures may { IfOk result (λ most. MayPutBack profile.now.parse_ring most rings.new) }
 {
     let number = read_slot(cursor, newest, left, rings)?;
     let age = cursor.long(0, most)?;
-    if rings.newest() == 0 {
-        rings.restore(u64::from(age));
-    }
+    make_room(rings, age);
     let head = read_head(cursor, profile, number)?;
     let count = cursor.short(0, most_of(profile, age))?;
     rings.begin_back(&head, u64::from(age), usize::from(count));
@@ -198,10 +195,26 @@ fn read_snapshot(
     Ok(age - u32::from(count))
 }
 
+/// Where none is held yet, as many entities count as placed as the first one's age says.
+fn make_room(rings: &mut Rings, age: u32)
+    requires first { rings.old.held.newest ≡ 0 → rings.old.held ≡ no_snapshots rings.old.held.ring }
+    requires placed { 0 < rings.old.held.newest → age ≤ rings.old.placed }
+    requires none { rings.old.begun ≡ None }
+    ensures are { AreHeldSnapshots rings.old.held }
+    ensures held { rings.new.held ≡ rings.old.held }
+    ensures placed { age ≤ rings.new.placed }
+    ensures none { rings.new.begun ≡ None }
+{
+    if rings.newest() == 0 {
+        rings.restore(u64::from(age));
+    }
+}
+
 /// Reads the number of a snapshot, before so many others: above that of the one before, modulo 32 another than any before, and that of the
 /// last is the newest.
 fn read_slot(cursor: &mut Cursor, newest: u32, left: u8, rings: &Rings) -> Result<u32, usize>
-    ensures { found result cursor.new ≡ slot_at rings.now.held newest left cursor.old }
+    ensures newer { IfOk result (λ number. rings.now.held.newest < number) }
+    ensures found { found result cursor.new ≡ slot_at rings.now.held newest left cursor.old }
 {
     let place = cursor.place();
     let number = cursor.long(0, u32::MAX)?;
@@ -226,9 +239,13 @@ fn most_of(profile: &Profile, age: u32) -> u16
     }
 }
 
-/// Reads the entities of the snapshot that is being put back.
+/// Reads the entities of the snapshot that is being put back, which has none yet.
 fn read_entities(cursor: &mut Cursor, profile: &Profile, count: u16, rings: &mut Rings) -> Result<(), usize>
+    requires begun { MatchOption rings.old.begun ⊥ (λ begun. (begun.entities ≡ []) × (begun.count ≡ count)) }
+    requires few { count ≤ most_entities }
+    ensures { found_in result rings.new cursor.new ≡ as_field (placed_in rings.old) (entities_at profile.now.entity count 0 cursor.old) }
 {
+    let _end = profile.entity.end();
     let mut entity = EntityState::zero(0);
     let mut least = 0;
     for _ in 0..count {
@@ -240,9 +257,10 @@ fn read_entities(cursor: &mut Cursor, profile: &Profile, count: u16, rings: &mut
 }
 
 /// Reads the head of a snapshot under this number.
-#[tactic(auto, unfolding(crate::specs::Snapshots::head_at))]
+#[tactic(auto, unfolding(crate::specs::Snapshots::head_at, q3_player::specs::Heads::empty_head))]
 fn read_head(cursor: &mut Cursor, profile: &Profile, number: u32) -> Result<SnapHead, usize>
-    ensures { found result cursor.new ≡ head_at profile.now number cursor.old }
+    ensures number { IfOk result (λ head. head.number ≡ number) }
+    ensures found { found result cursor.new ≡ head_at profile.now number cursor.old }
 {
     let mut head = SnapHead::new();
     head.number = number;
@@ -255,7 +273,7 @@ fn read_head(cursor: &mut Cursor, profile: &Profile, number: u32) -> Result<Snap
 }
 
 /// Reads a player.
-#[tactic(auto, unfolding(crate::specs::Snapshots::player_at))]
+#[tactic(auto, unfolding(crate::specs::Snapshots::player_at, q3_player::specs::State::zero_player))]
 fn read_player(cursor: &mut Cursor, profile: &Profile, player: &mut PlayerState) -> Result<(), usize>
     requires { player.old ≡ zero_player }
     ensures { found_in result player.new cursor.new ≡ player_at profile.now cursor.old }

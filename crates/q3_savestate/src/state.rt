@@ -1,12 +1,16 @@
 //! A client's whole state as bytes.
 
-ghost use Rattle.std.specs.Prelude.{◌≡◌, ◌≤◌, ◌++◌, Some, IfOk, MatchResult};
+ghost use Rattle.std.specs.Prelude.{◌≡◌, ◌≤◌, None, IfOk};
 ghost use Rattle.q3_text.specs.Texts.{IsText};
 ghost use Rattle.q3_io.specs.Faults.{HasCause};
 ghost use Rattle.q3_io.specs.Written.{Adds};
 ghost use Rattle.q3_savestate.specs.Cursor.{found};
 ghost use Rattle.q3_savestate.specs.State.{start_bytes, start_at, state_bytes, state_at};
-ghost use Rattle.q3_savestate.specs.Lending.{HasAges, saved_of, parts_of, ReadsState};
+ghost use Rattle.q3_savestate.specs.Lending.{HasAges, parts_of, start_of, saved_from, ReadsState};
+ghost use Rattle.q3_savestate.specs.Reading.{read_as};
+ghost use Rattle.q3_config.specs.Strings.{no_strings};
+ghost use Rattle.q3_entity.specs.Baselines.{no_lines};
+ghost use Rattle.q3_rings.specs.Rings.{no_rings};
 
 use crate::cursor::Cursor;
 use crate::entities::{read_lines, write_lines};
@@ -20,6 +24,7 @@ use q3_io::{Failed, Sink, laws};
 use q3_profile::Profile;
 use q3_rings::Rings;
 use q3_text::Text;
+use q3_text::laws::texts_are_texts;
 use q3_window::Incoming;
 use std::alloc::Global;
 
@@ -115,8 +120,7 @@ impl Saved {
         let mut configs = Configs::new(alloc)?;
         let mut baselines = Baselines::new(alloc)?;
         let mut rings = Rings::new(alloc, profile.parse_ring)?;
-        let mut cursor = Cursor::new(bytes, 0);
-        let read = read_parts(&mut cursor, profile, &mut configs, &mut baselines, &mut rings);
+        let read = read_parts(profile, bytes, &mut configs, &mut baselines, &mut rings);
         let (start, has_game) = match read {
             Ok(read) => read,
             Err(place) => return Err(StateError::NotState(place)),
@@ -135,27 +139,37 @@ impl Saved {
     }
 }
 
-/// Reads all of a state, in its order.
+/// Reads all of a state, in its order, into parts that hold nothing.
+#[tactic(auto, unfolding(crate::specs::State::state_at))]
 fn read_parts(
-    cursor: &mut Cursor,
     profile: &Profile,
+    bytes: &[u8],
     configs: &mut Configs,
     baselines: &mut Baselines,
     rings: &mut Rings,
 ) -> Result<(Start, bool), usize>
+    requires least { 512 ≤ profile.now.parse_ring }
+    requires configs { configs.old ≡ no_strings }
+    requires baselines { baselines.old ≡ no_lines }
+    requires rings { rings.old ≡ no_rings profile.now.parse_ring }
+    ensures whole { read_as (λ read. saved_from (start_of read.0) read.1 configs.new baselines.new rings.new.held) result ≡ state_at profile.now bytes.now }
+    ensures none { IfOk result (λ read. rings.new.begun ≡ None) }
 {
-    let start = read_start(cursor)?;
-    read_pending(cursor, configs)?;
+    let mut cursor = Cursor::new(bytes, 0);
+    let start = read_start(&mut cursor)?;
+    read_pending(&mut cursor, configs)?;
     let has_game = cursor.byte(0, 1)? == 1;
-    read_strings(cursor, configs)?;
-    read_lines(cursor, &profile.entity, baselines)?;
-    read_snapshots(cursor, profile, rings)?;
+    read_strings(&mut cursor, configs)?;
+    read_lines(&mut cursor, &profile.entity, baselines)?;
+    read_snapshots(&mut cursor, profile, rings)?;
     cursor.end()?;
     Ok((start, has_game))
 }
 
 /// Reads the numbers of a state, and the last command's text.
+#[tactic(auto, unfolding(crate::specs::State::start_at))]
 fn read_start(cursor: &mut Cursor) -> Result<Start, usize>
+    ensures { found (read_as start_of result) cursor.new ≡ start_at cursor.old }
 {
     let number = cursor.long(0, LAST_NUMBER)?;
     let id = cursor.long(0, LAST_NUMBER)?;
@@ -172,5 +186,6 @@ fn text_of(bytes: &[u8]) -> Text
     requires { IsText bytes.now }
     ensures { result ≡ bytes.now }
 {
+    texts_are_texts();
     Text::of(bytes).unwrap_or_else(|_| Text::new())
 }

@@ -1,11 +1,11 @@
 //! Config strings and the text that is pending as bytes.
 
-ghost use Rattle.std.specs.Prelude.{◌≡◌, ◌∷◌, [], ◌≤◌, length, replicate, None};
+ghost use Rattle.std.specs.Prelude.{◌≡◌, ◌≤◌, ℕ, suc, [], length, replicate, slice_index_or, None, Err, IfOk, MatchResult};
 ghost use Rattle.q3_io.specs.Faults.{HasCause};
 ghost use Rattle.q3_io.specs.Written.{Adds};
 ghost use Rattle.q3_config.specs.Strings.{AreStrings, places, longest_string};
 ghost use Rattle.q3_savestate.specs.Cursor.{found_in};
-ghost use Rattle.q3_savestate.specs.Texts.{set_strings, string_bytes, room_in, strings_bytes, strings_at, pending_bytes, pending_at};
+ghost use Rattle.q3_savestate.specs.Texts.{set_strings, string_bytes, room_in, strings_bytes, strings_after, strings_at, pending_bytes, pending_at};
 
 use crate::cursor::Cursor;
 use crate::writing::{write_byte, write_long, write_short};
@@ -15,8 +15,10 @@ use q3_io::{Failed, Sink, laws};
 /// How many config strings there are, the engine's `MAX_CONFIGSTRINGS` (q_shared.h).
 const STRINGS: u16 = 1024;
 
-/// The longest of them, and the greatest size of all.
+/// The longest of them.
 const LONGEST: u16 = 8_191;
+
+/// The greatest size of all.
 const MOST_SIZE: u32 = 16_000;
 
 /// Writes the config strings that aren't empty.
@@ -75,22 +77,25 @@ pub(crate) fn read_strings(cursor: &mut Cursor, configs: &mut Configs) -> Result
     Ok(())
 }
 
-/// Reads a config string, whose index is at least this one, and answers the least index behind it.
+/// Reads a config string, whose index is at least this one, and answers the least index behind it. From there on all strings are empty.
+#[tactic(auto, unfolding(crate::specs::Texts::strings_after))]
 fn read_string(cursor: &mut Cursor, least: u16, configs: &mut Configs) -> Result<u16, usize>
+    requires { (index : ℕ) → least ≤ index → slice_index_or configs.old.texts index [] ≡ [] }
+    ensures step { (count : ℕ) → MatchResult result (λ next. strings_after (suc count) least configs.old.texts cursor.old ≡ strings_after count next configs.new.texts cursor.new) (λ at. strings_after (suc count) least configs.old.texts cursor.old ≡ Err at) }
+    ensures empty { IfOk result (λ next. (index : ℕ) → next ≤ index → slice_index_or configs.new.texts index [] ≡ []) }
+    ensures pending { configs.new.pending ≡ configs.old.pending }
 {
     let index = cursor.short(least, STRINGS - 1)?;
     let length = cursor.short(1, room_in(configs))?;
-    let place = cursor.place();
     let text = cursor.text(usize::from(length))?;
-    match configs.set(u32::from(index), text) {
-        Ok(()) => Ok(index + 1),
-        Err(_) => Err(place),
-    }
+    configs.set(u32::from(index), text).unwrap();
+    Ok(index + 1)
 }
 
 /// How long one more string may be.
 fn room_in(configs: &Configs) -> u16
-    ensures { result ≡ room_in configs.now.texts }
+    ensures room { result ≡ room_in configs.now.texts }
+    ensures strings { AreStrings configs.now }
 {
     let room = MOST_SIZE.saturating_sub(configs.size() + 1);
     room.min(u32::from(LONGEST)) as u16
