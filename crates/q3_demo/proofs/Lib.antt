@@ -3,6 +3,7 @@ pub mod Whole
 pub mod Pieces
 pub mod Finding
 pub mod Going
+pub mod PlayingOn
 pub mod Printed
 pub mod Fronts
 pub mod Stepping

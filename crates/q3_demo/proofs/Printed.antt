@@ -5,7 +5,8 @@ use Rattle.std.proofs.lemmas.List.{append-nil, take_more, length-take-le, take-a
 use Rattle.q3_entity.specs.declared.state.EntityState.{EntityState}
 use Rattle.q3_entity.specs.Report.{fields_text}
 use Rattle.q3_rings.specs.Rings.{HeldSnapshot, HeldSnapshots}
-use Rattle.q3_demo.specs.Report.{indexed_text, config_text, configs_text, baseline_text, held_under, held_text, held_texts}
+use Rattle.q3_rings.specs.ByNumber.{held_under}
+use Rattle.q3_demo.specs.Report.{indexed_text, config_text, configs_text, baseline_text, held_text, held_texts}
 
 -- ---- config strings
 

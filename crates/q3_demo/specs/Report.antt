@@ -1,12 +1,12 @@
 -- What the messages that were applied left, as it is printed.
-use Rattle.std.specs.Prelude.{ℕ, zero, suc, ◌+◌, ◌==◌, if◌then◌else◌, List, [], ◌∷◌, ◌++◌, codes, decimal, Option, Some, None}
+use Rattle.std.specs.Prelude.{ℕ, zero, suc, ◌+◌, List, [], ◌∷◌, ◌++◌, codes, decimal, Option, Some, None}
 use Rattle.std.specs.List.{concat, flat_map}
 use Rattle.q3_io.specs.Quoted.{quoted}
 use Rattle.q3_config.specs.Strings.{Pending}
 use Rattle.q3_entity.specs.declared.state.EntityState.{EntityState}
 use Rattle.q3_entity.specs.Report.{fields_text}
-use Rattle.q3_ring.specs.Places.{at_number}
 use Rattle.q3_rings.specs.Rings.{HeldSnapshot, HeldSnapshots}
+use Rattle.q3_rings.specs.ByNumber.{held_under}
 use Rattle.q3_clstate.specs.State.{AppliedState}
 use Rattle.q3_clstate.specs.Report.{snapshot_text}
 
@@ -44,15 +44,7 @@ abbrev pub baseline_text : Option EntityState → List ℕ
 baseline_text None = []
 baseline_text (Some state) = concat (codes "+ baseline " ∷ decimal state.number ∷ fields_text state.words ∷ codes "\n" ∷ [])
 
--- the snapshot that is held under a number, also where its entities are gone
-abbrev pub of_number : ℕ → Option HeldSnapshot → Option HeldSnapshot
-of_number number None = None
-of_number number (Some held) = if held.snapshot.head.number == number then Some held else None
-
-abbrev pub held_under : HeldSnapshots → ℕ → Option HeldSnapshot
-held_under snapshots number = of_number number (at_number snapshots.places number)
-
--- its line
+-- the line of a snapshot that is held
 abbrev pub held_text : Option HeldSnapshot → List ℕ
 held_text None = []
 held_text (Some held) = concat (codes "+ held " ∷ decimal held.snapshot.head.number ∷ codes " " ∷ decimal held.age ∷ codes "\n" ∷ [])

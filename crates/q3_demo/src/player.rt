@@ -1,6 +1,8 @@
 //! Plays a demo record by record.
 
-ghost use Rattle.std.specs.Prelude.{◌≡◌, ◌+◌, ◌<◌, ◌≤◌, List, ℕ, [], length, drop, IfOk};
+ghost use Rattle.std.specs.Prelude.{◌≡◌, ◌≢◌, ◌+◌, ◌<◌, ◌≤◌, List, ℕ, [], length, drop, IfOk, IfErr};
+ghost use Rattle.q3_bits.specs.ResultBind.{fault_as};
+ghost use Rattle.q3_clstate.specs.State.{apply_at, state_behind, answered, heard_in};
 ghost use Rattle.q3_demo.specs.Player.{PlaysOn, step_of_all};
 ghost use Rattle.q3_demo.specs.Playing.{unplayed, step};
 ghost use Rattle.q3_demo.specs.Running.{HasFrom, OnlyAsks, ReadCause};
@@ -72,7 +74,11 @@ impl Player {
 
     /// Plays the next record, and tells what became of its message; `None` comes at the demo's end. `Err` is as `next_record` says, or
     /// `Message` exactly where the message isn't legible.
-    pub fn next<F: Files>(&mut self, files: &mut F, file: usize) -> Result<Option<Applied>, DemoError>
+    pub fn next<F: Files>(
+        &mut self,
+        files: &mut F,
+        file: usize,
+    ) -> Result<Option<Applied>, DemoError>
         requires given { file < F.given files.old }
         requires few { self.old.played.records < 4294967295 }
         ensures plays { (bytes : List ℕ) × HasFrom (F.told files.old) file self.old.played.at bytes
@@ -83,10 +89,21 @@ impl Player {
         ensures others { F.write_faults files.new ≡ F.write_faults files.old }
     {
         let piece = next_record(files, file, self.at, self.last, &mut self.message)?;
-        let Piece::Message { number, length, next } = piece else {
+        let Piece::Message {
+            number,
+            length,
+            next,
+        } = piece
+        else {
             return Ok(None);
         };
-        let applied = self.apply(number, length)?;
+        let applied = apply(
+            self.at,
+            number,
+            &self.message[..length],
+            &mut self.state,
+            &mut self.log,
+        )?;
         self.records += 1;
         self.last = number;
         self.at = next;
@@ -112,14 +129,6 @@ impl Player {
             Ok(Piece::Message { .. }) => Err(DemoError::Truncated(self.at)),
             Err(DemoError::ReadFault) => Err(DemoError::ReadFault),
             Err(_) => Err(DemoError::Truncated(self.at)),
-        }
-    }
-
-    /// Applies the message that was read, of so many bytes.
-    fn apply(&mut self, number: u32, length: usize) -> Result<Applied, DemoError> {
-        match self.state.apply(number, &self.message[..length], &mut self.log) {
-            Ok(applied) => Ok(applied),
-            Err(cause) => Err(DemoError::Message(self.at, cause)),
         }
     }
 
@@ -163,5 +172,24 @@ impl Player {
         ensures { result.now.commands ≡ self.now.heard }
     {
         &self.log
+    }
+}
+
+/// Applies the message of a record at this place.
+fn apply(
+    at: u64,
+    number: u32,
+    message: &[u8],
+    state: &mut ClState,
+    log: &mut Log,
+) -> Result<Applied, DemoError>
+    ensures state { state.new ≡ state_behind state.old (apply_at state.old number message.now) }
+    ensures answer { result ≡ fault_as (λ cause. DemoError.Message at cause) (answered (apply_at state.old number message.now)) }
+    ensures log { log.new.commands ≡ heard_in (apply_at state.old number message.now) }
+    ensures reads { IfErr result (λ e. e ≢ DemoError.ReadFault) }
+{
+    match state.apply(number, message, log) {
+        Ok(applied) => Ok(applied),
+        Err(cause) => Err(DemoError::Message(at, cause)),
     }
 }

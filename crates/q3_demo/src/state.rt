@@ -1,18 +1,15 @@
 //! Prints what the messages that were applied left. The spelling is this project's own.
 
-ghost use Rattle.std.specs.Prelude.{◌≡◌, ◌<◌, ◌≤◌, ℕ, [], ◌∷◌, ◌++◌, None, Some, length, codes, decimal, option_map};
+ghost use Rattle.std.specs.Prelude.{◌≡◌, ◌<◌, [], ◌∷◌, ◌++◌, Some, length, codes, decimal};
 ghost use Rattle.std.specs.List.{concat, flat_map};
 ghost use Rattle.q3_io.specs.Faults.{HasCause};
 ghost use Rattle.q3_io.specs.Written.{Adds};
 ghost use Rattle.q3_config.specs.Strings.{AreStrings};
 ghost use Rattle.q3_entity.specs.Baselines.{most_lines, set_at};
 ghost use Rattle.q3_entity.specs.Entities.{run_of};
-ghost use Rattle.q3_ring.specs.Places.{place_of};
-ghost use Rattle.q3_rings.specs.Loans.{head_of, head_from, snapshot_of};
-ghost use Rattle.q3_rings.specs.Rings.{HeldSnapshot, AreHeldSnapshots};
+ghost use Rattle.q3_rings.specs.Loans.{snapshot_of};
+ghost use Rattle.q3_rings.specs.ByNumber.{held_under};
 ghost use Rattle.q3_clstate.specs.Report.{snapshot_text};
-ghost use Rattle.q3_clstate.specs.Standing.{IsApplied};
-ghost use Rattle.q3_demo.specs.Report as spec;
 ghost use Rattle.q3_demo.specs.Report.{state_text, count_text, map_text, indexed_text, pending_text, config_text, configs_text, baseline_text, held_text, held_texts, newest_text};
 
 use q3_clstate::{ClState, print_snapshot};
@@ -22,9 +19,6 @@ use q3_rings::{Held, SnapView};
 
 /// How many config strings there are, the engine's `MAX_CONFIGSTRINGS` (q_shared.h).
 const STRINGS: u32 = 1024;
-
-/// How many snapshots are held at most, the engine's `PACKET_BACKUP` (qcommon.h).
-const PLACES: u8 = 32;
 
 /// Prints what the messages of so many records left: the map, the text that is pending, the config strings and the baselines that are
 /// set, the snapshots that are held, and the newest. `Failed` comes where the sink failed, behind a front of the text.
@@ -190,52 +184,26 @@ fn print_number<O: Sink>(number: u16, out: &mut O) -> Result<(), Failed>
 
 /// Prints a line for each snapshot that is held, by rising number: at most as many rounds as there are places, and one.
 fn print_held<O: Sink>(state: &ClState, newest: u32, out: &mut O) -> Result<(), Failed>
+    requires { newest ≡ state.now.held.newest }
     ensures adds { Adds (O.written out.old) (O.written out.new) (held_texts state.now.held newest) result }
     ensures cause { HasCause (O.faults out.old) (O.faults out.new) result }
 {
     laws::texts_follow();
+    let rings = state.rings();
     let mut last = 0;
     while last < newest {
-        last = next_number(state, last, newest);
+        last = rings.next_number(last);
         print_age(state, last, out)?;
     }
     Ok(())
 }
 
-/// The least number above `last` of those under which a snapshot is held, or the newest where that is less.
-fn next_number(state: &ClState, last: u32, newest: u32) -> u32
-    requires { last < newest }
-    ensures above { last < result }
-    ensures most { result ≤ newest }
-    ensures least { (number : ℕ) → last < number → number < result → spec.held_under state.now.held number ≡ None }
-{
-    let mut next = newest;
-    for place in 0..PLACES {
-        next = nearer(state, place, last, next);
-    }
-    next
-}
-
-/// The number of the snapshot in a place, if it is above `last` and below `next`; else `next`.
-fn nearer(state: &ClState, place: u8, last: u32, next: u32) -> u32
-    requires place { place < 32 }
-    requires above { last < next }
-    ensures above { last < result }
-    ensures most { result ≤ next }
-    ensures least { (number : ℕ) → place_of number ≡ place → last < number → number < result → spec.held_under state.now.held number ≡ None }
-{
-    match state.held(place) {
-        Some(held) if last < held.head.number && held.head.number < next => held.head.number,
-        _ => next,
-    }
-}
-
 /// Prints the line of the snapshot of a number, if it is held.
 fn print_age<O: Sink>(state: &ClState, number: u32, out: &mut O) -> Result<(), Failed>
-    ensures adds { Adds (O.written out.old) (O.written out.new) (held_text (spec.held_under state.now.held number)) result }
+    ensures adds { Adds (O.written out.old) (O.written out.new) (held_text (held_under state.now.held number)) result }
     ensures cause { HasCause (O.faults out.old) (O.faults out.new) result }
 {
-    match held_under(state, number) {
+    match state.rings().held_under(number) {
         None => print_all(&[], out),
         Some(held) => print_all(
             &[
@@ -250,38 +218,15 @@ fn print_age<O: Sink>(state: &ClState, number: u32, out: &mut O) -> Result<(), F
     }
 }
 
-/// Lends the head and the age of the snapshot of a number, also where its entities are gone.
-fn held_under(state: &ClState, number: u32) -> Option<Held<'_>>
-    ensures { option_map head_of result ≡ option_map head_from (spec.held_under state.now.held number) }
-{
-    let held = state.held((number % u32::from(PLACES)) as u8)?;
-    if held.head.number == number {
-        Some(held)
-    } else {
-        None
-    }
-}
-
 /// Prints the newest snapshot, if one was accepted: with no entities where they are gone.
 fn print_newest<O: Sink>(state: &ClState, newest: u32, out: &mut O) -> Result<(), Failed>
-    requires { IsApplied state.now }
-    ensures adds { Adds (O.written out.old) (O.written out.new) (newest_text (spec.held_under state.now.held newest)) result }
+    ensures adds { Adds (O.written out.old) (O.written out.new) (newest_text (held_under state.now.held newest)) result }
     ensures cause { HasCause (O.faults out.old) (O.faults out.new) result }
 {
-    match held_under(state, newest) {
+    let rings = state.rings();
+    match rings.held_under(newest) {
         None => print_all(&[], out),
-        Some(held) => print_view(view_of(held, entities_of(state, newest)), out),
-    }
-}
-
-/// The entities of the snapshot of a number, none where they are gone.
-fn entities_of(state: &ClState, number: u32) -> Run<'_>
-    requires { IsApplied state.now }
-    ensures { (held : HeldSnapshot) → spec.held_under state.now.held number ≡ Some held → run_of result ≡ held.snapshot.entities }
-{
-    match state.view(number) {
-        Some(view) => view.entities,
-        None => Run::of(&[]),
+        Some(held) => print_view(view_of(held, rings.entities_of(newest)), out),
     }
 }
 

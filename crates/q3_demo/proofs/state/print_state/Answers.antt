@@ -1,7 +1,8 @@
 use Rattle.std.proofs.Common.{◌≡◌, ◌++◌, refl}
 use Rattle.std.specs.List.{flat_map}
 use Rattle.std.proofs.lemmas.Result.{err_from_is_err_and}
-use Rattle.q3_demo.specs.Report.{count_text, map_text, pending_text, configs_text, baseline_text, held_under, held_texts, newest_text}
+use Rattle.q3_rings.specs.ByNumber.{held_under}
+use Rattle.q3_demo.specs.Report.{count_text, map_text, pending_text, configs_text, baseline_text, held_texts, newest_text}
 use Rattle.q3_demo.proofs.Printed.{state_in_parts}
 use Rattle.q3_demo.proofs.state.print_state.Goals as goal
 
