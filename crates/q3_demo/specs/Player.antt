@@ -5,7 +5,7 @@ use Rattle.q3_clstate.specs.declared.applied.Applied.{Applied}
 use Rattle.q3_demo.specs.declared.error.DemoError.{DemoError}
 use Rattle.q3_demo.specs.declared.error.DemoError.TheVariants.{ReadFault, Truncated}
 use Rattle.q3_demo.specs.declared.record.Piece.{Piece}
-use Rattle.q3_demo.specs.declared.record.Piece.TheVariants.{End}
+use Rattle.q3_demo.specs.declared.record.Piece.TheVariants.{End, Message}
 use Rattle.q3_demo.specs.Playing.{Played, Stepped, next_piece, step, most_records}
 
 -- how far a demo was played, and the commands that the last record's message executed
@@ -28,3 +28,10 @@ PlaysOn step was now (Ok (Some answer)) =
 PlaysOn step was now (Ok None) = (step ≡ Ok None) × (now ≡ was)
 PlaysOn step was now (Err ReadFault) = ⊤
 PlaysOn step was now (Err e) = step ≡ Err e
+
+-- what a piece that was read counts as behind the last record that may be played
+abbrev pub end_alone : ℕ → Result Piece DemoError → Result (Option Applied) DemoError
+end_alone at (Ok End) = Ok None
+end_alone at (Ok (Message number length next)) = Err (Truncated at)
+end_alone at (Err ReadFault) = Err ReadFault
+end_alone at (Err e) = Err (Truncated at)

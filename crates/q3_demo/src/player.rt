@@ -3,7 +3,7 @@
 ghost use Rattle.std.specs.Prelude.{◌≡◌, ◌≢◌, ◌+◌, ◌<◌, ◌≤◌, List, ℕ, [], length, drop, IfOk, IfErr};
 ghost use Rattle.q3_bits.specs.ResultBind.{fault_as};
 ghost use Rattle.q3_clstate.specs.State.{apply_at, state_behind, answered, heard_in};
-ghost use Rattle.q3_demo.specs.Player.{PlaysOn, step_of_all};
+ghost use Rattle.q3_demo.specs.Player.{PlaysOn, end_alone, step_of_all};
 ghost use Rattle.q3_demo.specs.Playing.{unplayed, step};
 ghost use Rattle.q3_demo.specs.Running.{HasFrom, OnlyAsks, ReadCause};
 
@@ -124,12 +124,8 @@ impl Player {
         if self.records < MOST_RECORDS {
             return self.next(files, file);
         }
-        match next_record(files, file, self.at, self.last, &mut self.message) {
-            Ok(Piece::End) => Ok(None),
-            Ok(Piece::Message { .. }) => Err(DemoError::Truncated(self.at)),
-            Err(DemoError::ReadFault) => Err(DemoError::ReadFault),
-            Err(_) => Err(DemoError::Truncated(self.at)),
-        }
+        let piece = next_record(files, file, self.at, self.last, &mut self.message);
+        end_alone(self.at, piece)
     }
 
     /// What the messages left.
@@ -191,5 +187,17 @@ fn apply(
     match state.apply(number, message, log) {
         Ok(applied) => Ok(applied),
         Err(cause) => Err(DemoError::Message(at, cause)),
+    }
+}
+
+/// What a piece counts as behind the last record that may be played: anything but the demo's end is refused, and a read fault stays one.
+fn end_alone(at: u64, piece: Result<Piece, DemoError>) -> Result<Option<Applied>, DemoError>
+    ensures { result ≡ end_alone at piece }
+{
+    match piece {
+        Ok(Piece::End) => Ok(None),
+        Ok(Piece::Message { .. }) => Err(DemoError::Truncated(at)),
+        Err(DemoError::ReadFault) => Err(DemoError::ReadFault),
+        Err(_) => Err(DemoError::Truncated(at)),
     }
 }
