@@ -1,5 +1,7 @@
 //! Why bytes are no state.
 
+ghost use Rattle.std.specs.Prelude.{◌≡◌};
+
 use q3_bits::NoMemory;
 
 /// Why a state wasn't read.
@@ -12,6 +14,10 @@ pub enum StateError {
 }
 
 impl From<NoMemory> for StateError {
+    ghost use Rattle.q3_savestate.specs.declared.error.StateError.TheVariants as errors;
+
+    ghost from_gives = { λ _ e. e ≡ errors.NoMemory };
+
     fn from(_: NoMemory) -> StateError {
         StateError::NoMemory
     }
