@@ -1,5 +1,5 @@
 -- What stands in front of a state: the last command's text.
-use Rattle.std.proofs.Common.{◌≡◌, ℕ, ◌<◌, ◌≤◌, ◌≢◌, eqb, true, List, [], ◌∷◌, length, Ok, sym, arith}
+use Rattle.std.proofs.Common.{◌≡◌, ℕ, ◌≤◌, true, List, [], ◌∷◌, Ok, sym, arith}
 use Rattle.std.specs.Prelude.{nat_lt, ◌==◌, ◌&&◌, not}
 use Rattle.std.specs.List.{All, list_all}
 use Rattle.std.proofs.lemmas.Bool.{and_parts, ltb-true}

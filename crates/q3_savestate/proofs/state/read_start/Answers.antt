@@ -1,4 +1,4 @@
-use Rattle.std.proofs.Common.{◌≡◌, ◌≤◌, sym, arith}
+use Rattle.std.proofs.Common.{◌≤◌, sym, arith}
 use Rattle.q3_savestate.proofs.Ranges.{in_range}
 use Rattle.q3_savestate.proofs.Starts.{is_text}
 use Rattle.q3_savestate.proofs.state.read_start.Goals as goal

@@ -1,12 +1,11 @@
 use Rattle.std.proofs.Common.{◌≡◌, [], ◌∷◌, refl, rules}
 use Rattle.std.specs.Prelude.{if◌then◌else◌}
-use Rattle.std.specs.List.{flat_map, concat}
+use Rattle.std.specs.List.{concat}
 use Rattle.std.proofs.lemmas.Result.{err_from_is_err_and}
-use Rattle.byteorder.specs.Endian.{little_bytes}
 use Rattle.q3_savestate.specs.Entities.{lines_bytes}
 use Rattle.q3_savestate.specs.Texts.{strings_bytes, pending_bytes}
 use Rattle.q3_savestate.specs.Snapshots.{snapshots_bytes}
-use Rattle.q3_savestate.specs.State.{flag_bytes, start_bytes}
+use Rattle.q3_savestate.specs.State.{flag_bytes}
 use Rattle.q3_savestate.specs.Lending.{parts_of}
 use Rattle.q3_savestate.proofs.Rows.{row_ends}
 use Rattle.q3_savestate.proofs.state.write_state.Goals as goal
