@@ -26,3 +26,4 @@ pub mod SnapshotRead
 pub mod SnapshotsRead
 pub mod SetStrings
 pub mod StringsRead
+pub mod Starts

@@ -1,6 +1,6 @@
 -- A snapshot that is read, and put back behind others.
-use Rattle.std.proofs.Common.{◌≡◌, ℕ, zero, suc, ◌+◌, ◌-◌, ◌<◌, ◌≤◌, ◌≢◌, true, false, List, [], ◌∷◌, ◌++◌, length, get_or, set, Option, Some, None, Ok, Err, inl, inr, refl, sym, ap, ◌∙◌, subst, arith}
-use Rattle.std.specs.Prelude.{IfSome, MatchOption, min}
+use Rattle.std.proofs.Common.{◌≡◌, ℕ, zero, suc, ◌+◌, ◌-◌, ◌<◌, ◌≤◌, false, List, [], ◌∷◌, length, get_or, Option, Some, None, Ok, Err, inl, inr, refl, sym, ap, ◌∙◌, subst, arith}
+use Rattle.std.specs.Prelude.{IfSome, MatchOption}
 use Rattle.std.proofs.lemmas.Bool.{cases_Bool, cases_eq}
 use Rattle.std.proofs.lemmas.List.{get_or-set_same, get_or-set_other}
 use Rattle.q3_bits.specs.ResultBind.{◌>>=◌, bind_ok}
@@ -9,8 +9,8 @@ use Rattle.q3_entity.specs.declared.state.EntityState.{EntityState}
 use Rattle.q3_entity.specs.Entities.{most_entities}
 use Rattle.q3_player.specs.declared.head.SnapHead.{SnapHead}
 use Rattle.q3_profile.specs.declared.profile.Profile.{Profile}
-use Rattle.q3_ring.specs.Places.{most_places, place_of, put_at_number}
-use Rattle.q3_rings.specs.Rings.{HeldSnapshot, HeldSnapshots, Begun, RingsState, AreHeldSnapshots, CanPutBack, is_young, begin_in, end_in, put_back_at}
+use Rattle.q3_ring.specs.Places.{most_places, place_of}
+use Rattle.q3_rings.specs.Rings.{HeldSnapshot, HeldSnapshots, RingsState, AreHeldSnapshots, CanPutBack, is_young, begin_in, end_in, put_back_at}
 use Rattle.q3_savestate.specs.Cursor.{Cursor, Field, number_at}
 use Rattle.q3_savestate.specs.Entities.{entity_at, entities_at}
 use Rattle.q3_savestate.specs.Snapshots.{slot_at, head_at, most_of, snapshot_at}

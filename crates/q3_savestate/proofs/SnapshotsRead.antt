@@ -1,10 +1,10 @@
 -- Snapshots that are read one after the other.
-use Rattle.std.proofs.Common.{◌≡◌, ℕ, zero, suc, ◌+◌, ◌-◌, ◌<◌, ◌≤◌, List, length, get_or, replicate, Option, Some, None, Ok, Err, refl, sym, ap, ◌∙◌, subst, arith}
+use Rattle.std.proofs.Common.{◌≡◌, ℕ, zero, suc, ◌+◌, ◌-◌, ◌<◌, ◌≤◌, length, get_or, replicate, Option, None, Ok, Err, refl, sym, ap, ◌∙◌, subst, arith}
 use Rattle.std.specs.Prelude.{IfSome, ◌==◌, if◌then◌else◌}
 use Rattle.q3_bits.specs.ResultBind.{◌>>=◌}
 use Rattle.q3_profile.specs.declared.profile.Profile.{Profile}
-use Rattle.q3_ring.specs.Places.{most_places, no_places}
-use Rattle.q3_rings.specs.Rings.{HeldSnapshot, HeldSnapshots, RingsState, no_snapshots, no_rings, put_back_at}
+use Rattle.q3_ring.specs.Places.{most_places}
+use Rattle.q3_rings.specs.Rings.{HeldSnapshot, HeldSnapshots, RingsState, no_snapshots, no_rings}
 use Rattle.q3_savestate.specs.Cursor.{Cursor, Field, number_at}
 use Rattle.q3_savestate.specs.Snapshots.{last_number, snapshot_at, snapshots_after, snapshots_at}
 use Rattle.q3_savestate.specs.Reading.{as_field, behind_one, MayPutBack}

@@ -1,7 +1,7 @@
 //! The snapshots that a client holds as bytes: each with its age, by rising number. Where its entities lie isn't kept, since ages alone decide
 //! whether a base is held.
 
-ghost use Rattle.std.specs.Prelude.{◌≡◌, ◌^◌, ◌<◌, ◌≤◌, [], length, None, Some, IfOk, MatchOption};
+ghost use Rattle.std.specs.Prelude.{◌≡◌, ◌^◌, ◌<◌, ◌≤◌, [], length, None, IfOk, MatchOption};
 ghost use Rattle.std.specs.List.{flat_map};
 ghost use Rattle.byteorder.specs.Endian.{little_bytes};
 ghost use Rattle.q3_entity.specs.Entities.{run_of, most_entities};
@@ -39,7 +39,11 @@ const MOST_ENTITIES: u32 = 256;
 const MOST_AREA: u8 = 32;
 
 /// Writes the snapshots that are held.
-pub(crate) fn write_snapshots<O: Sink>(profile: &Profile, rings: &Rings, out: &mut O) -> Result<(), Failed>
+pub(crate) fn write_snapshots<O: Sink>(
+    profile: &Profile,
+    rings: &Rings,
+    out: &mut O,
+) -> Result<(), Failed>
     requires ages { HasAges rings.now.held }
     ensures adds { Adds (O.written out.old) (O.written out.new) (snapshots_bytes profile.now rings.now.held) result }
     ensures cause { HasCause (O.faults out.old) (O.faults out.new) result }
@@ -57,7 +61,12 @@ pub(crate) fn write_snapshots<O: Sink>(profile: &Profile, rings: &Rings, out: &m
 }
 
 /// Writes the snapshot of a number, if it is held.
-fn write_numbered<O: Sink>(profile: &Profile, rings: &Rings, number: u32, out: &mut O) -> Result<(), Failed>
+fn write_numbered<O: Sink>(
+    profile: &Profile,
+    rings: &Rings,
+    number: u32,
+    out: &mut O,
+) -> Result<(), Failed>
     requires ages { HasAges rings.now.held }
     ensures adds { Adds (O.written out.old) (O.written out.new) (flat_map (snapshot_bytes profile.now) (one_of (held_under rings.now.held number))) result }
     ensures cause { HasCause (O.faults out.old) (O.faults out.new) result }
@@ -69,7 +78,12 @@ fn write_numbered<O: Sink>(profile: &Profile, rings: &Rings, number: u32, out: &
 }
 
 /// Writes a snapshot: its number, its age, its head, and its entities as far as they are there.
-fn write_snapshot<O: Sink>(profile: &Profile, held: Held, entities: Run, out: &mut O) -> Result<(), Failed>
+fn write_snapshot<O: Sink>(
+    profile: &Profile,
+    held: Held,
+    entities: Run,
+    out: &mut O,
+) -> Result<(), Failed>
     requires age { held.age < 2 ^ 32 }
     requires few { length (run_of entities) ≤ most_entities }
     ensures adds { Adds (O.written out.old) (O.written out.new) (snapshot_bytes profile.now (record { snapshot = record { head = held.entry.head.now; entities = run_of entities.entry }; age = held.entry.age })) result }
@@ -95,7 +109,11 @@ fn write_run<O: Sink>(profile: &Profile, entities: Run, out: &mut O) -> Result<(
 }
 
 /// Writes entities, one behind the other.
-fn write_each<O: Sink>(profile: &Profile, entities: &[EntityState], out: &mut O) -> Result<(), Failed>
+fn write_each<O: Sink>(
+    profile: &Profile,
+    entities: &[EntityState],
+    out: &mut O,
+) -> Result<(), Failed>
     ensures adds { Adds (O.written out.old) (O.written out.new) (flat_map (entity_bytes profile.now.entity) entities.now) result }
     ensures cause { HasCause (O.faults out.old) (O.faults out.new) result }
 {
@@ -154,7 +172,11 @@ fn write_longs<O: Sink>(words: &[u32; 16], out: &mut O) -> Result<(), Failed>
 
 /// Reads snapshots into a ring with the profile's room, in which none is held.
 #[tactic(auto, unfolding(crate::specs::Snapshots::snapshots_at))]
-pub(crate) fn read_snapshots(cursor: &mut Cursor, profile: &Profile, rings: &mut Rings) -> Result<(), usize>
+pub(crate) fn read_snapshots(
+    cursor: &mut Cursor,
+    profile: &Profile,
+    rings: &mut Rings,
+) -> Result<(), usize>
     requires least { 512 ≤ profile.now.parse_ring }
     requires none { rings.old ≡ no_rings profile.now.parse_ring }
     ensures found { found_in result rings.new.held cursor.new ≡ snapshots_at profile.now cursor.old }
@@ -240,7 +262,12 @@ fn most_of(profile: &Profile, age: u32) -> u16
 }
 
 /// Reads the entities of the snapshot that is being put back, which has none yet.
-fn read_entities(cursor: &mut Cursor, profile: &Profile, count: u16, rings: &mut Rings) -> Result<(), usize>
+fn read_entities(
+    cursor: &mut Cursor,
+    profile: &Profile,
+    count: u16,
+    rings: &mut Rings,
+) -> Result<(), usize>
     requires begun { MatchOption rings.old.begun ⊥ (λ begun. (begun.entities ≡ []) × (begun.count ≡ count)) }
     requires few { count ≤ most_entities }
     ensures { found_in result rings.new cursor.new ≡ as_field (placed_in rings.old) (entities_at profile.now.entity count 0 cursor.old) }
@@ -267,14 +294,20 @@ fn read_head(cursor: &mut Cursor, profile: &Profile, number: u32) -> Result<Snap
     head.time = cursor.long(0, u32::MAX)?;
     head.flags = cursor.byte(0, u8::MAX)?;
     let length = cursor.byte(0, MOST_AREA)?;
-    let _ = head.area.try_extend_from_slice(cursor.take(usize::from(length))?);
+    let _ = head
+        .area
+        .try_extend_from_slice(cursor.take(usize::from(length))?);
     read_player(cursor, profile, &mut head.player)?;
     Ok(head)
 }
 
 /// Reads a player.
 #[tactic(auto, unfolding(crate::specs::Snapshots::player_at, q3_player::specs::State::zero_player))]
-fn read_player(cursor: &mut Cursor, profile: &Profile, player: &mut PlayerState) -> Result<(), usize>
+fn read_player(
+    cursor: &mut Cursor,
+    profile: &Profile,
+    player: &mut PlayerState,
+) -> Result<(), usize>
     requires { player.old ≡ zero_player }
     ensures { found_in result player.new cursor.new ≡ player_at profile.now cursor.old }
 {

@@ -14,10 +14,10 @@ ghost use Rattle.q3_rings.specs.Rings.{no_rings};
 
 use crate::cursor::Cursor;
 use crate::entities::{read_lines, write_lines};
-use crate::writing::{write_byte, write_long, write_short};
 use crate::error::StateError;
 use crate::snapshots::{LAST_NUMBER, read_snapshots, write_snapshots};
 use crate::texts::{read_pending, read_strings, write_pending, write_strings};
+use crate::writing::{write_byte, write_long, write_short};
 use q3_config::Configs;
 use q3_entity::Baselines;
 use q3_io::{Failed, Sink, laws};
@@ -178,7 +178,13 @@ fn read_start(cursor: &mut Cursor) -> Result<Start, usize>
     let executed = cursor.long(0, u32::MAX)?;
     let length = cursor.short(0, LONGEST_TEXT)?;
     let text = cursor.text(usize::from(length))?;
-    Ok(Start { number, id, slot, feed, incoming: Incoming::at(executed, &text_of(text)) })
+    Ok(Start {
+        number,
+        id,
+        slot,
+        feed,
+        incoming: Incoming::at(executed, &text_of(text)),
+    })
 }
 
 /// The text of bytes that a text may hold, at most 1,023.

@@ -1,4 +1,4 @@
-use Rattle.std.proofs.Common.{◌≡◌, ◌-◌, ◌≤◌, sym, ap, ◌∙◌, refl, arith}
+use Rattle.std.proofs.Common.{◌-◌, sym, ap, ◌∙◌}
 use Rattle.q3_rings.specs.Rings.{CanPutBack, end_in}
 use Rattle.q3_savestate.specs.Snapshots.{most_of}
 use Rattle.q3_savestate.proofs.SnapshotRead.{can_back, is_full, was_put_back, IsBehind}

@@ -1,8 +1,7 @@
-use Rattle.std.proofs.Common.{[], ◌∷◌, length, refl}
+use Rattle.std.proofs.Common.{[], ◌∷◌, refl}
 use Rattle.std.specs.List.{flat_map, concat}
 use Rattle.std.proofs.lemmas.Result.{err_from_is_err_and}
 use Rattle.byteorder.specs.Endian.{little_bytes}
-use Rattle.q3_savestate.specs.Entities.{words_bytes}
 use Rattle.q3_savestate.specs.Snapshots.{shorts_bytes}
 use Rattle.q3_savestate.proofs.WrittenRows.{row_ends}
 use Rattle.q3_savestate.proofs.snapshots.write_player.Goals as goal
