@@ -4,6 +4,7 @@ pub mod Pieces
 pub mod Finding
 pub mod Going
 pub mod PlayingOn
+pub mod Taking
 pub mod Printed
 pub mod Fronts
 pub mod Stepping

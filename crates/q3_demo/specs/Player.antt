@@ -1,5 +1,5 @@
 -- A demo that is played record by record.
-use Rattle.std.specs.Prelude.{◌≡◌, ℕ, ⊤, List, Option, Some, None, Result, Ok, Err}
+use Rattle.std.specs.Prelude.{◌≡◌, ⊤, List, Option, Some, None, Result, Ok, Err}
 use Rattle.q3_text.specs.declared.text.Command.{Command}
 use Rattle.q3_clstate.specs.declared.applied.Applied.{Applied}
 use Rattle.q3_demo.specs.declared.error.DemoError.{DemoError}
