@@ -1,6 +1,6 @@
 -- A demo is played record by record, and how that ends.
-use Rattle.std.proofs.Common.{◌≡◌, ℕ, zero, suc, ◌+◌, ◌-◌, ◌<◌, ◌≤◌, Bool, true, false, List, [], ◌∷◌, ◌++◌, length, take, drop, Option, Some, None, Result, Ok, Err, refl, sym, ap, subst, ◌∙◌, append_assoc, arith}
-use Rattle.std.specs.Prelude.{IfErr}
+use Rattle.std.proofs.Common.{◌≡◌, ℕ, zero, suc, ◌+◌, ◌-◌, ◌<◌, ◌≤◌, true, false, List, [], ◌∷◌, ◌++◌, length, take, drop, Option, Some, None, Result, Ok, Err, refl, sym, ap, subst, ◌∙◌, append_assoc, arith}
+use Rattle.std.specs.Prelude.{IfErr, is_ok}
 use Rattle.std.specs.List.{concat}
 use Rattle.std.proofs.Math.Seq.{take-append-add}
 use Rattle.std.proofs.lemmas.List.{append-nil, drop_at, drop-drop, length-append, length-take}
@@ -15,9 +15,10 @@ use Rattle.q3_demo.specs.declared.error.DemoError.TheVariants.{ReadFault, Trunca
 use Rattle.q3_demo.specs.declared.record.Piece.{Piece}
 use Rattle.q3_demo.specs.declared.record.Piece.TheVariants as piece
 use Rattle.q3_demo.specs.Records.{head_bytes, piece_of}
-use Rattle.q3_demo.specs.Playing.{Played, Stepped, Play, play_text, next_piece, message_of, played_on, play_piece, step, most_records, told_first, at_most, play_step, play_from}
-use Rattle.q3_demo.specs.Running.{HasFrom, FindsPiece, Plays, ReadCause}
-use Rattle.q3_demo.specs.Steps.{step_text, Leads, Fails, TakesStep, behind_limit}
+use Rattle.q3_demo.specs.Report.{state_text}
+use Rattle.q3_demo.specs.Playing.{Played, Stepped, Play, play_text, next_piece, message_of, played_on, play_piece, step, most_records, ends, refused, told_first, at_most, play_step, play_from}
+use Rattle.q3_demo.specs.Running.{HasFrom, Plays}
+use Rattle.q3_demo.specs.Steps.{step_text, Leads, Fails, TakesStep}
 use Rattle.q3_demo.proofs.Whole.{has_joined}
 use Rattle.q3_demo.proofs.Pieces.{record_is, was_record, record_stays, message_stays}
 
@@ -146,39 +147,44 @@ step_is demo bytes now found there is =
     let here : next_piece demo now ≡ Ok found = ap (λ (xs : List ℕ). piece_of xs now.at now.last) there ∙ sym is in
     ap (λ (r : Result Piece DemoError). r >>= play_piece demo now) here
 
--- no read failed in it
-pub reads_on : (before now : ℕ) (e : DemoError) → (e ≡ ReadFault → ⊥) → now ≡ before → ReadCause {T = Bool} before now (Err e)
-reads_on before now ReadFault other same = absurd (other refl)
-reads_on before now (Truncated at) other same = same
-reads_on before now (BadLength at) other same = same
-reads_on before now (BadNumber at) other same = same
-reads_on before now (NoMessage at cause) other same = same
-reads_on before now NoMemory other same = same
-reads_on before now WriteFault other same = same
-
 -- ---- behind the last record that may be played
 
-refuses_last : (law : TextsFollow) (now : Played) (found : Result Piece DemoError) (e : DemoError) (written : Option Written) → Err e ≡ found
-    → (stops (Truncated now.at) ≡ (at_most now found).ending) × Wrote written written (play_text (at_most now found)) true
-refuses_last law now (Ok piece.End) e written is = absurd cc
-refuses_last law now (Ok (piece.Message number size next)) e written is = absurd cc
-refuses_last law now (Err d) e written is = (refl, law.none)
+-- what is left at the demo's end is told
+state_last : (law : TextsFollow) (now : Played) (mid after : Option Written) (result : Result (Unit {0}) DemoError) → Wrote mid after (state_text now.state now.records) (is_ok result)
+    → IfErr result (λ e. e ≡ WriteFault) → Plays (ends now) mid after result
+state_last law now mid after (Ok x) wrote only = (refl, law.more wrote law.none refl)
+state_last law now mid after (Err e) wrote only =
+    subst (λ (d : DemoError). Plays (ends now) mid after (Err d)) (sym only) (law.early [] wrote refl)
 
-pub limit_refuses : (law : TextsFollow) (now : Played) (bytes buffer : List ℕ) (e : DemoError) (written : Option Written) → FindsPiece bytes now.at now.last buffer (Err e)
-    → Plays (at_most now (piece_of bytes now.at now.last)) written written (Err (behind_limit now.at e))
-limit_refuses law now bytes buffer ReadFault written finds = (0, law.none)
-limit_refuses law now bytes buffer (Truncated at) written finds = refuses_last law now (piece_of bytes now.at now.last) (Truncated at) written finds.0
-limit_refuses law now bytes buffer (BadLength at) written finds = refuses_last law now (piece_of bytes now.at now.last) (BadLength at) written finds.0
-limit_refuses law now bytes buffer (BadNumber at) written finds = refuses_last law now (piece_of bytes now.at now.last) (BadNumber at) written finds.0
-limit_refuses law now bytes buffer (NoMessage at cause) written finds = refuses_last law now (piece_of bytes now.at now.last) (NoMessage at cause) written finds.0
-limit_refuses law now bytes buffer NoMemory written finds = refuses_last law now (piece_of bytes now.at now.last) NoMemory written finds.0
-limit_refuses law now bytes buffer WriteFault written finds = refuses_last law now (piece_of bytes now.at now.last) WriteFault written finds.0
+no_more_there : (demo : List ℕ) (now : Played) (found : Result Piece DemoError) → (found >>= play_piece demo now) ≡ Ok None → at_most now found ≡ ends now
+no_more_there demo now (Ok piece.End) is = refl
+no_more_there demo now (Ok (piece.Message number size next)) is =
+    let on : Application → Result (Option Stepped) DemoError = λ applied. Ok (Some (played_on now number next applied)) in
+    let p = bind_ok (fault_as (NoMessage now.at) (apply_at now.state number (message_of demo now size))) on None is in
+    absurd (let e = p.2 in cc)
+no_more_there demo now (Err e) is = absurd cc
 
-pub limit_message : (law : TextsFollow) (now : Played) (found : Result Piece DemoError) (number size next : ℕ) (written : Option Written) → Ok (piece.Message number size next) ≡ found
-    → (stops (Truncated now.at) ≡ (at_most now found).ending) × Wrote written written (play_text (at_most now found)) true
-limit_message law now (Ok piece.End) number size next written is = absurd cc
-limit_message law now (Ok (piece.Message n s x)) number size next written is = (refl, law.none)
-limit_message law now (Err d) number size next written is = absurd cc
+some_there : (demo : List ℕ) (now : Played) (found : Result Piece DemoError) (told : Result (Option Stepped) DemoError) → (found >>= play_piece demo now) ≡ told → (told ≡ Ok None → ⊥)
+    → at_most now found ≡ refused (Truncated now.at)
+some_there demo now (Ok piece.End) told is other = absurd (other (sym is))
+some_there demo now (Ok (piece.Message number size next)) told is other = refl
+some_there demo now (Err e) told is other = refl
+
+-- the demo ends there
+pub ends_limit : (law : TextsFollow) (demo bytes : List ℕ) (now : Played) (mid after : Option Written) (result : Result (Unit {0}) DemoError) → drop now.at demo ≡ bytes → step demo now ≡ Ok None
+    → Wrote mid after (state_text now.state now.records) (is_ok result) → IfErr result (λ e. e ≡ WriteFault) → Plays (at_most now (piece_of bytes now.at now.last)) mid after result
+ends_limit law demo bytes now mid after result there is wrote only =
+    let here : at_most now (piece_of bytes now.at now.last) ≡ ends now =
+    ap (λ (xs : List ℕ). at_most now (piece_of xs now.at now.last)) (sym there) ∙ no_more_there demo now (next_piece demo now) is in
+    subst (λ (p : Play). Plays p mid after result) (sym here) (state_last law now mid after result wrote only)
+
+-- it doesn't
+pub refuses_limit : (law : TextsFollow) (demo bytes : List ℕ) (now : Played) (written : Option Written) (told : Result (Option Stepped) DemoError) → drop now.at demo ≡ bytes → step demo now ≡ told
+    → (told ≡ Ok None → ⊥) → Plays (at_most now (piece_of bytes now.at now.last)) written written (Err (Truncated now.at))
+refuses_limit law demo bytes now written told there is other =
+    let here : at_most now (piece_of bytes now.at now.last) ≡ refused (Truncated now.at) =
+    ap (λ (xs : List ℕ). at_most now (piece_of xs now.at now.last)) (sym there) ∙ some_there demo now (next_piece demo now) told is other in
+    subst (λ (p : Play). Plays p written written (Err (Truncated now.at))) (sym here) (refl, law.none)
 
 -- ---- a demo
 

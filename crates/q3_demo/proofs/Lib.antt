@@ -5,6 +5,7 @@ pub mod Finding
 pub mod Going
 pub mod PlayingOn
 pub mod EndingAll
+pub mod Taking
 pub mod Printed
 pub mod Fronts
 pub mod Stepping

@@ -8,10 +8,9 @@ use Rattle.q3_clstate.specs.declared.applied.Applied.{Applied}
 use Rattle.q3_clstate.specs.State.{AppliedState, Application, apply_at, state_behind, answered, heard_in}
 use Rattle.q3_demo.specs.declared.error.DemoError.{DemoError}
 use Rattle.q3_demo.specs.declared.error.DemoError.TheVariants.{ReadFault, Truncated, BadLength, BadNumber, Message as NoMessage, NoMemory, WriteFault}
-use Rattle.q3_demo.specs.declared.record.Piece.{Piece}
 use Rattle.q3_demo.specs.declared.record.Piece.TheVariants as piece
 use Rattle.q3_demo.specs.Records.{head_bytes, piece_of}
-use Rattle.q3_demo.specs.Playing.{Played, Stepped, message_of, played_on, play_piece, step}
+use Rattle.q3_demo.specs.Playing.{Played, Stepped, message_of, played_on, step}
 use Rattle.q3_demo.specs.Player.{PlayerState, PlaysOn}
 use Rattle.q3_demo.proofs.Going.{step_is, message_there}
 

@@ -1,11 +1,9 @@
 -- How a demo is read and played step by step.
 use Rattle.std.specs.Prelude.{◌≡◌, ℕ, ◌<◌, ◌≤◌, min, Bool, true, false, List, [], length, take, Option, Some, None, Result, Ok, Err}
 use Rattle.q3_io.specs.Written.{Written, Wrote}
-use Rattle.q3_clstate.specs.State.{AppliedState}
 use Rattle.q3_demo.specs.declared.error.DemoError.{DemoError}
 use Rattle.q3_demo.specs.declared.error.DemoError.TheVariants.{ReadFault, Truncated, WriteFault, NoMemory}
 use Rattle.q3_demo.specs.declared.record.Head.{Head}
-use Rattle.q3_demo.specs.declared.playing.Course.{Course}
 use Rattle.q3_demo.specs.Records.{head_bytes, number_of, length_of}
 use Rattle.q3_demo.specs.Report.{state_text}
 use Rattle.q3_demo.specs.Playing.{Played, Stepped}
@@ -25,10 +23,6 @@ FindsHead bytes (Err e) = e ≡ ReadFault
 
 -- ---- playing
 
--- how far a demo was played
-abbrev pub played_of : AppliedState → Course → Played
-played_of state course = record { state = state; records = course.records; last = course.last; at = course.at }
-
 -- what a step tells: the lines of a record, or at the demo's end what all of them left
 abbrev pub step_text : Played → Result (Option Stepped) DemoError → List ℕ
 step_text played (Ok None) = state_text played.state played.records
@@ -46,11 +40,6 @@ Fails step was before after NoMemory = ⊥
 Fails step was before after ReadFault = after ≡ before
 Fails step was before after WriteFault = Wrote before after (step_text was step) false
 Fails step was before after e = (step ≡ Err e) × (after ≡ before)
-
--- one record more was played
-abbrev pub PlaysRecord : Result (Option Stepped) DemoError → Played → Played → Option Written → Option Written → Result (Unit {0}) DemoError → Type 0
-PlaysRecord step was now before after (Ok x) = Leads step now × Wrote before after (step_text was step) true
-PlaysRecord step was now before after (Err e) = Fails step was before after e
 
 -- a step was taken: the demo ended, or one record more was played
 abbrev pub TakesStep : Result (Option Stepped) DemoError → Played → Played → Option Written → Option Written → Result Bool DemoError → Type 0

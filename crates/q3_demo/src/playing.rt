@@ -1,34 +1,23 @@
 //! Plays a demo.
 
-ghost use Rattle.std.specs.Prelude.{◌≡◌, ◌≢◌, ◌+◌, ◌<◌, ◌≤◌, List, ℕ, length, drop, OnOk, IfErr};
+ghost use Rattle.std.specs.Prelude.{◌≡◌, ◌≢◌, ◌+◌, ◌<◌, ◌≤◌, List, ℕ, drop, OnOk, IfErr};
 ghost use Rattle.q3_io.specs.Written.{Adds};
-ghost use Rattle.q3_demo.specs.declared.record.Piece.TheVariants as pieces;
-ghost use Rattle.q3_demo.specs.Records.{longest_record, piece_of};
+ghost use Rattle.q3_demo.specs.Records.{piece_of};
 ghost use Rattle.q3_demo.specs.Report.{state_text};
-ghost use Rattle.q3_demo.specs.Playing.{most_records, message_of, at_most, play_of, play_from, play_piece, step};
+ghost use Rattle.q3_demo.specs.Playing.{most_records, at_most, play_of, play_from, step};
 ghost use Rattle.q3_demo.specs.Running.{HasFrom, OnlyAsks, Plays, ReadCause, WriteCause};
-ghost use Rattle.q3_demo.specs.Steps.{played_of, PlaysRecord, TakesStep, behind_limit};
+ghost use Rattle.q3_demo.specs.Steps.{TakesStep, behind_limit};
 
 use crate::error::DemoError;
 use crate::lines::print_record;
-use crate::record::{LONGEST_RECORD, Piece, next_record};
+use crate::player::Player;
 use crate::state::print_state;
-use q3_clstate::{ClState, Log};
 use q3_io::{Failed, Files, Sink, laws};
 use q3_profile::Profile;
-use q3_text::Commands;
 use std::alloc::Global;
 
 /// How many records are played at most.
 const MOST_RECORDS: u32 = 1_048_576;
-
-/// How far a demo was played: how many records, the number of the last, 0 for none, and the place behind them.
-#[derive(Clone, Copy)]
-pub(crate) struct Course {
-    records: u32,
-    last: u32,
-    at: u64,
-}
 
 /// Plays a demo: prints the lines of each record, and behind the last what they left. The file is read as it plays, and memory is taken
 /// before that alone. `Err` is the first record that is refused, as `next_record` says, or `Message` exactly where its message isn't
@@ -50,26 +39,22 @@ pub fn play<F: Files, O: Sink>(
     ensures write_cause { WriteCause (O.faults out.old) (O.faults out.new) result }
     ensures others { F.write_faults files.new ≡ F.write_faults files.old }
 {
-    let mut message = vec![in alloc; 0; LONGEST_RECORD]?;
-    let commands = Commands::new(alloc)?;
-    let mut log = Log { commands };
-    let mut state = ClState::new(alloc, profile)?;
-    play_records(files, file, &mut message, &mut state, &mut log, out)
+    let mut player = Player::new(alloc, profile)?;
+    play_records(files, file, &mut player, out)
 }
 
 /// Plays the records of a demo, from its first byte on.
 fn play_records<F: Files, O: Sink>(
     files: &mut F,
     file: usize,
-    message: &mut [u8],
-    state: &mut ClState,
-    log: &mut Log,
+    player: &mut Player,
     out: &mut O,
 ) -> Result<(), DemoError>
     requires given { file < F.given files.old }
-    requires room { length message.old ≡ longest_record }
+    requires none { player.old.played.records ≡ 0 }
+    requires first { player.old.played.at ≡ 0 }
     ensures plays { (demo : List ℕ) × HasFrom (F.told files.old) file 0 demo
-        × Plays (play_from most_records demo (record { state = state.old; records = 0; last = 0; at = 0 })) (O.written out.old) (O.written out.new) result }
+        × Plays (play_from most_records demo player.old.played) (O.written out.old) (O.written out.new) result }
     ensures given { F.given files.new ≡ F.given files.old }
     ensures asks { OnlyAsks (F.told files.old) (F.told files.new) }
     ensures read_cause { ReadCause (F.faults files.old) (F.faults files.new) result }
@@ -77,85 +62,41 @@ fn play_records<F: Files, O: Sink>(
     ensures others { F.write_faults files.new ≡ F.write_faults files.old }
 {
     laws::texts_follow();
-    let mut course = Course {
-        records: 0,
-        last: 0,
-        at: 0,
-    };
     for _ in 0..MOST_RECORDS {
-        if play_next(files, file, &mut course, message, state, log, out)? {
+        if play_next(files, file, player, out)? {
             return Ok(());
         }
     }
-    end_here(files, file, course, message, state, out)
+    end_here(files, file, player, out)
 }
 
-/// Plays the next record; at the demo's end, which it answers, it prints what all of them left.
+/// Plays the next record, and prints its lines; at the demo's end, which it answers, it prints what all of them left.
 fn play_next<F: Files, O: Sink>(
     files: &mut F,
     file: usize,
-    course: &mut Course,
-    message: &mut [u8],
-    state: &mut ClState,
-    log: &mut Log,
+    player: &mut Player,
     out: &mut O,
 ) -> Result<bool, DemoError>
     requires given { file < F.given files.old }
-    requires room { length message.old ≡ longest_record }
-    requires few { course.old.records < most_records }
-    ensures takes { (bytes : List ℕ) × HasFrom (F.told files.old) file course.old.at bytes
-        × ((demo : List ℕ) → drop course.old.at demo ≡ bytes → TakesStep (step demo (played_of state.old course.old))
-        (played_of state.old course.old) (played_of state.new course.new) (O.written out.old) (O.written out.new) result) }
-    ensures room { length message.new ≡ length message.old }
-    ensures records { OnOk result (course.new.records ≤ course.old.records + 1) }
+    requires few { player.old.played.records < most_records }
+    ensures takes { (bytes : List ℕ) × HasFrom (F.told files.old) file player.old.played.at bytes
+        × ((demo : List ℕ) → drop player.old.played.at demo ≡ bytes → TakesStep (step demo player.old.played)
+        player.old.played player.new.played (O.written out.old) (O.written out.new) result) }
+    ensures records { OnOk result (player.new.played.records ≤ player.old.played.records + 1) }
     ensures given { F.given files.new ≡ F.given files.old }
     ensures asks { OnlyAsks (F.told files.old) (F.told files.new) }
     ensures read_cause { ReadCause (F.faults files.old) (F.faults files.new) result }
     ensures write_cause { WriteCause (O.faults out.old) (O.faults out.new) result }
     ensures others { F.write_faults files.new ≡ F.write_faults files.old }
 {
-    match next_record(files, file, course.at, course.last, message)? {
-        Piece::End => {
-            end(state, course.records, out)?;
-            Ok(true)
-        }
-        Piece::Message {
-            number,
-            length,
-            next,
-        } => {
-            play_message(*course, number, &message[..length], state, log, out)?;
-            *course = Course {
-                records: course.records + 1,
-                last: number,
-                at: next,
-            };
-            Ok(false)
-        }
-    }
-}
-
-/// Applies the message of a record, and prints the record's lines.
-fn play_message<O: Sink>(
-    course: Course,
-    number: u32,
-    message: &[u8],
-    state: &mut ClState,
-    log: &mut Log,
-    out: &mut O,
-) -> Result<(), DemoError>
-    ensures plays { (demo : List ℕ) (length next : ℕ) → message.now ≡ message_of demo (played_of state.old course) length
-        → PlaysRecord (play_piece demo (played_of state.old course) (pieces.Message number length next)) (played_of state.old course)
-        (record { state = state.new; records = course.records + 1; last = number; at = next }) (O.written out.old) (O.written out.new) result }
-    ensures reads { IfErr result (λ e. e ≢ DemoError.ReadFault) }
-    ensures cause { WriteCause (O.faults out.old) (O.faults out.new) result }
-{
-    let applied = match state.apply(number, message, log) {
-        Ok(applied) => applied,
-        Err(cause) => return Err(DemoError::Message(course.at, cause)),
+    let index = player.records();
+    let Some(applied) = player.next(files, file)? else {
+        end(player, out)?;
+        return Ok(true);
     };
-    match print_record(course.records, number, state, &applied, log, out) {
-        Ok(()) => Ok(()),
+    let state = player.state();
+    match print_record(index, player.last(), state, &applied, player.log(), out) {
+        Ok(()) => Ok(false),
         Err(Failed) => Err(DemoError::WriteFault),
     }
 }
@@ -164,15 +105,13 @@ fn play_message<O: Sink>(
 fn end_here<F: Files, O: Sink>(
     files: &mut F,
     file: usize,
-    course: Course,
-    message: &mut [u8],
-    state: &ClState,
+    player: &mut Player,
     out: &mut O,
 ) -> Result<(), DemoError>
     requires given { file < F.given files.old }
-    requires room { length message.old ≡ longest_record }
-    ensures ends { (bytes : List ℕ) × HasFrom (F.told files.old) file course.at bytes
-        × Plays (at_most (played_of state.now course) (piece_of bytes course.at course.last)) (O.written out.old) (O.written out.new) result }
+    requires few { player.old.played.records ≤ most_records }
+    ensures ends { (bytes : List ℕ) × HasFrom (F.told files.old) file player.old.played.at bytes
+        × Plays (at_most player.old.played (piece_of bytes player.old.played.at player.old.played.last)) (O.written out.old) (O.written out.new) result }
     ensures memory { IfErr result (λ e. e ≢ DemoError.NoMemory) }
     ensures given { F.given files.new ≡ F.given files.old }
     ensures asks { OnlyAsks (F.told files.old) (F.told files.new) }
@@ -181,10 +120,11 @@ fn end_here<F: Files, O: Sink>(
     ensures others { F.write_faults files.new ≡ F.write_faults files.old }
 {
     laws::texts_follow();
-    match next_record(files, file, course.at, course.last, message) {
-        Ok(Piece::End) => end(state, course.records, out),
-        Ok(Piece::Message { .. }) => Err(DemoError::Truncated(course.at)),
-        Err(error) => Err(behind_limit(course.at, error)),
+    let at = player.place();
+    match player.next(files, file) {
+        Ok(None) => end(player, out),
+        Ok(Some(_)) => Err(DemoError::Truncated(at)),
+        Err(error) => Err(behind_limit(at, error)),
     }
 }
 
@@ -199,12 +139,12 @@ fn behind_limit(at: u64, error: DemoError) -> DemoError
 }
 
 /// Prints what the records left, at the demo's end.
-fn end<O: Sink>(state: &ClState, records: u32, out: &mut O) -> Result<(), DemoError>
-    ensures adds { Adds (O.written out.old) (O.written out.new) (state_text state.now records) result }
+fn end<O: Sink>(player: &Player, out: &mut O) -> Result<(), DemoError>
+    ensures adds { Adds (O.written out.old) (O.written out.new) (state_text player.now.played.state player.now.played.records) result }
     ensures only { IfErr result (λ e. e ≡ DemoError.WriteFault) }
     ensures cause { WriteCause (O.faults out.old) (O.faults out.new) result }
 {
-    match print_state(state, records, out) {
+    match print_state(player.state(), player.records(), out) {
         Ok(()) => Ok(()),
         Err(Failed) => Err(DemoError::WriteFault),
     }

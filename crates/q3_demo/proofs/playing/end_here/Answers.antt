@@ -1,15 +1,20 @@
-use Rattle.q3_demo.specs.Steps.{played_of}
-use Rattle.q3_demo.proofs.Going.{limit_refuses, limit_message}
+use Rattle.q3_demo.proofs.Taking.{limit_ends, limit_refuses, limit_fails}
 use Rattle.q3_demo.proofs.playing.end_here.Goals as goal
 
-pub returns-in-Ok-Message-clause-ends : goal.returns-in-Ok-Message-clause-ends
-returns-in-Ok-Message-clause-ends g c =
-    let finds = rw c.in-Ok-Message.field-0-is at c.in-Ok-Message.ensures.finds in
-    let now = played_of c.args.state.now c.args.course in
-    (finds.0, finds.1, limit_message c.texts_follow.ensures now _ c.in-Ok-Message.field-0-0 c.in-Ok-Message.field-0-1 c.in-Ok-Message.field-0-2 (g.O.Sink.written c.args.out.now) finds.2.0)
+pub returns-in-Ok-None-clause-ends : goal.returns-in-Ok-None-clause-ends
+returns-in-Ok-None-clause-ends g c =
+    let plays = rw c.in-Ok-None.field-0-is at c.in-Ok-None.ensures.plays in (
+      plays.0,
+      plays.1,
+      limit_ends c.texts_follow.ensures plays.0 c.args.player.now c.next.new.self (g.O.Sink.written c.args.out.now) (g.O.Sink.written c.end.new.out) c.end.result plays.2 c.end.ensures.adds c.end.ensures.only,
+    )
+
+pub returns-in-Ok-Some-clause-ends : goal.returns-in-Ok-Some-clause-ends
+returns-in-Ok-Some-clause-ends g c =
+    let plays = rw c.in-Ok-Some.field-0-is at c.in-Ok-Some.ensures.plays in
+    rw c.place-at.ensures (plays.0, plays.1, limit_refuses c.texts_follow.ensures plays.0 c.args.player.now c.next.new.self c.in-Ok-Some.field-0-0 (g.O.Sink.written c.args.out.now) plays.2)
 
 pub returns-in-Err-clause-ends : goal.returns-in-Err-clause-ends
 returns-in-Err-clause-ends g c =
-    let finds = c.in-Err.ensures.finds in
-    let now = played_of c.args.state.now c.args.course in
-    rw c.behind_limit.ensures (finds.0, finds.1, limit_refuses c.texts_follow.ensures now finds.0 c.next_record.new.into c.in-Err.error (g.O.Sink.written c.args.out.now) finds.2)
+    let plays = c.in-Err.ensures.plays in
+    rw c.behind_limit.ensures (plays.0, plays.1, limit_fails c.texts_follow.ensures plays.0 c.args.player.now c.next.new.self c.place-at.result c.in-Err.error (g.O.Sink.written c.args.out.now) plays.2 c.place-at.ensures)

@@ -3,29 +3,14 @@ use Rattle.std.proofs.lemmas.Result.{err_from_is_err_and}
 use Rattle.q3_demo.proofs.Whole.{has_some, asks_same}
 use Rattle.q3_demo.proofs.playing.play.Goals as goal
 
-pub returns-in_err-message-clause-plays : goal.returns-in_err-message-clause-plays
-returns-in_err-message-clause-plays g c =
+pub returns-in_err-player-clause-plays : goal.returns-in_err-player-clause-plays
+returns-in_err-player-clause-plays g c =
     let p = err_from_is_err_and c.from_residual.result c.from_residual.ensures.1 in
     let some = has_some (g.F.Files.told c.args.files.now) c.args.file 0 in
     rw (p.1, p.2) (some.0, some.1, refl)
 
-pub returns-in_err-message-clause-asks : goal.returns-in_err-message-clause-asks
-returns-in_err-message-clause-asks g c = asks_same (g.F.Files.told c.args.files.now)
+pub returns-in_err-player-clause-asks : goal.returns-in_err-player-clause-asks
+returns-in_err-player-clause-asks g c = asks_same (g.F.Files.told c.args.files.now)
 
-pub returns-in_err-commands-clause-plays : goal.returns-in_err-commands-clause-plays
-returns-in_err-commands-clause-plays g c =
-    let p = err_from_is_err_and c.from_residual-in_err-commands.result c.from_residual-in_err-commands.ensures.1 in
-    let some = has_some (g.F.Files.told c.args.files.now) c.args.file 0 in
-    rw (p.1, p.2) (some.0, some.1, refl)
-
-pub returns-in_err-commands-clause-asks : goal.returns-in_err-commands-clause-asks
-returns-in_err-commands-clause-asks g c = asks_same (g.F.Files.told c.args.files.now)
-
-pub returns-in_err-state-clause-plays : goal.returns-in_err-state-clause-plays
-returns-in_err-state-clause-plays g c =
-    let p = err_from_is_err_and c.from_residual-in_err-state.result c.from_residual-in_err-state.ensures.1 in
-    let some = has_some (g.F.Files.told c.args.files.now) c.args.file 0 in
-    rw (p.1, p.2) (some.0, some.1, refl)
-
-pub returns-in_err-state-clause-asks : goal.returns-in_err-state-clause-asks
-returns-in_err-state-clause-asks g c = asks_same (g.F.Files.told c.args.files.now)
+pub returns-clause-plays : goal.returns-clause-plays
+returns-clause-plays g c = rw c.in_ok-player.ensures at c.play_records.ensures.plays

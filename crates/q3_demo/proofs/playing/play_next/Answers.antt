@@ -1,44 +1,46 @@
-use Rattle.std.proofs.Common.{◌+◌, Option, true, Result, Err, sym, subst, ◌∙◌}
 use Rattle.std.proofs.lemmas.Result.{err_from_is_err_and}
-use Rattle.q3_io.specs.Written.{Wrote}
-use Rattle.q3_demo.specs.declared.error.DemoError.{DemoError}
-use Rattle.q3_demo.specs.declared.record.Piece.TheVariants.{Message}
-use Rattle.q3_demo.specs.Playing.{Played, Stepped}
-use Rattle.q3_demo.specs.Steps.{played_of, step_text, Leads, TakesStep}
-use Rattle.q3_demo.proofs.Going.{step_is, message_there, reads_on}
+use Rattle.q3_demo.proofs.Taking.{refuses_step, refuses_quietly, record_lines, record_leads, counts_one}
 use Rattle.q3_demo.proofs.playing.play_next.Goals as goal
 
-pub returns-in_err-play_message-in-Message-clause-takes : goal.returns-in_err-play_message-in-Message-clause-takes
-returns-in_err-play_message-in-Message-clause-takes g c =
-    let p = err_from_is_err_and c.from_residual-in_err-play_message-in-Message.result c.from_residual-in_err-play_message-in-Message.ensures.1 in
-    let finds = rw c.in-Message.is at c.in_ok-next_record.ensures.finds in
-    let was : Played = played_of c.args.state.now c.args.course.now in
-    let now : Played = played_of c.play_message.new.state c.args.course.now in
-    rw (p.1, p.2) (
-      finds.0,
-      finds.1,
-      λ demo there. subst
-          (λ (s : Result (Option Stepped) DemoError). TakesStep s was now (g.O.Sink.written c.args.out.now) (g.O.Sink.written c.play_message.new.out) (Err c.in_err-play_message-in-Message.field-0.0))
-          (sym (step_is demo finds.0 was (Message c.in-Message.number c.in-Message.length c.in-Message.next) there finds.2.0))
-          (c.in_err-play_message-in-Message.ensures.plays demo c.in-Message.length c.in-Message.next (finds.2.1 ∙ sym (message_there demo finds.0 was c.in-Message.length there))),
+pub returns-in_err-applied-clause-takes : goal.returns-in_err-applied-clause-takes
+returns-in_err-applied-clause-takes g c =
+    let p = err_from_is_err_and c.from_residual.result c.from_residual.ensures.1 in
+    let plays = c.in_err-applied.ensures.plays in
+    rw (p.1, p.2) (plays.0, plays.1, λ demo there. refuses_step demo c.args.player.now c.next.new.self (g.O.Sink.written c.args.out.now) c.in_err-applied.field-0.0 (plays.2 demo there))
+
+pub returns-in_err-applied-clause-write_cause : goal.returns-in_err-applied-clause-write_cause
+returns-in_err-applied-clause-write_cause g c =
+    let p = err_from_is_err_and c.from_residual.result c.from_residual.ensures.1 in
+    let plays = c.in_err-applied.ensures.plays in
+    rw (p.1, p.2) (refuses_quietly (g.O.Sink.faults c.args.out.now) plays.0 c.args.player.now c.next.new.self c.in_err-applied.field-0.0 plays.2)
+
+pub returns-in_default-clause-records : goal.returns-in_default-clause-records
+returns-in_default-clause-records g c =
+    let plays = c.in_ok-applied.ensures.plays in
+    counts_one plays.0 c.args.player.now c.next.new.self c.in_ok-applied.field-0 plays.2
+
+pub returns-in-Ok-clause-takes : goal.returns-in-Ok-clause-takes
+returns-in-Ok-clause-takes g c =
+    let plays = rw c.in-Some.is at c.in_ok-applied.ensures.plays in (
+      plays.0,
+      plays.1,
+      λ demo there. (
+        record_leads _ c.args.player.now c.next.new.self c.in-Some.applied (plays.2 demo there),
+        rw (← record_lines demo c.args.player.now c.next.new.self c.records-index.result c.last.result c.state-state.result.now c.in-Some.applied c.log.result.now.commands (plays.2 demo there)
+            c.records-index.ensures c.last.ensures c.state-state.ensures c.log.ensures) c.in-Ok.ensures.adds,
+      ),
     )
 
-pub returns-in_err-play_message-in-Message-clause-read_cause : goal.returns-in_err-play_message-in-Message-clause-read_cause
-returns-in_err-play_message-in-Message-clause-read_cause g c =
-    let p = err_from_is_err_and c.from_residual-in_err-play_message-in-Message.result c.from_residual-in_err-play_message-in-Message.ensures.1 in
-    rw (p.1, p.2)
-    (reads_on (g.F.Files.faults c.args.files.now) (g.F.Files.faults c.next_record.new.files) c.in_err-play_message-in-Message.field-0.0 c.in_err-play_message-in-Message.ensures.reads
-    c.in_ok-next_record.ensures.cause)
+pub returns-in-Ok-clause-records : goal.returns-in-Ok-clause-records
+returns-in-Ok-clause-records g c =
+    let plays = c.in_ok-applied.ensures.plays in
+    counts_one plays.0 c.args.player.now c.next.new.self c.in_ok-applied.field-0 plays.2
 
-pub returns-in_ok-play_message-in-Message-clause-takes : goal.returns-in_ok-play_message-in-Message-clause-takes
-returns-in_ok-play_message-in-Message-clause-takes g c =
-    let finds = rw c.in-Message.is at c.in_ok-next_record.ensures.finds in
-    let was : Played = played_of c.args.state.now c.args.course.now in
-    let now : Played = record { state = c.play_message.new.state; records = c.args.course.now.records + 1; last = c.in-Message.number; at = c.in-Message.next } in (
-      finds.0,
-      finds.1,
-      λ demo there. subst
-          (λ (s : Result (Option Stepped) DemoError). Leads s now × Wrote (g.O.Sink.written c.args.out.now) (g.O.Sink.written c.play_message.new.out) (step_text was s) true)
-          (sym (step_is demo finds.0 was (Message c.in-Message.number c.in-Message.length c.in-Message.next) there finds.2.0))
-          (c.in_ok-play_message-in-Message.ensures.plays demo c.in-Message.length c.in-Message.next (finds.2.1 ∙ sym (message_there demo finds.0 was c.in-Message.length there))),
+pub returns-in-Err-clause-takes : goal.returns-in-Err-clause-takes
+returns-in-Err-clause-takes g c =
+    let plays = rw c.in-Some.is at c.in_ok-applied.ensures.plays in (
+      plays.0,
+      plays.1,
+      λ demo there. rw (← record_lines demo c.args.player.now c.next.new.self c.records-index.result c.last.result c.state-state.result.now c.in-Some.applied c.log.result.now.commands (plays.2 demo there)
+          c.records-index.ensures c.last.ensures c.state-state.ensures c.log.ensures) c.in-Err.ensures.adds,
     )

@@ -1,6 +1,5 @@
-use Rattle.std.proofs.Common.{◌≡◌, ℕ, ◌<◌, ◌≤◌, None, true, false, rules, arith}
+use Rattle.std.proofs.Common.{true, false, rules, arith}
 use Rattle.std.proofs.lemmas.Result.{err_from_is_err_and}
-use Rattle.q3_rings.specs.ByNumber.{held_under}
 use Rattle.q3_demo.proofs.Printed.{held_texts-zero, held_texts-more, held_texts-behind}
 use Rattle.q3_demo.proofs.state.print_held.Goals as goal
 
