@@ -112,7 +112,11 @@ impl Player {
 
     /// The same of a demo that is played from its first record on: behind 1,048,576 records anything but the demo's end is refused, as
     /// `Truncated`.
-    pub fn next_of_all<F: Files>(&mut self, files: &mut F, file: usize) -> Result<Option<Applied>, DemoError>
+    pub fn next_of_all<F: Files>(
+        &mut self,
+        files: &mut F,
+        file: usize,
+    ) -> Result<Option<Applied>, DemoError>
         requires given { file < F.given files.old }
         ensures plays { (bytes : List ℕ) × HasFrom (F.told files.old) file self.old.played.at bytes
             × ((demo : List ℕ) → drop self.old.played.at demo ≡ bytes → PlaysOn (step_of_all demo self.old.played) self.old self.new result) }
