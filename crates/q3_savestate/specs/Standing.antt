@@ -1,5 +1,5 @@
 -- What every state is that is written, and that is read: well formed and in range.
-use Rattle.std.specs.Prelude.{◌≡◌, ℕ, ◌^◌, ◌<◌, ◌≤◌, false, List, [], length, All, Option, IfSome}
+use Rattle.std.specs.Prelude.{◌≡◌, ℕ, ◌^◌, ◌<◌, ◌≤◌, false, [], length, All, IfSome}
 use Rattle.q3_text.specs.Texts.{IsText}
 use Rattle.q3_config.specs.Strings.{AreStrings}
 use Rattle.q3_config.specs.Laws.{HoldTexts}

@@ -1,9 +1,8 @@
 //! Bytes that are read field by field.
 
-ghost use Rattle.std.specs.Prelude.{◌≡◌, ◌+◌, ◌==◌, ◌<◌, ◌^◌, true, length};
+ghost use Rattle.std.specs.Prelude.{◌≡◌, ◌+◌, ◌<◌, ◌^◌, true, length};
 ghost use Rattle.std.specs.List.{list_all};
 ghost use Rattle.std.specs.Result.{result_map_both};
-ghost use Rattle.byteorder.specs.Endian.{little_number};
 ghost use Rattle.q3_fields.specs.Kinds.{IsKind};
 ghost use Rattle.q3_savestate.specs.Cursor.{found, field_at, number_at, is_text_byte, text_at, end_at};
 ghost use Rattle.q3_savestate.specs.Entities.{word_at};
