@@ -94,8 +94,10 @@ fn play_next<F: Files, O: Sink>(
         end(player, out)?;
         return Ok(true);
     };
+    let number = player.last();
     let state = player.state();
-    match print_record(index, player.last(), state, &applied, player.log(), out) {
+    let log = player.log();
+    match print_record(index, number, state, &applied, log, out) {
         Ok(()) => Ok(false),
         Err(Failed) => Err(DemoError::WriteFault),
     }
@@ -144,7 +146,8 @@ fn end<O: Sink>(player: &Player, out: &mut O) -> Result<(), DemoError>
     ensures only { IfErr result (λ e. e ≡ DemoError.WriteFault) }
     ensures cause { WriteCause (O.faults out.old) (O.faults out.new) result }
 {
-    match print_state(player.state(), player.records(), out) {
+    let records = player.records();
+    match print_state(player.state(), records, out) {
         Ok(()) => Ok(()),
         Err(Failed) => Err(DemoError::WriteFault),
     }

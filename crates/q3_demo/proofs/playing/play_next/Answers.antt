@@ -26,8 +26,8 @@ returns-in-Ok-clause-takes g c =
       plays.1,
       λ demo there. (
         record_leads _ c.args.player.now c.next.new.self c.in-Some.applied (plays.2 demo there),
-        rw (← record_lines demo c.args.player.now c.next.new.self c.records-index.result c.last.result c.state-state.result.now c.in-Some.applied c.log.result.now.commands (plays.2 demo there)
-            c.records-index.ensures c.last.ensures c.state-state.ensures c.log.ensures) c.in-Ok.ensures.adds,
+        rw (← record_lines demo c.args.player.now c.next.new.self c.records-index.result c.last-number.result c.state-state.result.now c.in-Some.applied c.log-log.result.now.commands (plays.2 demo there)
+            c.records-index.ensures c.last-number.ensures c.state-state.ensures c.log-log.ensures) c.in-Ok.ensures.adds,
       ),
     )
 
@@ -41,6 +41,6 @@ returns-in-Err-clause-takes g c =
     let plays = rw c.in-Some.is at c.in_ok-applied.ensures.plays in (
       plays.0,
       plays.1,
-      λ demo there. rw (← record_lines demo c.args.player.now c.next.new.self c.records-index.result c.last.result c.state-state.result.now c.in-Some.applied c.log.result.now.commands (plays.2 demo there)
-          c.records-index.ensures c.last.ensures c.state-state.ensures c.log.ensures) c.in-Err.ensures.adds,
+      λ demo there. rw (← record_lines demo c.args.player.now c.next.new.self c.records-index.result c.last-number.result c.state-state.result.now c.in-Some.applied c.log-log.result.now.commands (plays.2 demo there)
+          c.records-index.ensures c.last-number.ensures c.state-state.ensures c.log-log.ensures) c.in-Err.ensures.adds,
     )
