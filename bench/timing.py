@@ -15,15 +15,28 @@ REAL = (TOP / 'profiles/quake3.toml').read_text()
 NO_REPEATS = 'glibc.cpu.x86_rep_stosb_threshold=1000000000:glibc.cpu.x86_rep_movsb_threshold=1000000000'
 
 
-def program():
+# how many figures are left out, by what asked for them
+LEFT_OUT = []
+
+
+def program(had='`rt run -- --version` in crates/q3net proves and builds it: half an hour to an hour where nothing was proved'):
     """The program that the command line names, by default the one that was built here; or the script's text is printed."""
     if sys.argv[1:] == ['--help']:
         print(sys.modules['__main__'].__doc__.strip())
         sys.exit()
     named = pathlib.Path(*sys.argv[1:2] or [PROGRAM]).resolve()
-    if not named.is_file():
-        sys.exit(f'no program {named}: `rt run` in crates/q3net builds it')
+    if not named.is_file() or not os.access(named, os.X_OK):
+        sys.exit(f'no program {named}\n{had}')
     return named
+
+
+def own_program(folder, name, needs, words):
+    """The program NAME that the command line names, or else one that is proved and built; or the script's text is printed."""
+    if sys.argv[1:]:
+        return program(f'without a PROGRAM bench/{name} proves and builds it, from bench/{name}.txt')
+    if not shutil.which('rt'):
+        sys.exit(f'no program: the command `rt`, which proves and builds bench/{name}.txt, is not installed')
+    return build(folder, name, needs, words)
 
 
 def build(folder, name, needs, words):
@@ -97,9 +110,22 @@ def best(command, folder):
     return min(seconds for seconds, _, _ in runs), (folder / 'report').stat().st_size, max(peak for _, peak, _ in runs)
 
 
-def counts_instructions():
-    """Whether the tool that counts instructions, and allocations, is installed."""
-    return shutil.which('valgrind') is not None
+def counts_instructions(figures):
+    """Whether the tool that counts instructions, and allocations, is installed; else so many figures are left out."""
+    installed = shutil.which('valgrind') is not None
+    if not installed:
+        LEFT_OUT.append(figures)
+    return installed
+
+
+def left_out():
+    return f'no instructions: valgrind is not installed, so {sum(LEFT_OUT)} figures are left out'
+
+
+def end():
+    """Says how many figures were left out, if any."""
+    if LEFT_OUT:
+        print(left_out())
 
 
 def instructions(command, folder, within=None):

@@ -1,16 +1,17 @@
-"""What check and check-nodes share: where cases are, their files, and how a difference is told."""
+"""What check and check-nodes share: where cases are, their files, and how a difference is told. And what edges shares with them:
+the program that is tried."""
 import itertools
 import json
 import os
 import pathlib
 import sys
 
-# the folders beside this file whose cases need peers: check-nodes runs them, and check the others
-WITH_PEERS = {'server-and-client', 'recording-clients'}
+# why a case isn't tried, by whether those that are tried need peers
+OTHERS = {False: 'they need peers: check-nodes', True: 'they need no peers: check'}
 
 
-def command_line(text, with_peers):
-    """The program and the cases that the command line asks for; or the text is printed."""
+def named_program(text):
+    """The program that the command line names; or the text is printed."""
     if sys.argv[1:] == ['--help']:
         print(text.strip())
         sys.exit()
@@ -18,18 +19,35 @@ def command_line(text, with_peers):
         sys.exit(text)
     program = os.path.abspath(sys.argv[1])
     if not os.access(program, os.X_OK) or not os.path.isfile(program):
-        sys.exit(f'no program {program}')
+        sys.exit(f'no program {program}\n`rt run -- --version` in crates/q3net proves and builds it, as crates/q3net/out/q3net: half an hour to an '
+                 'hour where nothing was proved')
+    return program
+
+
+def command_line(text, with_peers):
+    """The program that the command line names, those of the cases that it asks for that need peers, or none, and how many others there
+    are; or the text is printed."""
+    program = named_program(text)
     here = pathlib.Path(__file__).resolve().parent
-    beside = sorted(path for path in here.iterdir() if path.is_dir() and (path.name in WITH_PEERS) == with_peers)
-    folders = [pathlib.Path(word) for word in sys.argv[2:]] or beside
+    folders = [pathlib.Path(word) for word in sys.argv[2:]] or sorted(path for path in here.iterdir() if path.is_dir())
     for folder in folders:
         if not folder.is_dir():
             sys.exit(f'no folder {folder}')
-    return program, [case for folder in folders for case in sorted(folder.iterdir())]
+    cases = [case for folder in folders for case in sorted(folder.iterdir())]
+    chosen = [case for case in cases if needs_peers(case) in (with_peers, None)]
+    return program, chosen, len(cases) - len(chosen)
 
 
 def told(case):
     return json.loads((case / 'case.json').read_text())
+
+
+def needs_peers(case):
+    """Whether a case needs peers; nothing where it can't be read."""
+    try:
+        return 'sockets' in told(case)
+    except (OSError, ValueError):
+        return None
 
 
 def files(folder):
@@ -70,8 +88,9 @@ def passes(case, found):
     return not found
 
 
-def end(answers):
-    """Prints how many passed: the status."""
+def end(answers, others, with_peers):
+    """Prints how many passed, and how many weren't tried: the status."""
     passed, failed = answers.count(True), answers.count(False)
-    print(f'{len(answers)} cases, {failed} differ\n{passed} passed, {failed} failed')
+    why = f' ({OTHERS[with_peers]})' if others else ''
+    print(f'{len(answers)} cases, {failed} differ, {others} not tried{why}\n{passed} passed, {failed} failed')
     return 0 if answers and not failed else 1
