@@ -1,6 +1,6 @@
 //! Snapshots in a ring that has room for 512 entities.
 
-ghost use Rattle.std.specs.Prelude.{◌≡◌, ◌≤◌};
+ghost use Rattle.std.specs.Prelude.{◌≡◌, ◌≤◌, None};
 ghost use Rattle.q3_entity.specs.Entities.{Rises};
 
 use q3_entity::{EntityState, List};
@@ -32,7 +32,10 @@ fn entities(count: u16) -> List
 }
 
 /// Accepts a snapshot with 200 entities.
-fn accept(rt: &impl Abort, rings: &mut Rings, number: u32) {
+fn accept(rt: &impl Abort, rings: &mut Rings, number: u32)
+    requires { rings.old.begun ≡ None }
+    ensures { rings.new.begun ≡ None }
+{
     assert!(rt; rings.newest() < number);
     rings.accept(&head(number), &entities(200));
 }
