@@ -1,0 +1,32 @@
+-- Seeking: a checkpoint's state is restored, and the records behind it are played.
+use Rattle.std.specs.Prelude.{ℕ, ◌+◌, ◌*◌, ◌-◌, ◌/◌, nat_lt, if◌then◌else◌, List, take, drop, slice_get, Option, Some, None, Result, Ok, Err}
+use Rattle.q3_bits.specs.ResultBind.{◌>>=◌, fault_as}
+use Rattle.q3_profile.specs.declared.profile.Profile.{Profile}
+use Rattle.q3_savestate.specs.State.{state_at}
+use Rattle.q3_clstate.specs.Saving.{applied_by}
+use Rattle.q3_demo.specs.Playing.{Played, unplayed, play_first}
+use Rattle.q3_index.specs.declared.checkpoint.Checkpoint.{Checkpoint}
+use Rattle.q3_index.specs.declared.error.SeekError.{SeekError}
+use Rattle.q3_index.specs.declared.error.SeekError.TheVariants.{NotIndex, PastEnd, Demo}
+use Rattle.q3_index.specs.Text.{spacing}
+
+-- how far a demo was played at a checkpoint behind so many records, by the state that the index's bytes spell there
+abbrev pub restored : Profile → List ℕ → ℕ → Checkpoint → Result Played SeekError
+restored profile index records checkpoint = do
+  saved ← fault_as (λ place. NotIndex (checkpoint.state + place)) (state_at profile (take checkpoint.length (drop checkpoint.state index)))
+  Ok (record { state = applied_by profile saved; records = records; last = saved.number; at = checkpoint.place })
+
+abbrev pub restored_if : Profile → List ℕ → ℕ → Option Checkpoint → Result Played SeekError
+restored_if profile index records None = Ok (unplayed profile)
+restored_if profile index records (Some checkpoint) = restored profile index records checkpoint
+
+-- the greatest checkpoint at or below so many records, or the beginning
+abbrev pub greatest : List Checkpoint → ℕ → Option Checkpoint
+greatest checkpoints number = if nat_lt number spacing then None else slice_get checkpoints (number / spacing - 1)
+
+-- what so many records leave: those from there on are played
+unfoldable pub seek_at : Profile → List ℕ → List ℕ → ℕ → List Checkpoint → ℕ → Result Played SeekError
+seek_at profile demo index records checkpoints number =
+    if nat_lt records number then Err (PastEnd records) else (do
+      start ← restored_if profile index (spacing * (number / spacing)) (greatest checkpoints number)
+      fault_as Demo (play_first (number - start.records) demo start))

@@ -1,0 +1,49 @@
+-- The index of a demo: how long the demo is and by which profile it was played, and every 256 records what they left.
+use Rattle.std.specs.Prelude.{ℕ, ◌/◌, ◌%◌, ◌==◌, Bool, List, [], ◌∷◌, ◌++◌, length, map, filter, codes, Result, Ok}
+use Rattle.std.specs.List.{concat, flat_map}
+use Rattle.byteorder.specs.Endian.{little_bytes}
+use Rattle.q3_bits.specs.ResultBind.{◌>>=◌}
+use Rattle.q3_profile.specs.declared.profile.Profile.{Profile}
+use Rattle.q3_savestate.specs.State.{state_bytes}
+use Rattle.q3_clstate.specs.Saving.{saved_in}
+use Rattle.q3_demo.specs.declared.error.DemoError.{DemoError}
+use Rattle.q3_demo.specs.Playing.{Played, Stepped, records_of, play_of}
+
+-- how many records lie between two checkpoints
+abbrev pub spacing : ℕ
+spacing = 256
+
+-- what an index begins with
+abbrev pub magic : List ℕ
+magic = codes "Q3INDEX1"
+
+-- its head: the demo's length, the profile's mark, how many records, and how many checkpoints
+abbrev pub head_bytes : ℕ → ℕ → ℕ → List ℕ
+head_bytes length mark records =
+    concat (magic ∷ little_bytes 8 length ∷ little_bytes 8 mark ∷ little_bytes 4 records ∷ little_bytes 4 (records / spacing) ∷ [])
+
+-- a checkpoint: how many records were played, the place of the next one, and what they left, behind its length
+abbrev pub state_of : Profile → Played → List ℕ
+state_of profile played = state_bytes profile (saved_in played.state)
+
+abbrev pub checkpoint_bytes : Profile → Played → List ℕ
+checkpoint_bytes profile played =
+    concat (little_bytes 4 played.records ∷ little_bytes 8 played.at ∷ little_bytes 4 (length (state_of profile played)) ∷ state_of profile played ∷ [])
+
+-- one stands behind every 256th record
+abbrev pub is_checkpoint : Played → Bool
+is_checkpoint played = played.records % spacing == 0
+
+abbrev pub checkpoints : List Stepped → List Played
+checkpoints records = filter is_checkpoint (map (λ (stepped : Stepped). stepped.played) records)
+
+-- the index of a demo
+abbrev pub index_text : Profile → List ℕ → List ℕ
+index_text profile demo =
+    head_bytes (length demo) profile.mark (length (records_of profile demo)) ++ flat_map (checkpoint_bytes profile) (checkpoints (records_of profile demo))
+
+-- it is made of a demo whose records all may be played; else the first that may not is told
+abbrev pub index_of : Profile → List ℕ → Result (List ℕ) DemoError
+index_of profile demo = do
+  none ← (play_of profile demo).ending
+  Ok (index_text profile demo)
