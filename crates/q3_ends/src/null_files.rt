@@ -1,6 +1,6 @@
 //! Files that take every write and keep nothing.
 
-ghost use Rattle.std.specs.Prelude.{None};
+ghost use Rattle.std.specs.Prelude.{true, None};
 
 use q3_io::{Failed, Files};
 
@@ -16,6 +16,8 @@ impl Files for NullFiles {
     ghost given = { λ files. 1 };
 
     ghost told = { λ files. None };
+
+    ghost reads_whole = { true };
 
     fn lookup(&mut self, _name: &str) -> Result<usize, Failed> {
         Ok(0)

@@ -1,5 +1,5 @@
 -- What is told of files, and what each call changes.
-use Rattle.std.specs.Prelude.{◌≡◌, ◌⊎◌, ℕ, ◌+◌, ◌<◌, ◌≤◌, Bool, nat_le, IsTrue, if◌then◌else◌, List, [], ◌∷◌, ◌++◌, length, take, drop, slice_index, slice_index_or, slice_set, Option, Some, None, unwrap_or, IsSome, Result, Ok, Err}
+use Rattle.std.specs.Prelude.{◌≡◌, ◌⊎◌, ℕ, ◌+◌, ◌-◌, ◌<◌, ◌≤◌, ⊤, Bool, nat_le, min, IsTrue, if◌then◌else◌, List, [], ◌∷◌, ◌++◌, length, take, drop, slice_index, slice_index_or, slice_set, Option, Some, None, unwrap_or, IsSome, Result, Ok, Err}
 use Rattle.std.specs.Str.{bytes_eq}
 use Rattle.q3_io.specs.declared.sink.Failed.{Failed}
 use Rattle.q3_io.specs.Faults.{last_count}
@@ -96,6 +96,11 @@ ReadsAt (Some told) now file at before after (Ok count) =
     (now ≡ Some (after_asked told file (length before))) × Gives (contents_at told file) at count before after
     × IsTrue (can_ask told.asked file (length before))
 ReadsAt (Some told) now file at before after (Err e) = now ≡ Some (after_asked told file (length before))
+
+-- a read into a buffer with so much room gave all that the file has there
+abbrev pub GivesAll : Option Told → ℕ → ℕ → ℕ → Result ℕ Failed → Type 0
+GivesAll (Some told) file at room (Ok count) = count ≡ min room (length (contents_at told file) - at)
+GivesAll told file at room result = ⊤
 
 abbrev pub Creates : Option Told → Option Told → List ℕ → Result ℕ Failed → Type 0
 Creates None now name result = now ≡ None

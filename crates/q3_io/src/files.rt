@@ -1,8 +1,8 @@
 //! Files by name.
 
-ghost use Rattle.std.specs.Prelude.{◌≡◌, ◌<◌, ◌≤◌, ℕ, Option, Some, length, IfOk};
+ghost use Rattle.std.specs.Prelude.{◌≡◌, ◌<◌, ◌≤◌, ℕ, Bool, IsTrue, Option, Some, length, IfOk};
 ghost use Rattle.q3_io.specs.Faults.{HasCause};
-ghost use Rattle.q3_io.specs.Told.{Told, IsGiven, LooksUp, Measures, ReadsAt, Creates, Appends};
+ghost use Rattle.q3_io.specs.Told.{Told, IsGiven, LooksUp, Measures, ReadsAt, GivesAll, Creates, Appends};
 
 use crate::sink::Failed;
 
@@ -20,6 +20,9 @@ pub trait Files {
 
     /// The files, what each number stands for, and what was asked, where it is told.
     ghost told: { Self → Option Told };
+
+    /// Whether each read gives all that it is asked for and the file has: what is asked of a file is then known.
+    ghost reads_whole: { Bool };
 
     /// The number of the file of this name. A missing file is a fault.
     fn lookup(&mut self, name: &str) -> Result<usize, Failed>
@@ -43,6 +46,7 @@ pub trait Files {
         ensures given { given self.new ≡ given self.old }
         ensures count { IfOk result (λ count. count ≤ length into.old) }
         ensures told { ReadsAt (told self.old) (told self.new) file at into.old into.new result }
+        ensures all { IsTrue reads_whole → GivesAll (told self.old) file at (length into.old) result }
         ensures cause { HasCause (faults self.old) (faults self.new) result }
         ensures others { write_faults self.new ≡ write_faults self.old };
 

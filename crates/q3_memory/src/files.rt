@@ -1,8 +1,8 @@
 //! Files in memory.
 
-ghost use Rattle.std.specs.Prelude.{◌≡◌, ◌<◌, ◌≤◌, [], Some, None, MatchOption, IfOk, is_ok, length, not};
+ghost use Rattle.std.specs.Prelude.{◌≡◌, ◌<◌, ◌≤◌, true, IsTrue, [], Some, None, MatchOption, IfOk, is_ok, length, not};
 ghost use Rattle.q3_io.specs.Faults.{HasCause};
-ghost use Rattle.q3_io.specs.Told.{contents_of, contents_at, IsGiven, LooksUp, Measures, ReadsAt, Creates, Appends};
+ghost use Rattle.q3_io.specs.Told.{contents_of, contents_at, IsGiven, LooksUp, Measures, ReadsAt, GivesAll, Creates, Appends};
 ghost use Rattle.q3_memory.specs.MemoryCalls.{next_fails};
 ghost use Rattle.q3_memory.specs.FileStore.{read_count};
 ghost use Rattle.q3_memory.specs.MemoryFiles.{no_files, finds, after_lookup, after_size, reads, after_read, creates, after_create, appends, after_append, stores, after_store};
@@ -86,6 +86,8 @@ impl Files for MemFiles {
 
     ghost told = { λ m. Some m.told };
 
+    ghost reads_whole = { true };
+
     ghost numbered = { λ m t is. Prim.cc };
 
     fn lookup(&mut self, name: &str) -> Result<usize, Failed>
@@ -131,6 +133,7 @@ impl Files for MemFiles {
         ensures given { length self.new.told.numbers ≡ length self.old.told.numbers }
         ensures count { IfOk result (λ count. count ≤ length into.old) }
         ensures told { ReadsAt (Some self.old.told) (Some self.new.told) file at into.old into.new result }
+        ensures all { IsTrue true → GivesAll (Some self.old.told) file at (length into.old) result }
         ensures cause { HasCause self.old.faults self.new.faults result }
         ensures others { self.new.write_faults ≡ self.old.write_faults }
         ensures whole { self.new ≡ after_read self.old file (length into.old) }

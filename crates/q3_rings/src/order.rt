@@ -1,6 +1,6 @@
 //! The snapshots that are held, by rising number.
 
-ghost use Rattle.std.specs.Prelude.{◌≡◌, ◌<◌, ◌≤◌, ℕ, Some, None, length, option_map};
+ghost use Rattle.std.specs.Prelude.{◌≡◌, ◌≢◌, ◌⊎◌, ◌<◌, ◌≤◌, ℕ, Some, None, length, option_map};
 ghost use Rattle.q3_entity.specs.Entities.{Rises, run_of};
 ghost use Rattle.q3_ring.specs.Places.{place_of};
 ghost use Rattle.q3_rings.specs.Loans.{head_of, head_from};
@@ -35,6 +35,7 @@ impl Rings {
         requires { last < self.now.held.newest }
         ensures above { last < result }
         ensures most { result ≤ self.now.held.newest }
+        ensures held { (result ≡ self.now.held.newest) ⊎ (spec.held_under self.now.held result ≢ None) }
         ensures least { (number : ℕ) → last < number → number < result → spec.held_under self.now.held number ≡ None }
     {
         let mut next = self.newest();
@@ -75,8 +76,10 @@ fn nearer(rings: &Rings, place: u8, last: u32, next: u32) -> u32
     requires above { last < next }
     ensures above { last < result }
     ensures most { result ≤ next }
+    ensures held { (result ≡ next) ⊎ (spec.held_under rings.now.held result ≢ None) }
     ensures least { (number : ℕ) → place_of number ≡ place → last < number → number < result → spec.held_under rings.now.held number ≡ None }
 {
+    let _newest = rings.newest();
     match rings.held(place) {
         Some(held) if last < held.head.number && held.head.number < next => held.head.number,
         _ => next,

@@ -58,6 +58,8 @@ impl Sink for Buffer {
         ensures adds { Adds (Some (all_sent self.old.bytes)) (Some (all_sent self.new.bytes)) [] result }
         ensures flushed { NothingWaits (Some (all_sent self.new.bytes)) }
         ensures cause { HasCause self.old.faults self.new.faults result }
+        ensures whole { self.new ≡ self.old }
+        ensures ok { is_ok result ≡ true }
     {
         Ok(())
     }

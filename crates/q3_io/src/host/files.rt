@@ -1,6 +1,6 @@
 //! Files of the system.
 
-ghost use Rattle.std.specs.Prelude.{◌≡◌, ◌+◌, ◌≤◌, None, IfOk, IsErr, length, vec_len};
+ghost use Rattle.std.specs.Prelude.{◌≡◌, ◌+◌, ◌≤◌, false, None, IfOk, IsErr, length, vec_len};
 ghost use Rattle.q3_io.specs.Faults.{HasCause};
 ghost use Rattle.q3_io.specs.HostCounts.{most_files};
 ghost use Rattle.q3_io.specs.Told.{IsGiven, LooksUp, Creates};
@@ -140,6 +140,8 @@ impl<R: std::rt::Files> Files for HostFiles<R> {
     ghost given = { λ s. s.given };
 
     ghost told = { λ s. None };
+
+    ghost reads_whole = { false };
 
     ghost numbered = { λ s t is. absurd Prim.cc };
 
