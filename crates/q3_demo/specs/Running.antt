@@ -1,5 +1,5 @@
 -- How a demo is read and played from a file.
-use Rattle.std.specs.Prelude.{◌≡◌, ℕ, ◌≤◌, true, false, List, drop, take, length, Option, Some, None, Result, Ok, Err}
+use Rattle.std.specs.Prelude.{◌≡◌, ◌≢◌, ℕ, ◌≤◌, true, false, List, drop, take, length, slice_index, Option, Some, None, Result, Ok, Err}
 use Rattle.std.specs.List.{concat}
 use Rattle.q3_io.specs.Faults.{Rose}
 use Rattle.q3_io.specs.Told.{Told, contents_at}
@@ -22,6 +22,15 @@ HasFrom (Some told) file at bytes = bytes ≡ drop at (contents_at told file)
 abbrev pub OnlyAsks : Option Told → Option Told → Type 0
 OnlyAsks None now = now ≡ None
 OnlyAsks (Some told) now = (asked : List ℕ) × (now ≡ Some (record told { asked = asked }))
+
+-- how many bytes of a file were asked for, where it is told
+abbrev pub asked_of : Option Told → ℕ → ℕ
+asked_of None file = 0
+asked_of (Some told) file = slice_index told.asked file
+
+-- only of one file more was asked for
+abbrev pub AsksOf : ℕ → Option Told → Option Told → Type 0
+AsksOf file before now = (other : ℕ) → other ≢ file → asked_of now other ≡ asked_of before other
 
 -- ---- a record
 

@@ -1,11 +1,12 @@
 //! Plays a demo record by record.
 
-ghost use Rattle.std.specs.Prelude.{◌≡◌, ◌≢◌, ◌+◌, ◌<◌, ◌≤◌, List, ℕ, [], length, drop, IfOk, IfErr};
+ghost use Rattle.std.specs.Prelude.{◌≡◌, ◌≢◌, ◌+◌, ◌<◌, ◌≤◌, IsTrue, List, ℕ, [], length, drop, Some, Ok, IfOk, IfErr};
+ghost use Rattle.q3_io.specs.Told.{Told, contents_at};
 ghost use Rattle.q3_bits.specs.ResultBind.{fault_as};
 ghost use Rattle.q3_clstate.specs.State.{apply_at, state_behind, answered, heard_in};
 ghost use Rattle.q3_demo.specs.Player.{PlaysOn, end_alone, step_of_all};
-ghost use Rattle.q3_demo.specs.Playing.{unplayed, step};
-ghost use Rattle.q3_demo.specs.Running.{HasFrom, OnlyAsks, ReadCause};
+ghost use Rattle.q3_demo.specs.Playing.{Stepped, unplayed, step};
+ghost use Rattle.q3_demo.specs.Running.{HasFrom, OnlyAsks, AsksOf, asked_of, ReadCause};
 
 use crate::error::DemoError;
 use crate::record::{LONGEST_RECORD, Piece, next_record};
@@ -73,7 +74,8 @@ impl Player {
     }
 
     /// Plays the next record, and tells what became of its message; `None` comes at the demo's end. `Err` is as `next_record` says, or
-    /// `Message` exactly where the message isn't legible.
+    /// `Message` exactly where the message isn't legible. Of the demo no more bytes are asked for than the record has, where every read gives
+    /// all that it is asked for.
     pub fn next<F: Files>(
         &mut self,
         files: &mut F,
@@ -85,6 +87,9 @@ impl Player {
             × ((demo : List ℕ) → drop self.old.played.at demo ≡ bytes → PlaysOn (step demo self.old.played) self.old self.new result) }
         ensures given { F.given files.new ≡ F.given files.old }
         ensures asks { OnlyAsks (F.told files.old) (F.told files.new) }
+        ensures only { AsksOf file (F.told files.old) (F.told files.new) }
+        ensures cost { IsTrue F.reads_whole → (told : Told) → F.told files.old ≡ Some told → (stepped : Stepped) → step (contents_at told file) self.old.played ≡ Ok (Some stepped)
+            → asked_of (F.told files.new) file + self.old.played.at ≤ asked_of (F.told files.old) file + stepped.played.at }
         ensures read_cause { ReadCause (F.faults files.old) (F.faults files.new) result }
         ensures others { F.write_faults files.new ≡ F.write_faults files.old }
     {
@@ -122,6 +127,7 @@ impl Player {
             × ((demo : List ℕ) → drop self.old.played.at demo ≡ bytes → PlaysOn (step_of_all demo self.old.played) self.old self.new result) }
         ensures given { F.given files.new ≡ F.given files.old }
         ensures asks { OnlyAsks (F.told files.old) (F.told files.new) }
+        ensures only { AsksOf file (F.told files.old) (F.told files.new) }
         ensures read_cause { ReadCause (F.faults files.old) (F.faults files.new) result }
         ensures others { F.write_faults files.new ≡ F.write_faults files.old }
     {

@@ -1,9 +1,10 @@
 //! The records of a demo, as the engine writes them: `CL_WriteDemoMessage` and `CL_ReadDemoMessage` (cl_main.c). The limits and that
 //! numbers rise are this project's own.
 
-ghost use Rattle.std.specs.Prelude.{◌≡◌, ◌+◌, ◌<◌, ◌≤◌, ◌^◌, List, ℕ, length, IfOk};
-ghost use Rattle.q3_demo.specs.Records.{longest_record};
-ghost use Rattle.q3_demo.specs.Running.{HasFrom, OnlyAsks, FindsPiece, ReadCause};
+ghost use Rattle.std.specs.Prelude.{◌≡◌, ◌+◌, ◌<◌, ◌≤◌, ◌^◌, IsTrue, List, ℕ, length, drop, Some, Ok, IfOk};
+ghost use Rattle.q3_io.specs.Told.{Told, contents_at};
+ghost use Rattle.q3_demo.specs.Records.{longest_record, head_bytes, piece_of};
+ghost use Rattle.q3_demo.specs.Running.{HasFrom, OnlyAsks, AsksOf, asked_of, FindsPiece, ReadCause};
 ghost use Rattle.q3_demo.specs.Steps.{Fills, FindsHead};
 
 use crate::error::DemoError;
@@ -52,7 +53,8 @@ pub(crate) struct Head {
 /// first bytes of the buffer. It is the demo's end where the file ends within the first 8 bytes, or the length is -1. Else `Err` is the
 /// first of: `BadLength` exactly where the length is below -1 or above 16,384; `BadNumber` exactly where the number isn't above `last`,
 /// or is 2^31 or above; `Truncated` exactly where the file ends in the message, or it goes on beyond 1,073,741,824 bytes. `ReadFault`
-/// comes where the files' count of faults rose. Records aren't counted here.
+/// comes where the files' count of faults rose. Records aren't counted here. Of a record, its bytes alone are asked for, each once, where every
+/// read gives all that it is asked for.
 pub fn next_record<F: Files>(
     files: &mut F,
     file: usize,
@@ -66,6 +68,9 @@ pub fn next_record<F: Files>(
     ensures room { length into.new ≡ length into.old }
     ensures given { F.given files.new ≡ F.given files.old }
     ensures asks { OnlyAsks (F.told files.old) (F.told files.new) }
+    ensures only { AsksOf file (F.told files.old) (F.told files.new) }
+    ensures cost { IsTrue F.reads_whole → (told : Told) → F.told files.old ≡ Some told → (number size next : ℕ)
+        → piece_of (drop at (contents_at told file)) at last ≡ Ok (Piece.Message number size next) → asked_of (F.told files.new) file ≤ asked_of (F.told files.old) file + head_bytes + size }
     ensures cause { ReadCause (F.faults files.old) (F.faults files.new) result }
     ensures others { F.write_faults files.new ≡ F.write_faults files.old }
 {
@@ -101,6 +106,9 @@ fn read_head<F: Files>(files: &mut F, file: usize, at: u64) -> Result<Option<Hea
     ensures finds { (bytes : List ℕ) × HasFrom (F.told files.old) file at bytes × FindsHead bytes result }
     ensures given { F.given files.new ≡ F.given files.old }
     ensures asks { OnlyAsks (F.told files.old) (F.told files.new) }
+    ensures only { AsksOf file (F.told files.old) (F.told files.new) }
+    ensures cost { IsTrue F.reads_whole → (told : Told) → F.told files.old ≡ Some told → at + head_bytes ≤ length (contents_at told file)
+        → asked_of (F.told files.new) file ≤ asked_of (F.told files.old) file + head_bytes }
     ensures cause { ReadCause (F.faults files.old) (F.faults files.new) result }
     ensures others { F.write_faults files.new ≡ F.write_faults files.old }
 {
@@ -123,6 +131,8 @@ fn no_head<F: Files>(files: &mut F, file: usize) -> Result<Option<Head>, DemoErr
     ensures finds { (at : ℕ) → 2 ^ 64 ≤ at + 8 → (bytes : List ℕ) × HasFrom (F.told files.old) file at bytes × FindsHead bytes result }
     ensures given { F.given files.new ≡ F.given files.old }
     ensures asks { OnlyAsks (F.told files.old) (F.told files.new) }
+    ensures only { AsksOf file (F.told files.old) (F.told files.new) }
+    ensures cost { asked_of (F.told files.new) file ≡ asked_of (F.told files.old) file }
     ensures cause { ReadCause (F.faults files.old) (F.faults files.new) result }
     ensures others { F.write_faults files.new ≡ F.write_faults files.old }
 {
@@ -146,6 +156,9 @@ pub fn read_whole<F: Files>(
     ensures room { length into.new ≡ length into.old }
     ensures given { F.given files.new ≡ F.given files.old }
     ensures asks { OnlyAsks (F.told files.old) (F.told files.new) }
+    ensures only { AsksOf file (F.told files.old) (F.told files.new) }
+    ensures cost { IsTrue F.reads_whole → (told : Told) → F.told files.old ≡ Some told → at + length into.old ≤ length (contents_at told file)
+        → asked_of (F.told files.new) file ≤ asked_of (F.told files.old) file + length into.old }
     ensures cause { ReadCause (F.faults files.old) (F.faults files.new) result }
     ensures others { F.write_faults files.new ≡ F.write_faults files.old }
 {
