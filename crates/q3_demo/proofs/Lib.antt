@@ -3,6 +3,7 @@ pub mod Whole
 pub mod Pieces
 pub mod Finding
 pub mod Going
+pub mod Asking
 pub mod PlayingOn
 pub mod EndingAll
 pub mod Taking

@@ -1,9 +1,10 @@
-use Rattle.std.proofs.Common.{◌≡◌, ◌+◌, ◌-◌, List, ℕ, length, take, drop, Ok, refl, subst, arith}
+use Rattle.std.proofs.Common.{◌≡◌, ◌+◌, ◌-◌, List, ℕ, length, take, drop, Ok, refl, sym, subst, arith}
 use Rattle.std.proofs.lemmas.Grind.{common_steps}
 use Rattle.std.proofs.lemmas.List.{length-take, length-drop}
 use borrow.Rule.Slice.PartMut.{put_mid}
 use Rattle.q3_io.specs.Told.{ReadsAt}
 use Rattle.q3_demo.proofs.Whole.{has_some, comes_none, comes_more, comes_end, read_asks, asks_then, asks_same, put_front, put_before, put_length}
+use Rattle.q3_demo.proofs.Asking.{Costs, only_same, only_then, read_only, turn_costs, turn_gives}
 use Rattle.q3_demo.proofs.record.read_whole.Goals as goal
 
 pub loop-count-init : goal.loop-count-init
@@ -13,6 +14,8 @@ loop-count-init g c = record {
   room = refl;
   given = refl;
   asks = asks_same (g.F.Files.told c.args.files.now);
+  only = only_same (g.F.Files.told c.args.files.now) c.args.file;
+  cost = λ gives told is there. omega arith;
   reads = refl;
   others = refl;
 }
@@ -54,6 +57,11 @@ loop-count-preserved g c =
       given = grind (arith, common_steps);
       asks = asks_then (g.F.Files.told c.args.files.now) (g.F.Files.told c.loop-count.files) (g.F.Files.told c.read_at.new.self) c.loop-count.invariant.asks
           (read_asks (g.F.Files.told c.loop-count.files) (g.F.Files.told c.read_at.new.self) c.args.file (c.args.at + count) part c.read_at.new.into (Ok c.in-Ok.more) told);
+      only = only_then (g.F.Files.told c.args.files.now) (g.F.Files.told c.loop-count.files) (g.F.Files.told c.read_at.new.self) c.args.file c.loop-count.invariant.only
+          (read_only (g.F.Files.told c.loop-count.files) (g.F.Files.told c.read_at.new.self) c.args.file (c.args.at + count) part c.read_at.new.into (Ok c.in-Ok.more) told);
+      cost = λ gives. subst (λ (room : ℕ). Costs (g.F.Files.told c.args.files.now) (g.F.Files.told c.read_at.new.self) c.args.file c.args.at room (count + c.in-Ok.more)) (sym whole)
+          (turn_gives (g.F.Files.told c.args.files.now) (g.F.Files.told c.loop-count.files) (g.F.Files.told c.read_at.new.self) c.args.file c.args.at count (length into) c.in-Ok.more part c.read_at.new.into
+          c.loop-count.invariant.asks (c.loop-count.invariant.cost gives) told (c.in-Ok.ensures.all gives) (omega arith));
       reads = grind (arith, common_steps);
       others = grind (arith, common_steps);
     }

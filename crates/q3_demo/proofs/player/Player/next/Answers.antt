@@ -1,10 +1,12 @@
 use Rattle.std.proofs.Common.{◌≡◌, ◌+◌, ℕ, List, drop, length, take, Some, Ok, Err, subst, arith}
 use Rattle.std.proofs.lemmas.Result.{err_from_is_err_and}
+use Rattle.std.specs.Prelude.{IsTrue}
 use Rattle.q3_demo.specs.Records.{head_bytes}
 use Rattle.q3_demo.specs.Running.{HasFrom}
-use Rattle.q3_demo.specs.Playing.{step}
+use Rattle.q3_demo.specs.Playing.{Played, step}
 use Rattle.q3_demo.specs.Player.{PlayerState, PlaysOn}
 use Rattle.q3_demo.proofs.PlayingOn.{begins_buffer, plays_record, refuses_record}
+use Rattle.q3_demo.proofs.Asking.{CostsStep, costs_step}
 use Rattle.q3_demo.proofs.player.Player.next.Goals as goal
 
 pub returns-in_err-applied-clause-plays : goal.returns-in_err-applied-clause-plays
@@ -40,3 +42,17 @@ returns-clause-plays g c =
       λ demo there. plays_record demo finds.0 _ inside c.in-Message.number c.in-Message.length c.in-Message.next c.in_ok-applied.applied c.apply.new.state c.apply.new.log.commands there finds.2.0 message
           c.in_ok-applied.ensures.answer c.in_ok-applied.ensures.state c.in_ok-applied.ensures.log,
     )
+
+pub returns-in_err-piece-clause-cost : goal.returns-in_err-piece-clause-cost
+returns-in_err-piece-clause-cost g c = ?
+
+pub returns-in_err-applied-clause-cost : goal.returns-in_err-applied-clause-cost
+returns-in_err-applied-clause-cost g c = ?
+
+pub returns-clause-cost : goal.returns-clause-cost
+returns-clause-cost g c =
+    let inside : Played = record { state = c.self.inside.state; records = c.self.inside.records; last = c.self.inside.last; at = c.self.inside.at } in
+    subst
+    (λ (was : PlayerState). (IsTrue g.F.Files.reads_whole → CostsStep (g.F.Files.told c.args.files.now) (g.F.Files.told c.next_record.new.files) c.args.file was.played))
+    c.self.view_is
+    (λ gives. costs_step (g.F.Files.told c.args.files.now) (g.F.Files.told c.next_record.new.files) c.args.file inside (c.in_ok-piece.ensures.cost gives))
