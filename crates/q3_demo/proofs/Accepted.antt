@@ -1,6 +1,6 @@
 -- A message that was applied may be noted.
-use Rattle.std.proofs.Common.{◌≡◌, ℕ, ◌^◌, ◌<◌, ◌≤◌, Bool, true, false, List, [], length, Option, Some, None, Result, Ok, Err, refl, sym, ap, subst, ◌∙◌, arith}
-use Rattle.std.specs.Prelude.{IsOk, IsSome, is_some, if◌then◌else◌}
+use Rattle.std.proofs.Common.{◌≡◌, ℕ, ◌^◌, ◌<◌, ◌≤◌, Bool, true, List, [], length, Result, Ok, refl, sym, ap, subst, ◌∙◌}
+use Rattle.std.specs.Prelude.{IsOk, IsSome, is_some}
 use Rattle.std.specs.Result.{result_ok}
 use Rattle.std.proofs.lemmas.Bool.{cond_both, leb-false}
 use Rattle.q3_bits.specs.Bits.{bits_of}
@@ -26,7 +26,6 @@ use Rattle.q3_clstate.specs.declared.applied.SnapOutcome.TheVariants.{Stale, Ski
 use Rattle.q3_clstate.specs.State.{AppliedState, Application, context_of, passes, accepts, is_stale, skipped_for, apply_section, apply_read, apply_at, hearing}
 use Rattle.q3_clstate.specs.Standing.{IsApplied}
 use Rattle.q3_clstate.proofs.HeldStays.{context_is}
-use Rattle.q3_demo.specs.declared.recorder.Stage.{Stage}
 use Rattle.q3_demo.specs.declared.recorder.Stage.TheVariants.{Waits, Runs, Ended}
 use Rattle.q3_demo.specs.Recording.{Front, front_at, is_before}
 use Rattle.q3_demo.specs.Recorder.{IsAcceptedLast}

@@ -2,7 +2,7 @@
 use Rattle.std.proofs.Common.{◌≡◌, ℕ, List, [], ◌∷◌, ◌++◌, refl, sym, ap, ◌∙◌, append_assoc}
 use Rattle.std.proofs.lemmas.List.{append-nil}
 use Rattle.q3_demo.specs.declared.recorder.Stage.{Stage}
-use Rattle.q3_demo.specs.Recording.{Noted, Noting, note_of, noted_from}
+use Rattle.q3_demo.specs.Recording.{Noted, note_of, noted_from}
 use Rattle.q3_demo.specs.Laws.{RecordingGoesOn}
 
 stage_on : (stage : Stage) (messages : List Noted) (noted : Noted)

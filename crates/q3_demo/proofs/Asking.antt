@@ -1,10 +1,10 @@
 -- What is asked of a file.
-use Rattle.std.proofs.Common.{◌≡◌, ℕ, ◌+◌, ◌-◌, ◌<◌, ◌≤◌, Bool, List, length, drop, Option, Some, None, Result, Ok, Err, refl, sym, ap, subst, ◌∙◌, inl, inr, arith}
-use Rattle.std.specs.Prelude.{◌⊎◌, ◌≢◌, min, IsTrue, slice_index, slice_set}
+use Rattle.std.proofs.Common.{◌≡◌, ℕ, ◌+◌, ◌≤◌, List, length, drop, Option, Some, None, Result, Ok, Err, refl, sym, ap, subst, ◌∙◌, inl, inr, arith}
+use Rattle.std.specs.Prelude.{◌≢◌, slice_index, slice_set}
 use Rattle.std.proofs.lemmas.Bool.{cases_lt, cond_both}
 use Rattle.std.proofs.lemmas.List.{get_or-set_same, get_or-set_other, get_or_past, length-set, length-drop}
 use Rattle.q3_io.specs.declared.sink.Failed.{Failed}
-use Rattle.q3_io.specs.Told.{Told, ReadsAt, Measures, GivesAll, contents_at, can_ask, with_asked, after_asked}
+use Rattle.q3_io.specs.Told.{Told, ReadsAt, GivesAll, contents_at, can_ask, with_asked, after_asked}
 use Rattle.q3_demo.specs.declared.record.Piece.TheVariants as piece
 use Rattle.q3_demo.specs.Records.{head_bytes, length_of, piece_of}
 use Rattle.q3_demo.specs.Running.{OnlyAsks, AsksOf, asked_of}
@@ -21,7 +21,7 @@ only_same told file = λ other is. refl
 pub only_then : (before mid now : Option Told) (file : ℕ) → AsksOf file before mid → AsksOf file mid now → AsksOf file before now
 only_then before mid now file first second = λ other is. second other is ∙ first other is
 
-pub only_kept : (before now : Option Told) (file : ℕ) → now ≡ before → AsksOf file before now
+only_kept : (before now : Option Told) (file : ℕ) → now ≡ before → AsksOf file before now
 only_kept before now file same = λ other is. ap (λ (t : Option Told). asked_of t other) same
 
 others_stay : (asked : List ℕ) (file count other : ℕ) → other ≢ file → slice_index (with_asked asked file count) other ≡ slice_index asked other
@@ -37,12 +37,6 @@ pub read_only : (before now : Option Told) (file at : ℕ) (part part' : List �
 read_only None now file at part part' result reads = only_kept None now file reads
 read_only (Some told) now file at part part' (Ok count) reads = asks_only told now file (length part) reads.0
 read_only (Some told) now file at part part' (Err e) reads = asks_only told now file (length part) reads
-
--- a size is told, and nothing asked
-pub size_same : (before now : Option Told) (file : ℕ) (result : Result ℕ Failed) → Measures before now file result → now ≡ before
-size_same None now file result measures = measures
-size_same (Some told) now file (Ok size) measures = measures.0
-size_same (Some told) now file (Err e) measures = measures
 
 -- ---- how much
 
@@ -63,7 +57,7 @@ asks_more told now file count e =
     subst (λ (t : Option Told). asked_of t file ≤ slice_index told.asked file + count) (sym e) (asked_more told.asked file count)
 
 -- a read asks for as much as there is room
-pub read_costs : (before now : Option Told) (file at : ℕ) (part part' : List ℕ) (result : Result ℕ Failed) → ReadsAt before now file at part part' result
+read_costs : (before now : Option Told) (file at : ℕ) (part part' : List ℕ) (result : Result ℕ Failed) → ReadsAt before now file at part part' result
     → asked_of now file ≤ asked_of before file + length part
 read_costs None now file at part part' result reads = subst (λ (t : Option Told). asked_of t file ≤ 0 + length part) (sym reads) (omega arith)
 read_costs (Some told) now file at part part' (Ok count) reads = asks_more told now file (length part) reads.0
@@ -74,7 +68,7 @@ abbrev pub Costs : Option Told → Option Told → ℕ → ℕ → ℕ → ℕ �
 Costs before now file at there count = (told : Told) → before ≡ Some told → at + there ≤ length (contents_at told file) → asked_of now file ≤ asked_of before file + count
 
 -- as much comes then as there is room
-pub gives_room : (start now : Option Told) (told : Told) (file at room more : ℕ) → start ≡ Some told → OnlyAsks start now → GivesAll now file at room (Ok more)
+gives_room : (start now : Option Told) (told : Told) (file at room more : ℕ) → start ≡ Some told → OnlyAsks start now → GivesAll now file at room (Ok more)
     → at + room ≤ length (contents_at told file) → more ≡ room
 gives_room None now told file at room more is asks gives there = absurd cc
 gives_room (Some was) now told file at room more is asks gives there =
@@ -85,13 +79,7 @@ gives_room (Some was) now told file at room more is asks gives there =
 
 -- ---- until the buffer is full
 
--- a read into what was left asks for no more than the room
-pub turn_costs : (start now next : Option Told) (file at count room : ℕ) (part part' : List ℕ) (result : Result ℕ Failed) → Costs start now file at room count
-    → ReadsAt now next file (at + count) part part' result → count + length part ≡ room → Costs start next file at room room
-turn_costs start now next file at count room part part' result costs reads left = λ told is there.
-    omega (arith, costs told is there, read_costs now next file (at + count) part part' result reads)
-
--- and where it gives all, for no more than came
+-- where a read gives all, no more is asked for than came
 pub turn_gives : (start now next : Option Told) (file at count room more : ℕ) (part part' : List ℕ) → OnlyAsks start now → Costs start now file at room count
     → ReadsAt now next file (at + count) part part' (Ok more) → GivesAll now file (at + count) (length part) (Ok more) → count + length part ≡ room
     → Costs start next file at room (count + more)
@@ -106,7 +94,7 @@ asked_so before now file at at' count count' place same costs = λ told is there
 -- ---- a record
 
 -- behind the first bytes the others are asked for
-pub costs_then : (before mid now : Option Told) (file at first second : ℕ) → OnlyAsks before mid → Costs before mid file at first first → Costs mid now file (at + first) second second
+costs_then : (before mid now : Option Told) (file at first second : ℕ) → OnlyAsks before mid → Costs before mid file at first first → Costs mid now file (at + first) second second
     → Costs before now file at (first + second) (first + second)
 costs_then None mid now file at first second asks one other = λ told is there. absurd cc
 costs_then (Some was) mid now file at first second asks one other = λ told is there.

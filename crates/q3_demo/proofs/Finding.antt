@@ -1,11 +1,11 @@
 -- What is found at a place of a demo, by its head and then by its message.
-use Rattle.std.proofs.Common.{◌≡◌, ℕ, ◌+◌, ◌<◌, ◌≤◌, List, ◌++◌, length, take, Option, Some, Ok, Err, sym, ap, ◌∙◌, inl, inr, arith}
-use Rattle.std.proofs.lemmas.List.{length-take, length-append, drop_at, take_all}
+use Rattle.std.proofs.Common.{◌≡◌, ℕ, ◌+◌, ◌<◌, ◌≤◌, List, ◌++◌, length, take, drop, Option, Some, Ok, Err, refl, sym, ap, subst, ◌∙◌, inl, inr, arith}
+use Rattle.std.proofs.lemmas.List.{length-take, length-append, drop_at, take_all, take-append-drop}
 use Rattle.q3_io.specs.Told.{Told}
 use Rattle.q3_demo.specs.declared.error.DemoError.TheVariants.{Truncated}
 use Rattle.q3_demo.specs.declared.record.Head.{Head}
 use Rattle.q3_demo.specs.declared.record.Piece.TheVariants as piece
-use Rattle.q3_demo.specs.Records.{head_bytes, longest_record, number_end, most_bytes}
+use Rattle.q3_demo.specs.Records.{head_bytes, number_of, length_of, longest_record, number_end, most_bytes}
 use Rattle.q3_demo.specs.Running.{HasFrom, OnlyAsks, FindsPiece}
 use Rattle.q3_demo.specs.Steps.{Fills, FindsHead}
 use Rattle.q3_demo.proofs.Whole.{has_before, has_joined}
@@ -19,6 +19,13 @@ pub record Found (told : Option Told) (file at number size : ℕ) : Type 0 where
 
 pub head_found : (told : Option Told) (file at : ℕ) (bytes : List ℕ) (head : Head) → HasFrom told file at bytes → FindsHead bytes (Ok (Some head)) → Found told file at head.number head.length
 head_found told file at bytes head has finds = record { bytes = bytes; has = has; head = record { some = finds.0; number_is = finds.1; size_is = finds.2 } }
+
+-- what is read of it from a buffer that begins with it
+pub head_read : (bytes buffer : List ℕ) (count : ℕ) → Fills bytes buffer (Ok count) → head_bytes ≤ length buffer → head_bytes ≤ count → HasHead bytes (number_of buffer) (length_of buffer)
+head_read bytes buffer count fills room least =
+    let same : take count buffer ++ drop count bytes ≡ bytes = ap (λ (front : List ℕ). front ++ drop count bytes) fills.1 ∙ take-append-drop count bytes in
+    subst (λ (xs : List ℕ). HasHead xs (number_of buffer) (length_of buffer)) same
+    (head_stays buffer (drop count bytes) count (number_of buffer) (length_of buffer) least (record { some = room; number_is = refl; size_is = refl }))
 
 pub far : (told : Option Told) (file at last number size : ℕ) (buffer : List ℕ) → Found told file at number size → size ≤ longest_record → last < number → number < number_end
     → most_bytes < at + head_bytes + size → (bytes : List ℕ) × HasFrom told file at bytes × FindsPiece bytes at last buffer (Err (Truncated at))

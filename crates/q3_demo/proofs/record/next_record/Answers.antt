@@ -1,4 +1,4 @@
-use Rattle.std.proofs.Common.{◌≡◌, ◌+◌, ℕ, length, take, drop, ap, subst, sym, arith}
+use Rattle.std.proofs.Common.{◌≡◌, ◌+◌, ℕ, length, take, drop, subst, arith}
 use Rattle.std.proofs.lemmas.List.{take_at, length-take}
 use Rattle.q3_demo.specs.Records.{head_bytes}
 use Rattle.q3_demo.specs.Running.{HasFrom}
@@ -49,8 +49,8 @@ returns-in_err-read_whole-clause-cost g c =
     let body : c.saturating_add-body.result ≡ c.args.at + head_bytes = omega (arith, c.saturating_add-body.ensures, c.saturating_add-next.ensures) in
     let room : length (take size c.args.into.now) ≡ size = omega (arith, length-take size c.args.into.now) in
     λ gives. head_and_message (g.F.Files.told c.args.files.now) (g.F.Files.told c.read_head.new.files) (g.F.Files.told c.read_whole.new.files) c.args.file c.args.at c.args.last c.in-Some.head.number size found
-        c.in_ok-head.ensures.asks (c.in_ok-head.ensures.cost gives)
-        (asked_so (g.F.Files.told c.read_head.new.files) (g.F.Files.told c.read_whole.new.files) c.args.file _ _ _ _ body room (c.in_err-read_whole.ensures.cost gives))
+    c.in_ok-head.ensures.asks (c.in_ok-head.ensures.cost gives)
+    (asked_so (g.F.Files.told c.read_head.new.files) (g.F.Files.told c.read_whole.new.files) c.args.file _ _ _ _ body room (c.in_err-read_whole.ensures.cost gives))
 
 pub returns-then-next-gt-MOST_BYTES-clause-cost : goal.returns-then-next-gt-MOST_BYTES-clause-cost
 returns-then-next-gt-MOST_BYTES-clause-cost g c =
@@ -78,4 +78,4 @@ returns-clause-cost g c =
     let body : c.saturating_add-body.result ≡ c.args.at + head_bytes = omega (arith, c.saturating_add-body.ensures, c.saturating_add-next.ensures) in
     let room : length (take size c.args.into.now) ≡ size = omega (arith, length-take size c.args.into.now) in
     λ gives. head_and_message (g.F.Files.told c.args.files.now) (g.F.Files.told c.read_head.new.files) (g.F.Files.told c.read_whole.new.files) c.args.file c.args.at c.args.last number size found
-        c.in_ok-head.ensures.asks (c.in_ok-head.ensures.cost gives) (asked_so (g.F.Files.told c.read_head.new.files) (g.F.Files.told c.read_whole.new.files) c.args.file _ _ _ _ body room (c.in_ok-read_whole.ensures.cost gives))
+    c.in_ok-head.ensures.asks (c.in_ok-head.ensures.cost gives) (asked_so (g.F.Files.told c.read_head.new.files) (g.F.Files.told c.read_whole.new.files) c.args.file _ _ _ _ body room (c.in_ok-read_whole.ensures.cost gives))

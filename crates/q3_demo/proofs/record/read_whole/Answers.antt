@@ -4,7 +4,7 @@ use Rattle.std.proofs.lemmas.List.{length-take, length-drop}
 use borrow.Rule.Slice.PartMut.{put_mid}
 use Rattle.q3_io.specs.Told.{ReadsAt}
 use Rattle.q3_demo.proofs.Whole.{has_some, comes_none, comes_more, comes_end, read_asks, asks_then, asks_same, put_front, put_before, put_length}
-use Rattle.q3_demo.proofs.Asking.{Costs, only_same, only_then, read_only, turn_costs, turn_gives}
+use Rattle.q3_demo.proofs.Asking.{Costs, only_same, only_then, read_only, turn_gives}
 use Rattle.q3_demo.proofs.record.read_whole.Goals as goal
 
 pub loop-count-init : goal.loop-count-init

@@ -44,15 +44,22 @@ returns-clause-plays g c =
     )
 
 pub returns-in_err-piece-clause-cost : goal.returns-in_err-piece-clause-cost
-returns-in_err-piece-clause-cost g c = ?
+returns-in_err-piece-clause-cost g c =
+    let inside : Played = record { state = c.self.inside.state; records = c.self.inside.records; last = c.self.inside.last; at = c.self.inside.at } in
+    subst
+    (λ (was : PlayerState). IsTrue g.F.Files.reads_whole → CostsStep (g.F.Files.told c.args.files.now) (g.F.Files.told c.next_record.new.files) c.args.file was.played) c.self.view_is
+    (λ gives. costs_step (g.F.Files.told c.args.files.now) (g.F.Files.told c.next_record.new.files) c.args.file inside (c.in_err-piece.ensures.cost gives))
 
 pub returns-in_err-applied-clause-cost : goal.returns-in_err-applied-clause-cost
-returns-in_err-applied-clause-cost g c = ?
+returns-in_err-applied-clause-cost g c =
+    let inside : Played = record { state = c.self.inside.state; records = c.self.inside.records; last = c.self.inside.last; at = c.self.inside.at } in
+    subst
+    (λ (was : PlayerState). IsTrue g.F.Files.reads_whole → CostsStep (g.F.Files.told c.args.files.now) (g.F.Files.told c.next_record.new.files) c.args.file was.played) c.self.view_is
+    (λ gives. costs_step (g.F.Files.told c.args.files.now) (g.F.Files.told c.next_record.new.files) c.args.file inside (c.in_ok-piece.ensures.cost gives))
 
 pub returns-clause-cost : goal.returns-clause-cost
 returns-clause-cost g c =
     let inside : Played = record { state = c.self.inside.state; records = c.self.inside.records; last = c.self.inside.last; at = c.self.inside.at } in
     subst
-    (λ (was : PlayerState). (IsTrue g.F.Files.reads_whole → CostsStep (g.F.Files.told c.args.files.now) (g.F.Files.told c.next_record.new.files) c.args.file was.played))
-    c.self.view_is
+    (λ (was : PlayerState). IsTrue g.F.Files.reads_whole → CostsStep (g.F.Files.told c.args.files.now) (g.F.Files.told c.next_record.new.files) c.args.file was.played) c.self.view_is
     (λ gives. costs_step (g.F.Files.told c.args.files.now) (g.F.Files.told c.next_record.new.files) c.args.file inside (c.in_ok-piece.ensures.cost gives))
