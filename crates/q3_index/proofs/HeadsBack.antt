@@ -9,7 +9,7 @@ use Rattle.q3_profile.specs.declared.profile.Profile.{Profile}
 use Rattle.q3_savestate.specs.Cursor.{Cursor}
 use Rattle.q3_savestate.proofs.Fields.{field_back, number_back}
 use Rattle.q3_demo.specs.Playing.{Played}
-use Rattle.q3_index.specs.declared.checkpoint.Checkpoint.{Checkpoint}
+use Rattle.q3_index.specs.declared.index.Checkpoint.{Checkpoint}
 use Rattle.q3_index.specs.Text.{spacing, magic, head_bytes, state_of, checkpoint_bytes}
 use Rattle.q3_index.specs.Opening.{checkpoints_at, heads_at}
 use Rattle.q3_index.proofs.Points.{ArePoints}

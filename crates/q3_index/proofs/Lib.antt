@@ -1,3 +1,11 @@
+pub mod Asking
+pub mod Fields
+pub mod Heads
+pub mod Listing
+pub mod Opened
+pub mod Places
+pub mod Seeking
+pub mod Stepping
 pub mod Standing
 pub mod ShortStates
 pub mod Points

@@ -12,7 +12,7 @@ use Rattle.q3_clstate.specs.Saving.{saved_in, applied_by}
 use Rattle.q3_clstate.specs.Laws.{ApplyStays, WithinStays, WrittenIsRead}
 use Rattle.q3_demo.specs.Playing.{Played, Stepped, unplayed, most_records, play_of, records_of, last_of, play_first}
 use Rattle.q3_demo.specs.Laws.{FirstRecordsLeave}
-use Rattle.q3_index.specs.declared.checkpoint.Checkpoint.{Checkpoint}
+use Rattle.q3_index.specs.declared.index.Checkpoint.{Checkpoint}
 use Rattle.q3_index.specs.declared.error.IndexError.TheVariants.{NotIndex}
 use Rattle.q3_index.specs.declared.error.SeekError.{SeekError}
 use Rattle.q3_index.specs.declared.error.SeekError.TheVariants as seeking

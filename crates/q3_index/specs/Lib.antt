@@ -1,4 +1,6 @@
 pub mod Text
 pub mod Opening
 pub mod Seeking
+pub mod Running
+pub mod Steps
 pub mod Laws

@@ -3,7 +3,7 @@ use Rattle.std.specs.Prelude.{ℕ, zero, suc, ◌+◌, ◌/◌, ◌==◌, ◌&&�
 use Rattle.std.specs.Str.{bytes_eq}
 use Rattle.q3_bits.specs.ResultBind.{◌>>=◌, fault_as}
 use Rattle.q3_savestate.specs.Cursor.{Cursor, Field, field_at, number_at, end_at}
-use Rattle.q3_index.specs.declared.checkpoint.Checkpoint.{Checkpoint}
+use Rattle.q3_index.specs.declared.index.Checkpoint.{Checkpoint}
 use Rattle.q3_index.specs.declared.error.IndexError.{IndexError}
 use Rattle.q3_index.specs.declared.error.IndexError.TheVariants.{NotIndex, OtherDemo}
 use Rattle.q3_index.specs.Text.{spacing, magic}

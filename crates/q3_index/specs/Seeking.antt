@@ -5,7 +5,7 @@ use Rattle.q3_profile.specs.declared.profile.Profile.{Profile}
 use Rattle.q3_savestate.specs.State.{state_at}
 use Rattle.q3_clstate.specs.Saving.{applied_by}
 use Rattle.q3_demo.specs.Playing.{Played, unplayed, play_first}
-use Rattle.q3_index.specs.declared.checkpoint.Checkpoint.{Checkpoint}
+use Rattle.q3_index.specs.declared.index.Checkpoint.{Checkpoint}
 use Rattle.q3_index.specs.declared.error.SeekError.{SeekError}
 use Rattle.q3_index.specs.declared.error.SeekError.TheVariants.{NotIndex, PastEnd, Demo}
 use Rattle.q3_index.specs.Text.{spacing}

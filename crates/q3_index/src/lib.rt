@@ -2,9 +2,13 @@
 //! opening one and seeking in it mean, and their laws. The format is this project's own.
 #![tactic(auto)]
 
-pub mod checkpoint;
+pub mod build;
 pub mod error;
+pub mod index;
 pub mod laws;
+pub mod opening;
 
-pub use checkpoint::Checkpoint;
+pub use build::{Built, build_index};
 pub use error::{IndexError, SeekError};
+pub use index::{Checkpoint, Index};
+pub use opening::open_index;
