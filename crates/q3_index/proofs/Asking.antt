@@ -1,5 +1,5 @@
 -- What is asked of files grows, and nothing else changes.
-use Rattle.std.proofs.Common.{◌≡◌, ◌≢◌, ℕ, List, Option, Some, None, Result, Ok, Err, refl, ap, subst, ◌∙◌}
+use Rattle.std.proofs.Common.{◌≡◌, ℕ, Option, Some, None, Result, Ok, Err, refl, ap, subst, ◌∙◌}
 use Rattle.q3_io.specs.declared.sink.Failed.{Failed}
 use Rattle.q3_io.specs.Told.{Told, Measures}
 use Rattle.q3_demo.specs.Running.{OnlyAsks, AsksOf, asked_of}

@@ -1,8 +1,8 @@
 -- Fields that are read of a front of bytes, and where they are.
-use Rattle.std.proofs.Common.{◌≡◌, ℕ, ◌+◌, ◌-◌, ◌<◌, ◌≤◌, Bool, true, false, List, ◌++◌, length, take, drop, Result, Ok, Err, refl, sym, ap, subst, ◌∙◌, ltb-true, ltb-false, lt-ltb, le-ltb, arith}
-use Rattle.std.specs.Prelude.{◌↔◌, nat_lt, nat_le, ◌&&◌, if◌then◌else◌}
+use Rattle.std.proofs.Common.{◌≡◌, ℕ, ◌+◌, ◌-◌, ◌≤◌, Bool, true, false, List, length, take, drop, Ok, Err, refl, sym, ap, ◌∙◌, ltb-true, lt-ltb, arith}
+use Rattle.std.specs.Prelude.{nat_lt, if◌then◌else◌}
 use Rattle.std.proofs.lemmas.Bool.{cond_both, ltb_from_iff}
-use Rattle.std.proofs.lemmas.List.{length-drop, length-take, take-take, drop-take, drop-drop}
+use Rattle.std.proofs.lemmas.List.{length-take, take-take, drop-take, drop-drop}
 use Rattle.q3_bits.specs.ResultBind.{◌>>=◌}
 use Rattle.q3_savestate.specs.Cursor.{Cursor, Field, behind, field_at}
 use Rattle.q3_index.specs.Steps.{from_place, value_of}

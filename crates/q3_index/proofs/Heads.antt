@@ -1,6 +1,6 @@
 -- The head of an index, and those of its checkpoints, as they are read.
 use Rattle.std.proofs.Common.{◌≡◌, ℕ, ◌+◌, ◌-◌, ◌<◌, ◌/◌, ◌≤◌, Bool, true, false, List, length, take, drop, Result, Ok, Err, refl, sym, ap, subst, ◌∙◌, lt-ltb, le-ltb, arith}
-use Rattle.std.specs.Prelude.{nat_lt, nat_le, ◌&&◌, if◌then◌else◌, Option, Some}
+use Rattle.std.specs.Prelude.{nat_lt, nat_le, ◌&&◌, if◌then◌else◌}
 use Rattle.std.proofs.lemmas.Bool.{cond_both, and_parts, leb-true}
 use Rattle.std.proofs.lemmas.List.{length-drop, drop-drop}
 use Rattle.byteorder.specs.Endian.{little_number}
@@ -21,15 +21,36 @@ mark_cut cursor behind_magic behind_length magic length place first second stops
 head_front : (at : ℕ) (bytes : List ℕ) → IsFront 0 (head_at (record { at = at; bytes = take 32 bytes })) (head_at (record { at = at; bytes = bytes }))
 unfolding head_at
 head_front at bytes =
-    search (then_front {X = List ℕ} {Y = Head} 24, then_front {X = ℕ} {Y = Head} 16, then_front {X = ℕ} {Y = Head} 8, then_front {X = ℕ} {Y = Head} 4, then_front {X = ℕ} {Y = Head} 0, ok_front,
-    field_front {X = List ℕ} 8 32 24 refl, field_front {X = ℕ} 8 24 16 refl, field_front {X = ℕ} 8 16 8 refl, field_front {X = ℕ} 4 8 4 refl, field_front {X = ℕ} 4 4 0 refl) depth 10
+    search (
+      then_front {X = List ℕ} {Y = Head} 24,
+      then_front {X = ℕ} {Y = Head} 16,
+      then_front {X = ℕ} {Y = Head} 8,
+      then_front {X = ℕ} {Y = Head} 4,
+      then_front {X = ℕ} {Y = Head} 0,
+      ok_front,
+      field_front {X = List ℕ} 8 32 24 refl,
+      field_front {X = ℕ} 8 24 16 refl,
+      field_front {X = ℕ} 8 16 8 refl,
+      field_front {X = ℕ} 4 8 4 refl,
+      field_front {X = ℕ} 4 4 0 refl,
+    ) depth 10
 
 head_leads : (bytes : List ℕ) → LeadsTo bytes 32 (head_at (from_place bytes 0))
 unfolding head_at
 head_leads bytes =
-    search (then_leads {X = List ℕ} {Y = Head} bytes 8, then_leads {X = ℕ} {Y = Head} bytes 16, then_leads {X = ℕ} {Y = Head} bytes 24, then_leads {X = ℕ} {Y = Head} bytes 28,
-    then_leads {X = ℕ} {Y = Head} bytes 32, ok_leads, field_leads {X = List ℕ} bytes 0 8 8 refl, field_leads {X = ℕ} bytes 8 8 16 refl, field_leads {X = ℕ} bytes 16 8 24 refl,
-    field_leads {X = ℕ} bytes 24 4 28 refl, field_leads {X = ℕ} bytes 28 4 32 refl) depth 10
+    search (
+      then_leads {X = List ℕ} {Y = Head} bytes 8,
+      then_leads {X = ℕ} {Y = Head} bytes 16,
+      then_leads {X = ℕ} {Y = Head} bytes 24,
+      then_leads {X = ℕ} {Y = Head} bytes 28,
+      then_leads {X = ℕ} {Y = Head} bytes 32,
+      ok_leads,
+      field_leads {X = List ℕ} bytes 0 8 8 refl,
+      field_leads {X = ℕ} bytes 8 8 16 refl,
+      field_leads {X = ℕ} bytes 16 8 24 refl,
+      field_leads {X = ℕ} bytes 24 4 28 refl,
+      field_leads {X = ℕ} bytes 28 4 32 refl,
+    ) depth 10
 
 -- what is read of the first bytes of a file is its head
 head_value : (bytes part : List ℕ) (r : Result Head ℕ) → part ≡ take 32 bytes → r ≡ value_of (head_at (from_place part 0)) → value_of (head_at (from_place bytes 0)) ≡ r
@@ -94,8 +115,15 @@ counts_so cursor head is = value_counts (head_at cursor) head (head_counts curso
 numbers_front : (number least most at : ℕ) (bytes : List ℕ) → IsFront 0 (numbers_at number least most (record { at = at; bytes = take 16 bytes })) (numbers_at number least most (record { at = at; bytes = bytes }))
 unfolding numbers_at
 numbers_front number least most at bytes =
-    search (then_front {X = ℕ} {Y = Checkpoint} 12, then_front {X = ℕ} {Y = Checkpoint} 4, then_front {X = ℕ} {Y = Checkpoint} 0, ok_front, field_front {X = ℕ} 4 16 12 refl, field_front {X = ℕ} 8 12 4 refl,
-    field_front {X = ℕ} 4 4 0 refl) depth 10
+    search (
+      then_front {X = ℕ} {Y = Checkpoint} 12,
+      then_front {X = ℕ} {Y = Checkpoint} 4,
+      then_front {X = ℕ} {Y = Checkpoint} 0,
+      ok_front,
+      field_front {X = ℕ} 4 16 12 refl,
+      field_front {X = ℕ} 8 12 4 refl,
+      field_front {X = ℕ} 4 4 0 refl,
+    ) depth 10
 
 -- bytes that are left of a file
 record IsIn (bytes : List ℕ) (cursor : Cursor) : Type 0 where

@@ -11,3 +11,4 @@ pub mod ShortStates
 pub mod Points
 pub mod HeadsBack
 pub mod Sought
+pub mod Costing

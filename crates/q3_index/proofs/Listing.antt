@@ -1,6 +1,6 @@
 -- The heads of checkpoints are read one by one.
-use Rattle.std.proofs.Common.{◌≡◌, ℕ, zero, suc, ◌+◌, ◌-◌, ◌*◌, ◌<◌, ◌≤◌, Bool, true, false, List, [], ◌∷◌, ◌++◌, length, drop, Option, Some, None, Result, Ok, Err, refl, sym, ap, subst, ◌∙◌, append_assoc, arith, eq-eqb, ne_eqb}
-use Rattle.std.specs.Prelude.{◌==◌, ◌^◌, if◌then◌else◌, SomeIff}
+use Rattle.std.proofs.Common.{◌≡◌, ℕ, suc, ◌+◌, ◌-◌, ◌*◌, ◌<◌, ◌≤◌, true, false, List, [], ◌∷◌, ◌++◌, length, drop, Option, Some, None, Result, Ok, Err, refl, sym, ap, ◌∙◌, append_assoc, arith, eq-eqb, ne_eqb}
+use Rattle.std.specs.Prelude.{◌==◌, ◌^◌, SomeIff}
 use Rattle.std.proofs.lemmas.List.{append-nil, length-drop}
 use Rattle.q3_bits.specs.ResultBind.{◌>>=◌, bind_assoc, bind_is}
 use Rattle.q3_io.specs.Told.{Told, contents_at}

@@ -1,10 +1,9 @@
 -- An index is opened: its head, its checkpoints, and whether it is the demo's.
-use Rattle.std.proofs.Common.{◌≡◌, ◌≢◌, ℕ, Bool, true, false, List, length, Option, Some, None, Result, Ok, Err, refl, sym, ap, ap₂, subst, ◌∙◌, arith, eq-eqb, ne_eqb}
-use Rattle.std.specs.Prelude.{◌⊎◌, ◌/◌, ◌==◌, ◌&&◌, if◌then◌else◌}
+use Rattle.std.proofs.Common.{◌≡◌, ◌≢◌, ℕ, false, List, length, Option, Some, Result, Ok, Err, refl, sym, ap, subst, ◌∙◌, eq-eqb, ne_eqb}
+use Rattle.std.specs.Prelude.{◌⊎◌, ◌/◌, ◌==◌, ◌&&◌}
 use Rattle.std.proofs.lemmas.Bool.{and_left, and_right, and_from}
 use Rattle.std.proofs.Common.{inl, inr}
 use Rattle.q3_bits.specs.ResultBind.{◌>>=◌, fault_as, bind_assoc, bind_is}
-use Rattle.q3_io.specs.declared.sink.Failed.{Failed}
 use Rattle.q3_io.specs.Told.{Told, Measures, contents_at}
 use Rattle.q3_demo.specs.Running.{OnlyAsks}
 use Rattle.q3_savestate.specs.Cursor.{Cursor, Field, number_at, end_at}

@@ -1,17 +1,16 @@
 -- Records are played one by one, as many as are sought.
-use Rattle.std.proofs.Common.{◌≡◌, ℕ, zero, suc, ◌+◌, ◌-◌, ◌*◌, ◌/◌, ◌<◌, ◌≤◌, List, Option, Some, None, Result, Ok, Err, refl, sym, ap, subst, ◌∙◌, lt-ltb, le-ltb, arith}
+use Rattle.std.proofs.Common.{◌≡◌, ℕ, suc, ◌+◌, ◌-◌, ◌<◌, ◌≤◌, List, Option, Some, Result, Ok, Err, refl, sym, ap, subst, ◌∙◌, lt-ltb, le-ltb, arith}
 use Rattle.q3_bits.specs.ResultBind.{◌>>=◌, fault_as, bind_assoc, map_err_ok}
 use Rattle.q3_io.specs.Told.{Told, contents_at}
 use Rattle.q3_profile.specs.declared.profile.Profile.{Profile}
 use Rattle.q3_clstate.specs.State.{AppliedState}
 use Rattle.q3_demo.specs.declared.error.DemoError.{DemoError}
-use Rattle.q3_demo.specs.Playing.{Played, Stepped, step, go_on, play_first}
+use Rattle.q3_demo.specs.Playing.{Played, step, go_on, play_first}
 use Rattle.q3_demo.specs.Running.{OnlyAsks}
 use Rattle.q3_index.specs.declared.error.SeekError.{SeekError}
 use Rattle.q3_index.specs.declared.error.SeekError.TheVariants.{ReadFault, NotIndex, NoMemory, PastEnd, Demo}
 use Rattle.q3_index.specs.declared.index.Checkpoint.{Checkpoint}
-use Rattle.q3_index.specs.Text.{spacing}
-use Rattle.q3_index.specs.Seeking.{restored_if, greatest, seek_at}
+use Rattle.q3_index.specs.Seeking.{start_at, seek_at}
 use Rattle.q3_index.specs.Running.{IndexState, Seeks}
 use Rattle.q3_index.specs.Steps.{Answers, played_by, play_one}
 
@@ -52,7 +51,7 @@ pub told_later : (before now : Option Told) (told : Told) → OnlyAsks before no
 told_later before now told asks is = subst (λ (t : Option Told). OnlyAsks t now) is asks
 
 -- so far what is left to play of so many records is what was to be played
-pub GoesOn : Option Told → ℕ → ℕ → Played → ℕ → Played → Type 0
+unfoldable pub GoesOn : Option Told → ℕ → ℕ → Played → ℕ → Played → Type 0
 GoesOn before demo total first left now =
     (told : Told) → before ≡ Some told → play_first total (contents_at told demo) first ≡ play_first left (contents_at told demo) now
 
@@ -98,14 +97,11 @@ unfolding seek_at
 past_end profile demo index records checkpoints number less = rw (lt-ltb records number less) refl
 
 -- a checkpoint is restored, or the beginning, and records are played
-abbrev sought_from : List ℕ → ℕ → Result Played SeekError → Result Played SeekError
+abbrev pub sought_from : List ℕ → ℕ → Result Played SeekError → Result Played SeekError
 sought_from demo number start = start >>= λ (first : Played). fault_as Demo (play_first (number - first.records) demo first)
 
-abbrev start_of : Profile → List ℕ → List Checkpoint → ℕ → Result Played SeekError
-start_of profile index checkpoints number = restored_if profile index (spacing * (number / spacing)) (greatest checkpoints number)
-
-sought : (profile : Profile) (demo index : List ℕ) (records : ℕ) (checkpoints : List Checkpoint) (number : ℕ) → number ≤ records
-    → seek_at profile demo index records checkpoints number ≡ sought_from demo number (start_of profile index checkpoints number)
+pub sought : (profile : Profile) (demo index : List ℕ) (records : ℕ) (checkpoints : List Checkpoint) (number : ℕ) → number ≤ records
+    → seek_at profile demo index records checkpoints number ≡ sought_from demo number (start_at profile index checkpoints number)
 unfolding seek_at
 sought profile demo index records checkpoints number within = rw (le-ltb records number within) refl
 
@@ -119,14 +115,14 @@ seeks_wrong value profile state demo index number r (Demo e) alike answers = ali
 
 -- the beginning is refused
 pub starts_wrong : (profile : Profile) (state : IndexState) (demo index : List ℕ) (number : ℕ) (e : SeekError) → number ≤ state.records
-    → Answers played_by (start_of profile index state.checkpoints number) (Err e) → Seeks profile state demo index number (Err e)
+    → Answers played_by (start_at profile index state.checkpoints number) (Err e) → Seeks profile state demo index number (Err e)
 starts_wrong profile state demo index number e within answers =
-    seeks_wrong played_by profile state demo index number (start_of profile index state.checkpoints number) e
+    seeks_wrong played_by profile state demo index number (start_at profile index state.checkpoints number) e
     (λ d stops. sought profile demo index state.records state.checkpoints number within ∙ ap (sought_from demo number) stops) answers
 
 -- where the files are told, the beginning is this
 abbrev pub StartsAt : Option Told → Profile → IndexState → ℕ → Played → Type 0
-StartsAt before profile state number first = (told : Told) → before ≡ Some told → start_of profile (contents_at told state.index) state.checkpoints number ≡ Ok first
+StartsAt before profile state number first = (told : Told) → before ≡ Some told → start_at profile (contents_at told state.index) state.checkpoints number ≡ Ok first
 
 -- and playing from there answers this
 abbrev pub PlaysFrom : Option Told → ℕ → ℕ → Played → Played → Result (Unit {0}) SeekError → Type 0

@@ -18,8 +18,8 @@ use Rattle.q3_index.specs.declared.error.SeekError.{SeekError}
 use Rattle.q3_index.specs.declared.error.SeekError.TheVariants as seeking
 use Rattle.q3_index.specs.Text.{spacing, head_bytes, checkpoint_bytes, index_text, index_of, state_of}
 use Rattle.q3_index.specs.Opening.{Heads, checkpoints_at, heads_at, matching, open_at}
-use Rattle.q3_index.specs.Seeking.{restored, restored_if, greatest, seek_at}
-use Rattle.q3_index.specs.Laws.{IndexOpens, SeekingIsPlaying}
+use Rattle.q3_index.specs.Seeking.{restored, restored_if, start_at, seek_at, behind}
+use Rattle.q3_index.specs.Laws.{IndexOpens, SeekingIsPlaying, SeekingGoesOn}
 use Rattle.q3_index.proofs.Standing.{Stands, none_stands, follow_from, few_from, some_stand, play_more}
 use Rattle.q3_index.proofs.Points.{points_of, length-points_of, point_at, checkpoints_are, ArePoints, are_points}
 use Rattle.q3_index.proofs.HeadsBack.{places_of, checkpoints_back, heads_back, point_back}
@@ -105,14 +105,22 @@ restores written profile demo index records checkpoint played stands count few p
 -- where to begin
 record Begins (profile : Profile) (demo index : List ℕ) (number : ℕ) : Type 0 where
   start : Played
-  begins : restored_if profile index (spacing * (number / spacing)) (greatest (heads_of profile demo).checkpoints number) ≡ Ok start
+  there : start ≡ behind profile demo (spacing * (number / spacing))
+  begins : start_at profile index (heads_of profile demo).checkpoints number ≡ Ok start
   goes_on : play_first number demo (unplayed profile) ≡ play_first (number - start.records) demo start
 
 -- with no record played
 begins_new : (profile : Profile) (demo index : List ℕ) (number : ℕ) → number < spacing → Begins profile demo index number
+unfolding last_of
 begins_new profile demo index number few =
     let all : number ≡ number - 0 = omega arith in
-    record { start = unplayed profile; begins = rw (lt-ltb number spacing few) refl; goes_on = ap (λ n. play_first n demo (unplayed profile)) all }
+    let none : 0 ≡ spacing * (number / spacing) = omega arith in
+    record {
+      start = unplayed profile;
+      there = ap (behind profile demo) none;
+      begins = rw (lt-ltb number spacing few) refl;
+      goes_on = ap (λ n. play_first n demo (unplayed profile)) all;
+    }
 
 -- or behind a checkpoint
 begins_behind : FirstRecordsLeave → WrittenIsRead → ApplyStays → WithinStays → (profile : Profile) (demo index : List ℕ) (number : ℕ) → IsCodec profile → 512 ≤ profile.parse_ring
@@ -125,12 +133,14 @@ begins_behind first written stays within profile demo index number codec room is
     let start : Played = last_of (unplayed profile) (take count records) in
     let few : length records ≤ most_records = few_from most_records demo (unplayed profile) in
     let more = some_stand stays within profile demo (unplayed profile) count records (omega arith) (follow_from most_records demo (unplayed profile)) (none_stands stays within profile demo codec room) in
-    let behind = more.behind.records in
+    let further = more.behind.records in
     let point = point_at spacing left (unplayed profile) records i (omega arith) in
     let there = point_back profile (points_in profile demo) i 32 (head_of profile demo) index start refl (text_is stays within profile demo index codec room is) point in
     let restores_it = restores written profile demo index (spacing * (number / spacing)) there.checkpoint start more.stands (omega arith) (omega arith) there.place there.state in
+    let same : count ≡ spacing * (number / spacing) = omega arith in
     record {
       start = start;
+      there = ap (behind profile demo) same;
       begins = rw (le-ltb number spacing above) (ap (restored_if profile index (spacing * (number / spacing))) there.found ∙ restores_it);
       goes_on = play_more count (number - start.records) number demo (unplayed profile) start (omega arith) (first.first profile demo count (omega arith));
     }
@@ -163,4 +173,16 @@ seeking_is_playing first written stays within profile demo index heads number co
       plays,
       subst (λ (heads : Heads). seek_at profile demo index heads.records heads.checkpoints number ≡ Ok played) same
           (sought first written stays within profile demo index number played codec room is some plays),
+    )
+
+-- the law on where it begins
+pub seeking_goes_on : FirstRecordsLeave → WrittenIsRead → ApplyStays → WithinStays → SeekingGoesOn
+seeking_goes_on first written stays within profile demo index heads number codec room mark long is opens some =
+    let start : Played = behind profile demo (spacing * (number / spacing)) in
+    let last : Played = behind profile demo number in
+    let from = begins first written stays within profile demo index number codec room is some in
+    let same : heads_of profile demo ≡ heads = let e = sym (opened stays within profile demo index codec room mark long is) ∙ opens in cc in
+    subst (λ (heads : Heads). (start_at profile index heads.checkpoints number ≡ Ok start) × (seek_at profile demo index heads.records heads.checkpoints number ≡ Ok last)) same (
+      subst (λ (played : Played). start_at profile index (heads_of profile demo).checkpoints number ≡ Ok played) from.there from.begins,
+      sought first written stays within profile demo index number last codec room is some (first.first profile demo number some),
     )

@@ -1,8 +1,7 @@
 -- A player plays one record after the other.
-use Rattle.std.proofs.Common.{◌≡◌, ℕ, ◌+◌, List, ◌++◌, length, drop, replicate, Option, Some, None, Result, Ok, Err, refl, sym, ap, ◌∙◌}
+use Rattle.std.proofs.Common.{◌≡◌, ℕ, ◌+◌, List, ◌++◌, length, drop, replicate, Option, Some, Result, Ok, sym, ap, ◌∙◌}
 use Rattle.std.proofs.lemmas.List.{drop_at, length-replicate}
-use Rattle.q3_bits.specs.ResultBind.{◌>>=◌, fault_as, bind_ok, bind_is, bind_assoc, map_err_ok}
-use Rattle.q3_io.specs.Told.{Told}
+use Rattle.q3_bits.specs.ResultBind.{fault_as, bind_ok, map_err_ok}
 use Rattle.q3_clstate.specs.State.{Application, apply_at}
 use Rattle.q3_clstate.specs.declared.applied.Applied.{Applied}
 use Rattle.q3_demo.specs.declared.error.DemoError.{DemoError}
@@ -11,7 +10,6 @@ use Rattle.q3_demo.specs.declared.record.Piece.{Piece}
 use Rattle.q3_demo.specs.declared.record.Piece.TheVariants.{End, Message}
 use Rattle.q3_demo.specs.Player.{PlayerState, PlaysOn}
 use Rattle.q3_demo.specs.Playing.{Played, Stepped, next_piece, message_of, played_on, play_piece, step}
-use Rattle.q3_demo.specs.Running.{HasFrom}
 
 -- bytes that stand at a place, of some demo
 demo_from : ℕ → List ℕ → List ℕ

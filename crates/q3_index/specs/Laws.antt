@@ -1,11 +1,11 @@
 -- Laws of indexes.
-use Rattle.std.specs.Prelude.{◌≡◌, ℕ, ◌<◌, ◌≤◌, List, length, Ok}
+use Rattle.std.specs.Prelude.{◌≡◌, ℕ, ◌*◌, ◌/◌, ◌<◌, ◌≤◌, List, length, Ok}
 use Rattle.q3_profile.specs.declared.profile.Profile.{Profile}
 use Rattle.q3_profile.specs.Profile.{IsCodec}
 use Rattle.q3_demo.specs.Playing.{Played, records_of, play_state}
-use Rattle.q3_index.specs.Text.{index_of}
+use Rattle.q3_index.specs.Text.{spacing, index_of}
 use Rattle.q3_index.specs.Opening.{Heads, open_at}
-use Rattle.q3_index.specs.Seeking.{seek_at}
+use Rattle.q3_index.specs.Seeking.{start_at, seek_at, behind}
 
 -- the index of a demo opens with it
 abbrev pub IndexOpens : Type 0
@@ -17,3 +17,10 @@ abbrev pub SeekingIsPlaying : Type 0
 SeekingIsPlaying = (profile : Profile) (demo index : List ℕ) (heads : Heads) (number : ℕ) → IsCodec profile → 512 ≤ profile.parse_ring → profile.mark < 18446744073709551616 → length demo < 18446744073709551616
     → index_of profile demo ≡ Ok index → open_at (length demo) profile.mark index ≡ Ok heads → number ≤ length (records_of profile demo)
     → (played : Played) × (play_state profile demo number ≡ Ok played) × (seek_at profile demo index heads.records heads.checkpoints number ≡ Ok played)
+
+-- a seek begins behind the last 256th record at or below so many, and goes on to behind so many
+abbrev pub SeekingGoesOn : Type 0
+SeekingGoesOn = (profile : Profile) (demo index : List ℕ) (heads : Heads) (number : ℕ) → IsCodec profile → 512 ≤ profile.parse_ring → profile.mark < 18446744073709551616 → length demo < 18446744073709551616
+    → index_of profile demo ≡ Ok index → open_at (length demo) profile.mark index ≡ Ok heads → number ≤ length (records_of profile demo)
+    → (start_at profile index heads.checkpoints number ≡ Ok (behind profile demo (spacing * (number / spacing))))
+    × (seek_at profile demo index heads.records heads.checkpoints number ≡ Ok (behind profile demo number))

@@ -1,12 +1,13 @@
 -- How an index is made, opened and sought in, over files.
-use Rattle.std.specs.Prelude.{◌≡◌, ◌≢◌, ℕ, ◌≤◌, ◌/◌, ⊤, List, [], ◌++◌, length, Option, Some, None, Result, Ok, Err}
+use Rattle.std.specs.Prelude.{◌≡◌, ◌≢◌, ℕ, ◌^◌, ◌<◌, ◌≤◌, ◌/◌, ⊤, List, [], ◌++◌, length, Option, Some, None, Result, Ok, Err}
 use Rattle.q3_io.specs.Faults.{Rose}
 use Rattle.q3_io.specs.Told.{Told, contents_at, name_of, with_contents}
 use Rattle.q3_profile.specs.declared.profile.Profile.{Profile}
+use Rattle.q3_profile.specs.Profile.{IsCodec}
 use Rattle.q3_clstate.specs.State.{AppliedState}
 use Rattle.q3_demo.specs.declared.error.DemoError.{DemoError}
 use Rattle.q3_demo.specs.declared.error.DemoError.TheVariants as demo
-use Rattle.q3_demo.specs.Playing.{Played, records_of, play_of}
+use Rattle.q3_demo.specs.Playing.{Played, records_of, play_state}
 use Rattle.q3_demo.specs.Running.{asked_of}
 use Rattle.q3_index.specs.declared.build.Built.{Built}
 use Rattle.q3_index.specs.declared.error.IndexError.{IndexError}
@@ -15,7 +16,7 @@ use Rattle.q3_index.specs.declared.error.SeekError.{SeekError}
 use Rattle.q3_index.specs.declared.error.SeekError.TheVariants as seeking
 use Rattle.q3_index.specs.declared.index.Checkpoint.{Checkpoint}
 use Rattle.q3_index.specs.Text.{spacing, index_text, index_of}
-use Rattle.q3_index.specs.Opening.{Heads}
+use Rattle.q3_index.specs.Opening.{Heads, open_at}
 use Rattle.q3_index.specs.Seeking.{seek_at}
 
 -- ---- making
@@ -94,3 +95,21 @@ Seeks profile index demo_bytes index_bytes number (Err e) = seek_at profile demo
 abbrev pub SeekCause : {T : Type 0} → ℕ → ℕ → Result T SeekError → Type 0
 SeekCause before now (Err seeking.ReadFault) = (before ≤ now) × Rose before now
 SeekCause before now other = now ≡ before
+
+-- these bytes are the index that is made of a demo, and it was opened with it
+pub record IsMade (profile : Profile) (index : IndexState) (demo_bytes index_bytes : List ℕ) : Type 0 where
+  pub codec : IsCodec profile
+  pub ring : 512 ≤ profile.parse_ring
+  pub mark : profile.mark < 2 ^ 64
+  pub long : length demo_bytes < 2 ^ 64
+  pub made : index_of profile demo_bytes ≡ Ok index_bytes
+  pub heads : Heads
+  pub opens : open_at (length demo_bytes) profile.mark index_bytes ≡ Ok heads
+  pub is : index ≡ opened index.demo index.index heads
+
+-- a seek answers what playing so many records leaves, or a read failed, or memory was wanted
+abbrev pub PlaysSo : Profile → List ℕ → ℕ → Result AppliedState SeekError → Type 0
+PlaysSo profile demo_bytes number (Ok state) = (played : Played) × (play_state profile demo_bytes number ≡ Ok played) × (state ≡ played.state)
+PlaysSo profile demo_bytes number (Err seeking.ReadFault) = ⊤
+PlaysSo profile demo_bytes number (Err seeking.NoMemory) = ⊤
+PlaysSo profile demo_bytes number (Err e) = ⊥

@@ -4,7 +4,7 @@ use Rattle.q3_bits.specs.ResultBind.{◌>>=◌, fault_as}
 use Rattle.q3_profile.specs.declared.profile.Profile.{Profile}
 use Rattle.q3_savestate.specs.State.{state_at}
 use Rattle.q3_clstate.specs.Saving.{applied_by}
-use Rattle.q3_demo.specs.Playing.{Played, unplayed, play_first}
+use Rattle.q3_demo.specs.Playing.{Played, unplayed, records_of, last_of, play_first}
 use Rattle.q3_index.specs.declared.index.Checkpoint.{Checkpoint}
 use Rattle.q3_index.specs.declared.error.SeekError.{SeekError}
 use Rattle.q3_index.specs.declared.error.SeekError.TheVariants.{NotIndex, PastEnd, Demo}
@@ -24,9 +24,21 @@ restored_if profile index records (Some checkpoint) = restored profile index rec
 abbrev pub greatest : List Checkpoint → ℕ → Option Checkpoint
 greatest checkpoints number = if nat_lt number spacing then None else slice_get checkpoints (number / spacing - 1)
 
+-- how far a demo was played where the greatest checkpoint leaves it
+abbrev pub start_at : Profile → List ℕ → List Checkpoint → ℕ → Result Played SeekError
+start_at profile index checkpoints number = restored_if profile index (spacing * (number / spacing)) (greatest checkpoints number)
+
 -- what so many records leave: those from there on are played
 unfoldable pub seek_at : Profile → List ℕ → List ℕ → ℕ → List Checkpoint → ℕ → Result Played SeekError
 seek_at profile demo index records checkpoints number =
     if nat_lt records number then Err (PastEnd records) else (do
-      start ← restored_if profile index (spacing * (number / spacing)) (greatest checkpoints number)
+      start ← start_at profile index checkpoints number
       fault_as Demo (play_first (number - start.records) demo start))
+
+-- how far a demo is played behind so many of its records
+abbrev pub behind : Profile → List ℕ → ℕ → Played
+behind profile demo count = last_of (unplayed profile) (take count (records_of profile demo))
+
+-- how many bytes its records have from behind the first so many to behind so many, one behind the other
+abbrev pub bytes_between : Profile → List ℕ → ℕ → ℕ → ℕ
+bytes_between profile demo first count = (behind profile demo count).at - (behind profile demo first).at

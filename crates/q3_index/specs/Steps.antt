@@ -1,5 +1,5 @@
 -- How an index is made, opened and sought in step by step.
-use Rattle.std.specs.Prelude.{◌≡◌, ◌≢◌, ◌⊎◌, ℕ, ◌+◌, ◌*◌, ◌/◌, ◌^◌, ◌<◌, ⊤, Bool, true, false, if◌then◌else◌, List, [], ◌∷◌, ◌++◌, length, take, drop, All, Option, Some, None, IsSome, Result, Ok, Err}
+use Rattle.std.specs.Prelude.{◌≡◌, ◌⊎◌, ℕ, ◌+◌, ◌*◌, ◌/◌, ◌^◌, ◌<◌, ⊤, Bool, true, false, if◌then◌else◌, List, [], ◌∷◌, ◌++◌, length, take, drop, All, Option, Some, None, IsSome, Result, Ok, Err}
 use Rattle.std.specs.List.{concat, flat_map}
 use Rattle.std.specs.Str.{bytes_eq}
 use Rattle.q3_bits.specs.ResultBind.{◌>>=◌, fault_as}
@@ -9,8 +9,7 @@ use Rattle.q3_entity.specs.Entities.{most_entities}
 use Rattle.q3_profile.specs.declared.profile.Profile.{Profile}
 use Rattle.q3_savestate.specs.Cursor.{Cursor, Field, field_at, number_at, end_at}
 use Rattle.q3_savestate.specs.State.{Saved, state_at}
-use Rattle.q3_clstate.specs.State.{AppliedState}
-use Rattle.q3_clstate.specs.Saving.{saved_in, IsWithin}
+use Rattle.q3_clstate.specs.Saving.{IsWithin}
 use Rattle.q3_demo.specs.Player.{PlayerState}
 use Rattle.q3_demo.specs.Steps.{Leads}
 use Rattle.q3_demo.specs.Playing.{Played, Stepped, step, go_on}

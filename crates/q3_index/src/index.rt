@@ -1,17 +1,18 @@
 //! Seeks in a demo by its index.
 
-ghost use Rattle.std.specs.Prelude.{◌≡◌, ◌+◌, ◌*◌, ◌-◌, ◌/◌, ◌<◌, ◌≤◌, Some, Err, IfOk, IfSome, OnOk};
+ghost use Rattle.std.specs.Prelude.{◌≡◌, ◌≢◌, ◌+◌, ◌*◌, ◌-◌, ◌/◌, ◌<◌, ◌≤◌, IsTrue, length, Some, Ok, Err, IfOk, IfSome, OnOk};
 ghost use Rattle.q3_io.specs.Told.{Told, contents_at};
 ghost use Rattle.q3_clstate.specs.Saving.{saved_in};
-ghost use Rattle.q3_demo.specs.Playing.{play_first};
-ghost use Rattle.q3_demo.specs.Running.{OnlyAsks};
+ghost use Rattle.q3_demo.specs.Playing.{Played, Stepped, records_of, step, play_first};
+ghost use Rattle.q3_demo.specs.Running.{OnlyAsks, AsksOf, asked_of};
 ghost use Rattle.q3_bits.specs.ResultBind.{fault_as};
 ghost use Rattle.q3_index.specs.Text.{spacing};
-ghost use Rattle.q3_index.specs.Seeking.{restored, restored_if, greatest};
-ghost use Rattle.q3_index.specs.Running.{Seeks, SeekCause};
+ghost use Rattle.q3_index.specs.Seeking.{restored, greatest, start_at, seek_at, bytes_between};
+ghost use Rattle.q3_index.specs.Running.{Seeks, SeekCause, IsMade, PlaysSo};
 ghost use Rattle.q3_index.specs.Steps.{Answers, IsPlaced, saved_at, played_by, play_one};
 
 use crate::error::SeekError;
+use crate::laws::{seeking_goes_on, seeking_is_playing};
 use q3_clstate::ClState;
 use q3_demo::{DemoError, Player, read_whole};
 use q3_io::Files;
@@ -65,13 +66,29 @@ impl Index {
     /// What so many records of the demo leave: the state of the greatest checkpoint at or below that is restored, or the beginning, and the
     /// records from there on are played. `Err` is `PastEnd` exactly where the index counts fewer, which is decided before anything is read;
     /// else `NotIndex` exactly where the state that is read is none; else `Demo` exactly where a record that is played is refused, or the demo
-    /// ends before so many.
-    pub fn seek<F: Files>(&self, profile: &Profile, files: &mut F, number: u32) -> Result<ClState, SeekError>
+    /// ends before so many. Of the demo no more bytes are asked for than the records have that are played, where every read gives all that it is
+    /// asked for. Of an index that was made of the demo they are those behind the last 256th record at or below so many.
+    pub fn seek<F: Files>(
+        &self,
+        profile: &Profile,
+        files: &mut F,
+        number: u32,
+    ) -> Result<ClState, SeekError>
         requires least { 512 ≤ profile.now.parse_ring }
         requires most { profile.now.parse_ring ≤ 65536 }
         requires demo { self.now.demo < F.given files.old }
         requires index { self.now.index < F.given files.old }
         ensures seeks { (told : Told) → F.told files.old ≡ Some told → Seeks profile.now self.now (contents_at told self.now.demo) (contents_at told self.now.index) number result }
+        ensures plays { (told : Told) → F.told files.old ≡ Some told → IsMade profile.now self.now (contents_at told self.now.demo) (contents_at told self.now.index)
+            → number ≤ length (records_of profile.now (contents_at told self.now.demo)) → PlaysSo profile.now (contents_at told self.now.demo) number result }
+        ensures cost { IsTrue F.reads_whole → self.now.demo ≢ self.now.index → (told : Told) → F.told files.old ≡ Some told → (start played : Played)
+            → start_at profile.now (contents_at told self.now.index) self.now.checkpoints number ≡ Ok start
+            → seek_at profile.now (contents_at told self.now.demo) (contents_at told self.now.index) self.now.records self.now.checkpoints number ≡ Ok played
+            → asked_of (F.told files.new) self.now.demo + start.at ≤ asked_of (F.told files.old) self.now.demo + played.at }
+        ensures cheap { IsTrue F.reads_whole → self.now.demo ≢ self.now.index → (told : Told) → F.told files.old ≡ Some told
+            → IsMade profile.now self.now (contents_at told self.now.demo) (contents_at told self.now.index) → number ≤ length (records_of profile.now (contents_at told self.now.demo))
+            → asked_of (F.told files.new) self.now.demo
+            ≤ asked_of (F.told files.old) self.now.demo + bytes_between profile.now (contents_at told self.now.demo) (spacing * (number / spacing)) number }
         ensures past { self.now.records < number → result ≡ Err (SeekError.PastEnd self.now.records) }
         ensures untouched { self.now.records < number → F.told files.new ≡ F.told files.old }
         ensures given { F.given files.new ≡ F.given files.old }
@@ -79,6 +96,8 @@ impl Index {
         ensures cause { SeekCause (F.faults files.old) (F.faults files.new) result }
         ensures others { F.write_faults files.new ≡ F.write_faults files.old }
     {
+        seeking_is_playing();
+        seeking_goes_on();
         if number > self.records {
             return Err(SeekError::PastEnd(self.records));
         }
@@ -89,22 +108,35 @@ impl Index {
 
     /// Where the greatest checkpoint at or below so many records leaves a demo, or its beginning.
     #[tactic(auto, using(crate::proofs::Asking::asks_same))]
-    fn start<F: Files>(&self, profile: &Profile, files: &mut F, number: u32) -> Result<Player, SeekError>
+    fn start<F: Files>(
+        &self,
+        profile: &Profile,
+        files: &mut F,
+        number: u32,
+    ) -> Result<Player, SeekError>
         requires least { 512 ≤ profile.now.parse_ring }
         requires most { profile.now.parse_ring ≤ 65536 }
         requires index { self.now.index < F.given files.old }
         ensures starts { (told : Told) → F.told files.old ≡ Some told
-            → Answers played_by (restored_if profile.now (contents_at told self.now.index) (spacing * (number / spacing)) (greatest self.now.checkpoints number)) result }
+            → Answers played_by (start_at profile.now (contents_at told self.now.index) self.now.checkpoints number) result }
         ensures few { IfOk result (λ player. player.played.records ≤ number) }
         ensures given { F.given files.new ≡ F.given files.old }
         ensures asks { OnlyAsks (F.told files.old) (F.told files.new) }
+        ensures only { AsksOf self.now.index (F.told files.old) (F.told files.new) }
         ensures cause { SeekCause (F.faults files.old) (F.faults files.new) result }
         ensures others { F.write_faults files.new ≡ F.write_faults files.old }
     {
         let alloc = *self.checkpoints.allocator();
         match self.greatest(number) {
             None => Ok(Player::new(alloc, profile)?),
-            Some(checkpoint) => restore(alloc, profile, files, self.index, checkpoint, number / SPACING * SPACING),
+            Some(checkpoint) => restore(
+                alloc,
+                profile,
+                files,
+                self.index,
+                checkpoint,
+                number / SPACING * SPACING,
+            ),
         }
     }
 
@@ -116,7 +148,9 @@ impl Index {
         if number < SPACING {
             return None;
         }
-        self.checkpoints.get((number / SPACING - 1) as usize).copied()
+        self.checkpoints
+            .get((number / SPACING - 1) as usize)
+            .copied()
     }
 }
 
@@ -137,6 +171,7 @@ fn restore<F: Files>(
     ensures records { IfOk result (λ player. player.played.records ≡ records) }
     ensures given { F.given files.new ≡ F.given files.old }
     ensures asks { OnlyAsks (F.told files.old) (F.told files.new) }
+    ensures only { AsksOf index (F.told files.old) (F.told files.new) }
     ensures cause { SeekCause (F.faults files.old) (F.faults files.new) result }
     ensures others { F.write_faults files.new ≡ F.write_faults files.old }
 {
@@ -161,6 +196,7 @@ fn read_state<F: Files>(
     ensures profile { IfOk result (λ state. state.profile ≡ profile.now) }
     ensures given { F.given files.new ≡ F.given files.old }
     ensures asks { OnlyAsks (F.told files.old) (F.told files.new) }
+    ensures only { AsksOf index (F.told files.old) (F.told files.new) }
     ensures cause { SeekCause (F.faults files.old) (F.faults files.new) result }
     ensures others { F.write_faults files.new ≡ F.write_faults files.old }
 {
@@ -172,18 +208,28 @@ fn read_state<F: Files>(
     match ClState::read_state(alloc, profile, &bytes[..count]) {
         Ok(state) => Ok(state),
         Err(StateError::NoMemory) => Err(SeekError::NoMemory),
-        Err(StateError::NotState(place)) => Err(SeekError::NotIndex(checkpoint.state + place as u64)),
+        Err(StateError::NotState(place)) => Err(SeekError::NotIndex(
+            checkpoint.state + place as u64,
+        )),
     }
 }
 
 /// Plays on up to so many records.
-fn go_on<F: Files>(player: &mut Player, files: &mut F, demo: usize, number: u32) -> Result<(), SeekError>
+fn go_on<F: Files>(
+    player: &mut Player,
+    files: &mut F,
+    demo: usize,
+    number: u32,
+) -> Result<(), SeekError>
     requires demo { demo < F.given files.old }
     requires few { player.old.played.records ≤ number }
     ensures goes { (told : Told) → F.told files.old ≡ Some told
         → Answers (λ _. player.new.played) (fault_as SeekError.Demo (play_first (number - player.old.played.records) (contents_at told demo) player.old.played)) result }
     ensures given { F.given files.new ≡ F.given files.old }
     ensures asks { OnlyAsks (F.told files.old) (F.told files.new) }
+    ensures cost { IsTrue F.reads_whole → (told : Told) → F.told files.old ≡ Some told → (last : Played)
+        → play_first (number - player.old.played.records) (contents_at told demo) player.old.played ≡ Ok last
+        → asked_of (F.told files.new) demo + player.old.played.at ≤ asked_of (F.told files.old) demo + last.at }
     ensures cause { SeekCause (F.faults files.old) (F.faults files.new) result }
     ensures others { F.write_faults files.new ≡ F.write_faults files.old }
 {
@@ -201,6 +247,8 @@ fn play_next<F: Files>(player: &mut Player, files: &mut F, demo: usize) -> Resul
     ensures records { OnOk result (player.new.played.records ≡ player.old.played.records + 1) }
     ensures given { F.given files.new ≡ F.given files.old }
     ensures asks { OnlyAsks (F.told files.old) (F.told files.new) }
+    ensures cost { IsTrue F.reads_whole → (told : Told) → F.told files.old ≡ Some told → (stepped : Stepped) → step (contents_at told demo) player.old.played ≡ Ok (Some stepped)
+        → asked_of (F.told files.new) demo + player.old.played.at ≤ asked_of (F.told files.old) demo + stepped.played.at }
     ensures cause { SeekCause (F.faults files.old) (F.faults files.new) result }
     ensures others { F.write_faults files.new ≡ F.write_faults files.old }
 {

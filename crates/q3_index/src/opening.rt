@@ -22,8 +22,10 @@ use std::cmp::min;
 /// What an index begins with.
 pub(crate) const MAGIC: &[u8] = b"Q3INDEX1";
 
-/// How many bytes its head has, and that of a checkpoint.
+/// How many bytes its head has.
 pub(crate) const HEAD_BYTES: usize = 32;
+
+/// How many bytes that of a checkpoint has.
 pub(crate) const CHECKPOINT_BYTES: usize = 16;
 
 /// The head of an index.
@@ -197,7 +199,13 @@ fn read_checkpoint<F: Files>(
 
 #[tactic(auto, unfolding(crate::specs::Steps::numbers_at))]
 /// The head of a checkpoint that bytes are, the first of which have this place.
-fn checkpoint_in(bytes: &[u8], at: u64, number: u32, least: Option<u64>, most: u64) -> Result<Checkpoint, usize>
+fn checkpoint_in(
+    bytes: &[u8],
+    at: u64,
+    number: u32,
+    least: Option<u64>,
+    most: u64,
+) -> Result<Checkpoint, usize>
     requires place { at + length bytes.now < 2 ^ 64 }
     ensures { result ≡ value_of (numbers_at number (least_of least) most (record { at = at; bytes = bytes.now })) }
 {
@@ -223,7 +231,13 @@ fn place_in(cursor: &mut Cursor, least: Option<u64>, most: u64) -> Result<u64, u
 }
 
 /// Reads bytes of an index from a place on, as many as there are up to its end, and answers how many came.
-fn read_some<F: Files>(files: &mut F, index: usize, end: u64, at: u64, into: &mut [u8]) -> Result<usize, IndexError>
+fn read_some<F: Files>(
+    files: &mut F,
+    index: usize,
+    end: u64,
+    at: u64,
+    into: &mut [u8],
+) -> Result<usize, IndexError>
     requires index { index < F.given files.old }
     ensures reads { (told : Told) → F.told files.old ≡ Some told → end ≡ length (contents_at told index)
         → IfOk result (λ count. take count into.new ≡ take (length into.old) (drop at (contents_at told index))) }

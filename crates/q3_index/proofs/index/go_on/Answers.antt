@@ -1,8 +1,9 @@
-use Rattle.std.proofs.Common.{ℕ, ◌-◌, Ok, Err, refl, sym, arith}
+use Rattle.std.proofs.Common.{◌-◌, refl, sym, arith}
 use Rattle.std.proofs.lemmas.Grind.{common_steps}
 use Rattle.std.proofs.lemmas.Result.{err_from_is_err_and}
 use Rattle.q3_index.proofs.Asking.{asks_same, asks_then}
 use Rattle.q3_index.proofs.Seeking.{goes_first, goes_more, goes_wrong, goes_all}
+use Rattle.q3_index.proofs.Costing.{costs_first, costs_more, costs_wrong, costs_all}
 use Rattle.q3_index.proofs.index.go_on.Goals as goal
 
 pub loop-init : goal.loop-init
@@ -11,6 +12,7 @@ loop-init g c = record {
   goes = rw c.records-counter.ensures (goes_first (g.F.Files.told c.args.files.now) c.args.demo (c.args.number - c.args.player.now.played.records) c.args.player.now.played);
   given = refl;
   asks = asks_same (g.F.Files.told c.args.files.now);
+  cost = costs_first g.F.Files.reads_whole (g.F.Files.told c.args.files.now) c.args.demo (c.args.number - c.args.player.now.played.records) c.args.player.now.played;
   reads = refl;
   others = refl;
 }
@@ -23,6 +25,11 @@ returns-in_err-play_next-clause-goes g c =
     c.loop.player.played c.play_next.new.player.played c.play_next.new.player.played c.in_err-play_next.field-0.0 c.loop.invariant.asks c.loop-test.true c.loop.invariant.goes
     c.in_err-play_next.ensures.plays)
 
+pub returns-in_err-play_next-clause-cost : goal.returns-in_err-play_next-clause-cost
+returns-in_err-play_next-clause-cost g c =
+    costs_wrong g.F.Files.reads_whole (g.F.Files.told c.args.files.now) (g.F.Files.told c.loop.files) (g.F.Files.told c.play_next.new.files) c.args.demo (c.args.number - c.args.player.now.played.records)
+    c.args.player.now.played c.args.number c.loop.counter c.loop.player.played c.loop.invariant.asks c.loop-test.true c.loop.invariant.goes c.in_err-play_next.ensures.cost c.loop.invariant.cost
+
 pub loop-preserved : goal.loop-preserved
 loop-preserved g c = record {
   records = omega (arith, c.in_ok-play_next.ensures.records, c.loop.invariant.records);
@@ -30,6 +37,9 @@ loop-preserved g c = record {
       c.loop.player.played c.play_next.new.player.played c.loop.invariant.asks c.loop-test.true c.loop.invariant.goes c.in_ok-play_next.ensures.plays;
   given = grind (arith, common_steps);
   asks = asks_then (g.F.Files.told c.args.files.now) (g.F.Files.told c.loop.files) (g.F.Files.told c.play_next.new.files) c.loop.invariant.asks c.in_ok-play_next.ensures.asks;
+  cost = costs_more g.F.Files.reads_whole (g.F.Files.told c.args.files.now) (g.F.Files.told c.loop.files) (g.F.Files.told c.play_next.new.files) c.args.demo (c.args.number - c.args.player.now.played.records)
+      c.args.player.now.played c.args.number c.loop.counter c.loop.player.played c.play_next.new.player.played c.loop.invariant.asks c.loop-test.true c.loop.invariant.goes c.in_ok-play_next.ensures.plays
+      c.in_ok-play_next.ensures.cost c.loop.invariant.cost;
   reads = grind (arith, common_steps);
   others = grind (arith, common_steps);
 }
@@ -38,3 +48,8 @@ pub returns-clause-goes : goal.returns-clause-goes
 returns-clause-goes g c =
     goes_all (g.F.Files.told c.args.files.now) c.args.demo (c.args.number - c.args.player.now.played.records) c.args.player.now.played (c.args.number - c.loop.counter) c.loop.player.played (omega arith)
     c.loop.invariant.goes
+
+pub returns-clause-cost : goal.returns-clause-cost
+returns-clause-cost g c =
+    costs_all g.F.Files.reads_whole (g.F.Files.told c.args.files.now) (g.F.Files.told c.loop.files) c.args.demo (c.args.number - c.args.player.now.played.records) c.args.player.now.played
+    (c.args.number - c.loop.counter) c.loop.player.played (omega arith) c.loop.invariant.goes c.loop.invariant.cost

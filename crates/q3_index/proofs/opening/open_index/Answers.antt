@@ -1,4 +1,4 @@
-use Rattle.std.proofs.Common.{◌≡◌, ◌≢◌, Vec, Global, Ok, Err, refl, inl, inr, arith}
+use Rattle.std.proofs.Common.{◌≢◌, Vec, Global, Ok, Err, refl, inl, inr, arith}
 use Rattle.std.specs.Prelude.{◌⊎◌}
 use Rattle.std.proofs.lemmas.Result.{err_from_is_err_and}
 use Rattle.q3_index.specs.declared.index.Checkpoint.{Checkpoint}

@@ -13,10 +13,10 @@ pub returns-then-saturating_sub-from-clause-reads : goal.returns-then-saturating
 returns-then-saturating_sub-from-clause-reads g c =
     let part : List ℕ = take c.in_ok-count.count c.read_some.new.into in
     λ told is whole. checkpoint_cut (contents_at told c.args.index) part c.args.number (least_of c.args.least) c.args.most c.args.at c.in-Ok.found (c.in_ok-count.ensures.reads told is whole) c.in-Ok.ensures
-        (omega arith)
+    (omega arith)
 
 pub returns-clause-reads : goal.returns-clause-reads
 returns-clause-reads g c =
     let part : List ℕ = take c.in_ok-count.count c.read_some.new.into in
     λ told is whole. checkpoint_whole (contents_at told c.args.index) part c.args.number (least_of c.args.least) c.args.most c.args.at c.in-Ok.found (c.in_ok-count.ensures.reads told is whole) c.in-Ok.ensures
-        (omega arith)
+    (omega arith)

@@ -1,11 +1,10 @@
-use Rattle.std.proofs.Common.{◌≡◌, ◌+◌, ◌*◌, Vec, Global, refl, rules, arith}
+use Rattle.std.proofs.Common.{◌+◌, ◌*◌, Vec, Global, refl, rules, arith}
 use Rattle.std.proofs.lemmas.Grind.{common_steps}
 use Rattle.std.proofs.lemmas.Result.{err_from_is_err_and}
 use Rattle.q3_io.specs.Told.{contents_at}
 use Rattle.q3_index.specs.declared.index.Checkpoint.{Checkpoint}
-use Rattle.q3_index.specs.Steps.{from_place, checkpoints_of, least_of}
+use Rattle.q3_index.specs.Steps.{least_of}
 use Rattle.q3_index.proofs.Asking.{asks_same, asks_then, only_same, only_then}
-use Rattle.q3_index.proofs.Seeking.{told_later}
 use Rattle.q3_index.proofs.Listing.{reads_found, reads_wrong, found_none, found_all, found_beyond}
 use Rattle.q3_index.proofs.opening.read_checkpoints.Goals as goal
 
@@ -54,9 +53,9 @@ loop-k-preserved g c = record {
 pub returns-then-at-end-clause-reads : goal.returns-then-at-end-clause-reads
 returns-then-at-end-clause-reads g c =
     λ told is whole. found_beyond (contents_at told c.args.index) c.args.head c.loop-k.k c.loop-k.checkpoints.items (least_of c.loop-k.least) c.loop-k.at (c.loop-k.invariant.reads told is whole) (omega arith)
-        (omega arith)
+    (omega arith)
 
 pub returns-clause-reads : goal.returns-clause-reads
 returns-clause-reads g c =
     λ told is whole. found_all (contents_at told c.args.index) c.args.head c.loop-k.k c.loop-k.checkpoints.items (least_of c.loop-k.least) c.loop-k.at (c.loop-k.invariant.reads told is whole) (omega arith)
-        (omega arith)
+    (omega arith)
