@@ -11,3 +11,7 @@ pub mod ShortStates
 pub mod Points
 pub mod HeadsBack
 pub mod Sought
+pub mod Putting
+pub mod Counting
+pub mod Writing
+pub mod Building

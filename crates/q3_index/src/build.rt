@@ -85,7 +85,7 @@ fn count_next<F: Files>(player: &mut Player, files: &mut F, demo: usize) -> Resu
     requires demo { demo < F.given files.old }
     ensures counts { (told : Told) → F.told files.old ≡ Some told → CountsNext (step_of_all (contents_at told demo) player.old.played) player.new.played result }
     ensures more { result ≡ Ok true → (player.new.played.records ≡ player.old.played.records + 1) × (player.old.played.records < most_records) }
-    ensures end { OnOk result (player.new.played.records ≤ player.old.played.records + 1) }
+    ensures end { result ≡ Ok false → player.new.played ≡ player.old.played }
     ensures given { F.given files.new ≡ F.given files.old }
     ensures asks { OnlyAsks (F.told files.old) (F.told files.new) }
     ensures cause { BuildCause (F.faults files.old) (F.faults files.new) result }
@@ -140,7 +140,7 @@ fn write_checkpoints<F: Files>(
     let mut bytes = Vec::new(alloc);
     for _ in 0..checkpoints * SPACING {
         if !write_next(&mut player, files, demo, index, &mut bytes)? {
-            return Ok(());
+            return Err(DemoError::Truncated(player.place()));
         }
     }
     Ok(())
