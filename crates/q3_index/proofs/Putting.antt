@@ -1,15 +1,18 @@
 -- Bytes are put behind those of the index.
-use Rattle.std.proofs.Common.{◌≡◌, ◌≢◌, ℕ, List, [], ◌∷◌, ◌++◌, Option, Some, None, Result, Ok, Err, IsSome, unwrap_or, true, false, refl, sym, ap, ap₂, subst, ◌∙◌, append_assoc, inl, inr, arith}
+use Rattle.std.proofs.Common.{◌≡◌, ◌≢◌, ℕ, List, [], ◌∷◌, ◌++◌, length, Option, Some, None, Result, Ok, Err, IsSome, unwrap_or, true, false, refl, sym, ap, ap₂, subst, ◌∙◌, append_assoc, inl, inr, arith}
 use Rattle.std.specs.Prelude.{if◌then◌else◌, slice_index_or}
 use Rattle.std.specs.Str.{bytes_eq}
 use Rattle.std.proofs.lemmas.Bool.{cases_Bool, cond_both}
 use Rattle.std.proofs.lemmas.List.{append-nil}
 use Rattle.std.proofs.lemmas.Slice.Eq.{bytes_eq-Decides}
 use Rattle.q3_io.specs.Told.{File, Told, contents_of, with_contents, name_of, contents_at}
+use Rattle.q3_profile.specs.declared.profile.Profile.{Profile}
 use Rattle.q3_demo.specs.declared.error.DemoError.{DemoError}
+use Rattle.q3_demo.specs.Playing.{Played}
 use Rattle.q3_demo.specs.Running.{OnlyAsks}
+use Rattle.q3_index.specs.Text.{checkpoint_bytes, state_of}
 use Rattle.q3_index.specs.Running.{Puts, LeavesIndex}
-use Rattle.q3_index.specs.Steps.{IsOutside, HasIndex, BreaksOff, Extends}
+use Rattle.q3_index.specs.Steps.{IsOutside, HasIndex, BreaksOff, Extends, numbers_bytes}
 
 -- ---- what the files of names hold
 
@@ -193,3 +196,20 @@ pub put_last : {X : Type 0} (told : Told) (mid now : Option Told) (index : ℕ) 
     → ((t : Told) → mid ≡ Some t → Extends t now index bytes result) → Extends told now index all result
 put_last told mid now index bytes all (Ok x) has extends = put_all told now index all (put_more told mid now index bytes [] all has extends)
 put_last told mid now index bytes all (Err e) has extends = put_stops told mid now index bytes [] all e has extends
+
+-- ---- a checkpoint
+
+-- what stands in front of its state, and the state
+pub point_is : (profile : Profile) (played : Played) (records place size : ℕ) (state : List ℕ) → records ≡ played.records → place ≡ played.at → size ≡ length state → state ≡ state_of profile played
+    → numbers_bytes records place size ++ (state ++ []) ≡ checkpoint_bytes profile played
+point_is profile played records place size state records_is place_is size_is state_is =
+    ap (λ n. numbers_bytes n place size ++ (state ++ [])) records_is ∙ ap (λ n. numbers_bytes played.records n size ++ (state ++ [])) place_is
+    ∙ ap (λ n. numbers_bytes played.records played.at n ++ (state ++ [])) size_is ∙ ap (λ (xs : List ℕ). numbers_bytes played.records played.at (length xs) ++ (xs ++ [])) state_is
+
+pub point_breaks : (told : Told) (now : Option Told) (index : ℕ) (numbers state all : List ℕ) (e : DemoError) → numbers ++ (state ++ []) ≡ all → BreaksOff told now index numbers e → BreaksOff told now index all e
+point_breaks told now index numbers state all e same off = subst (λ (bytes : List ℕ). BreaksOff told now index bytes e) same (first_stops told now index numbers (state ++ []) e off)
+
+pub point_put : {X : Type 0} (told : Told) (mid now : Option Told) (index : ℕ) (numbers state all : List ℕ) (result : Result X DemoError) → numbers ++ (state ++ []) ≡ all
+    → LeavesIndex told mid index (contents_at told index ++ numbers) → ((t : Told) → mid ≡ Some t → Extends t now index state result) → Extends told now index all result
+point_put told mid now index numbers state all result same put extends =
+    put_last told mid now index state all result (record { done = numbers; joined = same; leaves = put }) extends
