@@ -1,6 +1,6 @@
 -- All records of a demo are played, and counted.
 use Rattle.std.proofs.Common.{◌≡◌, ◌≢◌, ℕ, zero, suc, ◌+◌, ◌-◌, ◌<◌, ◌≤◌, Bool, true, false, List, [], ◌∷◌, ◌++◌, length, drop, replicate, Option, Some, None, Result, Ok, Err, refl, sym, ap, subst, ◌∙◌, lt-ltb, le-ltb, inl, inr, arith}
-use Rattle.std.specs.Prelude.{◌⊎◌, nat_lt}
+use Rattle.std.specs.Prelude.{◌⊎◌, nat_lt, is_some}
 use Rattle.std.proofs.lemmas.Bool.{cases_Bool, ltb-true, ltb-false}
 use Rattle.std.proofs.lemmas.List.{drop_at, length-replicate}
 use Rattle.q3_io.specs.Faults.{Rose}
@@ -122,6 +122,16 @@ pub stays_at_end : (bytes : List ℕ) (was now : PlayerState) → PlaysAllSo byt
 stays_at_end bytes was now plays =
     let on = plays (bytes_at was.played.at bytes) (bytes_there was.played.at bytes) in
     ap (λ (p : PlayerState). p.played) on.1
+
+-- by whether there was one
+pub some_of_all_rises : (bytes : List ℕ) (was now : PlayerState) (answer : Option Applied) → PlaysAllSo bytes was now (Ok answer) → is_some answer ≡ true
+    → (now.played.records ≡ was.played.records + 1) × (was.played.records < most_records)
+some_of_all_rises bytes was now None plays some = absurd cc
+some_of_all_rises bytes was now (Some answer) plays some = rises_of_all bytes was now answer plays
+
+pub none_of_all_stays : (bytes : List ℕ) (was now : PlayerState) (answer : Option Applied) → PlaysAllSo bytes was now (Ok answer) → is_some answer ≡ false → now.played ≡ was.played
+none_of_all_stays bytes was now None plays none = stays_at_end bytes was now plays
+none_of_all_stays bytes was now (Some answer) plays none = absurd cc
 
 -- a cause of a player's is one of an index's
 pub cause_of : (before now : ℕ) (e : DemoError) → ReadCause {T = Option Applied} before now (Err e) → BuildCause {T = Bool} before now (Err e)

@@ -1,6 +1,6 @@
 -- A demo is played again, and what every 256th of its records left is put behind the index.
 use Rattle.std.proofs.Common.{◌≡◌, ◌≢◌, ℕ, zero, suc, ◌+◌, ◌-◌, ◌*◌, ◌/◌, ◌%◌, ◌^◌, ◌<◌, ◌≤◌, Bool, true, false, List, [], ◌∷◌, ◌++◌, length, drop, take, Option, Some, None, Result, Ok, Err, refl, sym, ap, subst, ◌∙◌, inl, inr, arith}
-use Rattle.std.specs.Prelude.{◌⊎◌, All, IfSome}
+use Rattle.std.specs.Prelude.{◌⊎◌, All, IfSome, is_some}
 use Rattle.std.specs.List.{flat_map}
 use Rattle.std.proofs.lemmas.Bool.{cond_both, eq-eqb, ne_eqb, eqb-true, eqb-false}
 use Rattle.std.proofs.lemmas.List.{append-nil}
@@ -33,8 +33,8 @@ use Rattle.q3_index.proofs.Seeking.{told_later}
 use Rattle.q3_index.proofs.Standing.{Follow, follow_from, message_leaves}
 use Rattle.q3_index.proofs.Stepping.{one_more}
 use Rattle.q3_index.proofs.Points.{passed, kept, none_before}
-use Rattle.q3_index.proofs.Putting.{HasPut, ThenLeaves, ThenBreaks, put_none, put_asks, put_same, put_has, put_more, put_stops, put_ends, put_all, put_last, index_holds, others_hold, names_stay}
-use Rattle.q3_index.proofs.Counting.{GoesSo, goes_first, goes_more, records_more, leads_step, bytes_at, bytes_there}
+use Rattle.q3_index.proofs.Putting.{HasPut, put_none, put_asks, put_same, put_has, put_more_at, put_stops_at, put_ends, put_all, put_last, others_hold}
+use Rattle.q3_index.proofs.Counting.{GoesSo, goes_first, goes_more, records_more, next_is, leads_step, bytes_at, bytes_there}
 
 -- ---- how old it is what a state holds
 
@@ -65,6 +65,12 @@ rises within bytes was now answer applied aged plays =
     let demo : List ℕ = bytes_at was.played.at bytes in
     let on = plays demo (bytes_there was.played.at bytes) in
     subst (λ (p : PlayerState). Rises was.played p.played) (sym on.2) (next_rises within demo was.played on.0 applied aged on.1)
+
+-- by whether there was one
+pub some_rises : WithinStays → (bytes : List ℕ) (was now : PlayerState) (answer : Option Applied) → IsApplied was.played.state → IsAged was.played → PlaysSo bytes was now (Ok answer) → is_some answer ≡ true
+    → Rises was.played now.played
+some_rises within bytes was now None applied aged plays some = absurd cc
+some_rises within bytes was now (Some answer) applied aged plays some = rises within bytes was now answer applied aged plays
 
 -- where as many records were played as may be, 32 bits hold the ages
 younger : (most : ℕ) (place : Option HeldSnapshot) → most < 2 ^ 32 → IfSome place (λ held. held.age ≤ most) → IfSome place (λ held. held.age < 2 ^ 32)

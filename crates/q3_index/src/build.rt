@@ -1,6 +1,6 @@
 //! Makes the index of a demo. The demo is read twice, since the head counts its records.
 
-ghost use Rattle.std.specs.Prelude.{◌≡◌, ◌≢◌, ◌+◌, ◌*◌, ◌/◌, ◌<◌, ◌≤◌, [], length, true, Ok, Some, None, IfOk, IfErr, OnOk};
+ghost use Rattle.std.specs.Prelude.{◌≡◌, ◌≢◌, ◌+◌, ◌*◌, ◌/◌, ◌<◌, ◌≤◌, [], length, true, false, Ok, Some, None, IfOk, IfErr, OnOk};
 ghost use Rattle.q3_io.specs.Told.{Told, contents_at, contents_of, name_of};
 ghost use Rattle.q3_clstate.specs.Standing.{IsApplied};
 ghost use Rattle.q3_savestate.specs.Lending.{HasAges};
