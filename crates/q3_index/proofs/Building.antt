@@ -2,7 +2,7 @@
 use Rattle.std.proofs.Common.{◌≡◌, ◌≢◌, ℕ, ◌/◌, List, [], ◌++◌, length, Option, Some, None, Result, Ok, Err, IsSome, unwrap_or, refl, sym, ap, subst, ◌∙◌}
 use Rattle.std.proofs.lemmas.List.{append-nil}
 use Rattle.q3_bits.specs.ResultBind.{◌>>=◌}
-use Rattle.q3_io.specs.Told.{Told, contents_of, contents_at, name_of}
+use Rattle.q3_io.specs.Told.{Told, Measures, contents_of, contents_at, name_of}
 use Rattle.q3_profile.specs.declared.profile.Profile.{Profile}
 use Rattle.q3_demo.specs.declared.error.DemoError.{DemoError}
 use Rattle.q3_demo.specs.declared.error.DemoError.TheVariants.{ReadFault, Truncated, BadLength, BadNumber, Message as NoMessage, NoMemory, WriteFault}
@@ -31,6 +31,10 @@ still_empty told before now index is empty asks =
     let has : HasIndex told index = subst (λ (found : Option (List ℕ)). IsSome found) (sym empty) refl in
     leaves_asked told (Some told) now index [] (subst (λ (bytes : List ℕ). LeavesIndex told (Some told) index bytes) (holds_none told index empty) (none_put told index has))
     (subst (λ (was : Option Told). OnlyAsks was now) is asks)
+
+-- the demo's size, and that the files are told as before
+pub size_is : (before now : Option Told) (demo size : ℕ) → Measures before now demo (Ok size) → (told : Told) → before ≡ Some told → (now ≡ Some told) × (size ≡ length (contents_at told demo))
+size_is before now demo size measures told is = subst (λ (was : Option Told). Measures was now demo (Ok size)) is measures
 
 none_begun : (profile : Profile) (told : Told) (demo index : ℕ) (now : Option Told) → LeavesIndex told now index [] → BeginsIndex profile told demo index now
 none_begun profile told demo index now leaves = ([], index_text profile (contents_at told demo), refl, leaves)

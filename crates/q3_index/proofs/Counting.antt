@@ -133,16 +133,6 @@ pub none_of_all_stays : (bytes : List ℕ) (was now : PlayerState) (answer : Opt
 none_of_all_stays bytes was now None plays none = stays_at_end bytes was now plays
 none_of_all_stays bytes was now (Some answer) plays none = absurd cc
 
--- a cause of a player's is one of an index's
-pub cause_of : (before now : ℕ) (e : DemoError) → ReadCause {T = Option Applied} before now (Err e) → BuildCause {T = Bool} before now (Err e)
-cause_of before now ReadFault cause = cause
-cause_of before now (Truncated at) cause = cause
-cause_of before now (BadLength at) cause = cause
-cause_of before now (BadNumber at) cause = cause
-cause_of before now (NoMessage at why) cause = cause
-cause_of before now NoMemory cause = cause
-cause_of before now WriteFault cause = cause
-
 -- ---- as far as a demo was played
 
 -- what is left of it ends as all of it, and has the records that are missing

@@ -15,3 +15,4 @@ pub mod Putting
 pub mod Counting
 pub mod Writing
 pub mod Building
+pub mod Causes
