@@ -10,7 +10,7 @@ use Rattle.q3_demo.specs.Playing.{records_of, play_of}
 use Rattle.q3_demo.specs.Running.{OnlyAsks}
 use Rattle.q3_index.specs.declared.build.Built.{Built}
 use Rattle.q3_index.specs.Text.{spacing, head_bytes, index_text, index_of}
-use Rattle.q3_index.specs.Running.{Puts, LeavesIndex, BeginsIndex, Builds}
+use Rattle.q3_index.specs.Running.{LeavesIndex, BeginsIndex, Builds}
 use Rattle.q3_index.specs.Steps.{IsOutside, HasIndex, BreaksOff, Extends, Counts, checkpoints_bytes}
 use Rattle.q3_index.proofs.Putting.{HasPut, ThenBreaks, ThenLeaves, none_put, leaves_asked, put_more, put_more_at, put_stops, put_stops_at, put_same, put_all, index_holds, others_hold, names_stay}
 

@@ -1,5 +1,5 @@
 -- Why the making of an index ends early: what the counts of files tell, behind calls that left them.
-use Rattle.std.proofs.Common.{◌≡◌, ℕ, ◌≤◌, Result, Err, subst, ◌∙◌}
+use Rattle.std.proofs.Common.{◌≡◌, ℕ, ◌≤◌, Err, subst, ◌∙◌}
 use Rattle.q3_io.specs.Faults.{Rose}
 use Rattle.q3_demo.specs.declared.error.DemoError.{DemoError}
 use Rattle.q3_demo.specs.declared.error.DemoError.TheVariants.{ReadFault, Truncated, BadLength, BadNumber, Message as NoMessage, NoMemory, WriteFault}

@@ -3,7 +3,6 @@ use Rattle.std.proofs.Common.{◌≡◌, ◌≢◌, ℕ, zero, suc, ◌+◌, ◌
 use Rattle.std.specs.Prelude.{◌⊎◌, nat_lt, is_some}
 use Rattle.std.proofs.lemmas.Bool.{cases_Bool, ltb-true, ltb-false}
 use Rattle.std.proofs.lemmas.List.{drop_at, length-replicate}
-use Rattle.q3_io.specs.Faults.{Rose}
 use Rattle.q3_io.specs.Told.{Told, contents_at}
 use Rattle.q3_profile.specs.declared.profile.Profile.{Profile}
 use Rattle.q3_clstate.specs.declared.applied.Applied.{Applied}
@@ -12,11 +11,10 @@ use Rattle.q3_demo.specs.declared.error.DemoError.TheVariants.{ReadFault, Trunca
 use Rattle.q3_demo.specs.declared.record.Piece.{Piece}
 use Rattle.q3_demo.specs.declared.record.Piece.TheVariants.{End, Message}
 use Rattle.q3_demo.specs.Player.{PlayerState, PlaysOn, at_most_end, step_of_all}
-use Rattle.q3_demo.specs.Playing.{Played, Stepped, Play, unplayed, next_piece, step, most_records, at_most, play_step, play_from, play_of, next_records, records_from, records_of}
-use Rattle.q3_demo.specs.Running.{HasFrom, OnlyAsks, ReadCause}
+use Rattle.q3_demo.specs.Playing.{Played, Stepped, unplayed, next_piece, step, most_records, at_most, play_step, play_from, play_of, next_records, records_from, records_of}
+use Rattle.q3_demo.specs.Running.{OnlyAsks}
 use Rattle.q3_demo.specs.Steps.{Leads}
 use Rattle.q3_demo.proofs.Taking.{PlaysSo, refuses_quietly}
-use Rattle.q3_index.specs.Running.{BuildCause}
 use Rattle.q3_index.specs.Steps.{Counts, CountsNext}
 use Rattle.q3_index.proofs.Stepping.{one_more}
 use Rattle.q3_index.proofs.Seeking.{told_later}
@@ -46,7 +44,7 @@ few_or_many count = elim (cases_Bool (nat_lt count most_records)) [
   | inr not ↦ inr (ltb-false count most_records not)
 ]
 
-pub some_of_all : (demo : List ℕ) (now : Played) (stepped : Stepped) → step_of_all demo now ≡ Ok (Some stepped) → (now.records < most_records) × (step demo now ≡ Ok (Some stepped))
+some_of_all : (demo : List ℕ) (now : Played) (stepped : Stepped) → step_of_all demo now ≡ Ok (Some stepped) → (now.records < most_records) × (step demo now ≡ Ok (Some stepped))
 some_of_all demo now stepped is = elim (few_or_many now.records) [
   | inl few ↦ (few, sym (all_is demo now few) ∙ is)
   | inr many ↦ absurd (none_last now (next_piece demo now) stepped (sym (last_is demo now many) ∙ is))
@@ -78,8 +76,8 @@ isnt_quiet bytes was now plays =
 pub isnt_write : (bytes : List ℕ) (was now : PlayerState) (e : DemoError) → PlaysSo bytes was now (Err e) → e ≢ WriteFault
 isnt_write bytes was now e plays is = isnt_quiet bytes was now (subst (λ (d : DemoError). PlaysSo bytes was now (Err d)) is plays)
 
-isnt_write_all_quiet : (bytes : List ℕ) (was now : PlayerState) → PlaysAllSo bytes was now (Err WriteFault) → ⊥
-isnt_write_all_quiet bytes was now plays = elim (few_or_many was.played.records) [
+isnt_quiet_all : (bytes : List ℕ) (was now : PlayerState) → PlaysAllSo bytes was now (Err WriteFault) → ⊥
+isnt_quiet_all bytes was now plays = elim (few_or_many was.played.records) [
   | inl few ↦ isnt_quiet bytes was now (λ demo there. sym (all_is demo was.played few) ∙ plays demo there)
   | inr many ↦
       let demo : List ℕ = bytes_at was.played.at bytes in
@@ -87,30 +85,10 @@ isnt_write_all_quiet bytes was now plays = elim (few_or_many was.played.records)
 ]
 
 pub isnt_write_all : (bytes : List ℕ) (was now : PlayerState) (e : DemoError) → PlaysAllSo bytes was now (Err e) → e ≢ WriteFault
-isnt_write_all bytes was now e plays is = isnt_write_all_quiet bytes was now (subst (λ (d : DemoError). PlaysAllSo bytes was now (Err d)) is plays)
-
--- its answer, by the step
-pub counts_err : (next : Result (Option Stepped) DemoError) (was now : PlayerState) (e : DemoError) → PlaysOn next was now (Err e) → CountsNext next now.played (Err e)
-counts_err next was now ReadFault plays = tt
-counts_err next was now (Truncated at) plays = plays
-counts_err next was now (BadLength at) plays = plays
-counts_err next was now (BadNumber at) plays = plays
-counts_err next was now (NoMessage at cause) plays = plays
-counts_err next was now NoMemory plays = plays
-counts_err next was now WriteFault plays = plays
-
-leads_so : (next : Result (Option Stepped) DemoError) (stepped : Stepped) (now : Played) → next ≡ Ok (Some stepped) → stepped.played ≡ now → Leads next now
-leads_so next stepped now is leads = subst (λ (r : Result (Option Stepped) DemoError). Leads r now) (sym is) leads
-
-pub counts_some : (next : Result (Option Stepped) DemoError) (was now : PlayerState) (answer : Applied) → PlaysOn next was now (Ok (Some answer)) → CountsNext next now.played (Ok true)
-counts_some next was now answer plays = leads_so next plays.0 now.played plays.1 (sym (ap (λ (p : PlayerState). p.played) plays.2))
-
--- where the files are told, the bytes are those of the demo
-pub there_so : (told : Option Told) (demo at : ℕ) (bytes : List ℕ) (t : Told) → told ≡ Some t → HasFrom told demo at bytes → drop at (contents_at t demo) ≡ bytes
-there_so told demo at bytes t is has = sym (subst (λ (o : Option Told). HasFrom o demo at bytes) is has)
+isnt_write_all bytes was now e plays is = isnt_quiet_all bytes was now (subst (λ (d : DemoError). PlaysAllSo bytes was now (Err d)) is plays)
 
 -- whatever is told of files
-pub rises_of_all : (bytes : List ℕ) (was now : PlayerState) (answer : Applied) → PlaysAllSo bytes was now (Ok (Some answer))
+rises_of_all : (bytes : List ℕ) (was now : PlayerState) (answer : Applied) → PlaysAllSo bytes was now (Ok (Some answer))
     → (now.played.records ≡ was.played.records + 1) × (was.played.records < most_records)
 rises_of_all bytes was now answer plays =
     let demo : List ℕ = bytes_at was.played.at bytes in
@@ -118,7 +96,7 @@ rises_of_all bytes was now answer plays =
     let some = some_of_all demo was.played on.0 on.1 in
     (ap (λ (p : PlayerState). p.played.records) on.2 ∙ one_more demo was.played on.0 some.1, some.0)
 
-pub stays_at_end : (bytes : List ℕ) (was now : PlayerState) → PlaysAllSo bytes was now (Ok None) → now.played ≡ was.played
+stays_at_end : (bytes : List ℕ) (was now : PlayerState) → PlaysAllSo bytes was now (Ok None) → now.played ≡ was.played
 stays_at_end bytes was now plays =
     let on = plays (bytes_at was.played.at bytes) (bytes_there was.played.at bytes) in
     ap (λ (p : PlayerState). p.played) on.1

@@ -1,6 +1,6 @@
 -- A demo is played again, and what every 256th of its records left is put behind the index.
-use Rattle.std.proofs.Common.{◌≡◌, ◌≢◌, ℕ, zero, suc, ◌+◌, ◌-◌, ◌*◌, ◌/◌, ◌%◌, ◌^◌, ◌<◌, ◌≤◌, Bool, true, false, List, [], ◌∷◌, ◌++◌, length, drop, take, Option, Some, None, Result, Ok, Err, refl, sym, ap, subst, ◌∙◌, inl, inr, arith}
-use Rattle.std.specs.Prelude.{◌⊎◌, All, IfSome, is_some}
+use Rattle.std.proofs.Common.{◌≡◌, ◌≢◌, ℕ, suc, ◌+◌, ◌-◌, ◌*◌, ◌/◌, ◌%◌, ◌^◌, ◌<◌, ◌≤◌, Bool, true, false, List, [], ◌∷◌, ◌++◌, length, drop, Option, Some, None, Result, Ok, Err, refl, sym, ap, subst, ◌∙◌, inl, inr, arith}
+use Rattle.std.specs.Prelude.{All, IfSome, is_some}
 use Rattle.std.specs.List.{flat_map}
 use Rattle.std.proofs.lemmas.Bool.{cond_both, eq-eqb, ne_eqb, eqb-true, eqb-false}
 use Rattle.std.proofs.lemmas.List.{append-nil}
@@ -13,13 +13,13 @@ use Rattle.q3_svmsg.specs.declared.error.Illegible.{Illegible}
 use Rattle.q3_rings.specs.Rings.{HeldSnapshot}
 use Rattle.q3_savestate.specs.Lending.{HasAges}
 use Rattle.q3_clstate.specs.declared.applied.Applied.{Applied}
-use Rattle.q3_clstate.specs.State.{AppliedState, Application, apply_at, state_behind}
+use Rattle.q3_clstate.specs.State.{Application, apply_at, state_behind}
 use Rattle.q3_clstate.specs.Standing.{IsApplied}
 use Rattle.q3_clstate.specs.Saving.{IsWithin}
 use Rattle.q3_clstate.specs.Laws.{WithinStays}
 use Rattle.q3_demo.specs.declared.error.DemoError.{DemoError}
 use Rattle.q3_demo.specs.declared.error.DemoError.TheVariants.{ReadFault, Truncated, BadLength, BadNumber, Message as NoMessage, NoMemory, WriteFault}
-use Rattle.q3_demo.specs.Player.{PlayerState, PlaysOn}
+use Rattle.q3_demo.specs.Player.{PlayerState}
 use Rattle.q3_demo.specs.Playing.{Played, Stepped, unplayed, message_of, step, most_records, records_from, records_of}
 use Rattle.q3_demo.specs.Running.{OnlyAsks}
 use Rattle.q3_demo.specs.Steps.{Leads}
@@ -28,9 +28,9 @@ use Rattle.q3_demo.proofs.Going.{was_played}
 use Rattle.q3_demo.proofs.Taking.{PlaysSo}
 use Rattle.q3_index.specs.Text.{spacing, checkpoint_bytes, is_checkpoint, checkpoints}
 use Rattle.q3_index.specs.Running.{LeavesIndex}
-use Rattle.q3_index.specs.Steps.{IsAged, IsOutside, HasIndex, BreaksOff, Extends, CountsNext, WritesNext, step_bytes, checkpoints_bytes}
+use Rattle.q3_index.specs.Steps.{IsAged, HasIndex, BreaksOff, Extends, CountsNext, WritesNext, step_bytes, checkpoints_bytes}
 use Rattle.q3_index.proofs.Seeking.{told_later}
-use Rattle.q3_index.proofs.Standing.{Follow, follow_from, message_leaves}
+use Rattle.q3_index.proofs.Standing.{follow_from, message_leaves}
 use Rattle.q3_index.proofs.Stepping.{one_more}
 use Rattle.q3_index.proofs.Points.{passed, kept, none_before}
 use Rattle.q3_index.proofs.Putting.{HasPut, put_none, put_asks, put_same, put_has, put_more_at, put_stops_at, put_ends, put_all, put_last, others_hold}
@@ -146,7 +146,7 @@ point_put before mid after demo index profile was now result asks plays by here 
     let mid_put : HasPut told mid index (point ++ []) point = put_same told mid index point (point ++ []) point (waits told before mid index point is has asks) (sym (append-nil point)) in
     let so : (t : Told) → mid ≡ Some t → Extends t after index point result =
     λ t mid_is. subst (λ (p : Profile). Extends t after index (checkpoint_bytes p now) result) by
-        (puts t mid_is (put_has told t index (point ++ []) point (subst (λ (o : Option Told). HasPut told o index (point ++ []) point) mid_is mid_put))) in
+    (puts t mid_is (put_has told t index (point ++ []) point (subst (λ (o : Option Told). HasPut told o index (point ++ []) point) mid_is mid_put))) in
     subst (λ (bytes : List ℕ). Extends told after index bytes result) same (put_last told mid after index point point result mid_put so)
 
 pub writes_point : (before mid after : Option Told) (demo index : ℕ) (profile : Profile) (was now : Played) → OnlyAsks before mid → PlaysAs before demo was now (Ok true)

@@ -1,4 +1,4 @@
-use Rattle.std.proofs.Common.{◌≡◌, ◌/◌, ℕ, Option, Ok, Err, refl, ◌∙◌, arith}
+use Rattle.std.proofs.Common.{◌/◌, ℕ, Option, Ok, Err, refl, ◌∙◌, arith}
 use Rattle.std.proofs.lemmas.Result.{err_from_is_err_and}
 use Rattle.q3_io.specs.Told.{Told}
 use Rattle.q3_demo.specs.Running.{OnlyAsks}
@@ -14,7 +14,7 @@ returns-in_default-clause-builds g c =
     let before : Option Told = g.F.Files.told c.args.files.now in
     let sized : Option Told = g.F.Files.told c.size.new.self in
     λ told is. size_fails c.args.profile.now told c.args.demo c.args.index sized
-        (still_empty told before sized c.args.index is (c.requires.other told is).1 (size_asks before sized c.args.demo (Err c.in_default.field-0) c.in_default.ensures.told))
+    (still_empty told before sized c.args.index is (c.requires.other told is).1 (size_asks before sized c.args.demo (Err c.in_default.field-0) c.in_default.ensures.told))
 
 pub returns-in_err-records-clause-builds : goal.returns-in_err-records-clause-builds
 returns-in_err-records-clause-builds g c =
@@ -25,7 +25,7 @@ returns-in_err-records-clause-builds g c =
     let asks : OnlyAsks before counted = asks_then before sized counted (size_asks before sized c.args.demo (Ok c.in-Ok.length) c.in-Ok.ensures.told) c.in_err-records.ensures.asks in
     rw (p.1, p.2)
     (λ told is. count_fails c.args.profile.now told c.args.demo c.args.index counted c.in_err-records.field-0.0 (still_empty told before counted c.args.index is (c.requires.other told is).1 asks)
-        (c.in_err-records.ensures.counts told (size_is before sized c.args.demo c.in-Ok.length c.in-Ok.ensures.told told is).0))
+    (c.in_err-records.ensures.counts told (size_is before sized c.args.demo c.in-Ok.length c.in-Ok.ensures.told told is).0))
 
 pub returns-in_err-records-clause-cause : goal.returns-in_err-records-clause-cause
 returns-in_err-records-clause-cause g c =
@@ -43,10 +43,10 @@ returns-in_err-write_head-clause-builds g c =
     let asks : OnlyAsks before counted = asks_then before sized counted (size_asks before sized c.args.demo (Ok c.in-Ok.length) c.in-Ok.ensures.told) c.in_ok-records.ensures.asks in
     rw (p.1, p.2)
     (λ told is.
-        let size = size_is before sized c.args.demo c.in-Ok.length c.in-Ok.ensures.told told is in
-        let counts = c.in_ok-records.ensures.counts told size.0 in
-        head_fails c.args.profile.now told c.args.demo c.args.index counted (g.F.Files.told c.write_head.new.files) c.in-Ok.length c.in_ok-records.records c.in_err-write_head.field-0.0
-        (c.requires.other told is).1 (still_empty told before counted c.args.index is (c.requires.other told is).1 asks) (size.1, counts.1) c.in_err-write_head.ensures.writes)
+    let size = size_is before sized c.args.demo c.in-Ok.length c.in-Ok.ensures.told told is in
+    let counts = c.in_ok-records.ensures.counts told size.0 in
+    head_fails c.args.profile.now told c.args.demo c.args.index counted (g.F.Files.told c.write_head.new.files) c.in-Ok.length c.in_ok-records.records c.in_err-write_head.field-0.0
+    (c.requires.other told is).1 (still_empty told before counted c.args.index is (c.requires.other told is).1 asks) (size.1, counts.1) c.in_err-write_head.ensures.writes)
 
 pub write_checkpoints-requires-clause-few : goal.write_checkpoints-requires-clause-few
 write_checkpoints-requires-clause-few g c = omega (arith, c.in_ok-records.ensures.few)
@@ -60,11 +60,11 @@ returns-in_err-write_checkpoints-clause-builds g c =
     let asks : OnlyAsks before counted = asks_then before sized counted (size_asks before sized c.args.demo (Ok c.in-Ok.length) c.in-Ok.ensures.told) c.in_ok-records.ensures.asks in
     rw (p.1, p.2)
     (λ told is.
-        let size = size_is before sized c.args.demo c.in-Ok.length c.in-Ok.ensures.told told is in
-        let counts = c.in_ok-records.ensures.counts told size.0 in
-        points_fail c.args.profile.now told c.args.demo c.args.index counted (g.F.Files.told c.write_head.new.files) (g.F.Files.told c.write_checkpoints.new.files) c.in-Ok.length c.in_ok-records.records
-        c.in_err-write_checkpoints.field-0.0 (c.requires.other told is).1 (c.requires.other told is).0 (still_empty told before counted c.args.index is (c.requires.other told is).1 asks)
-        (size.1, counts.1) c.in_ok-write_head.ensures.writes c.in_err-write_checkpoints.ensures.writes)
+    let size = size_is before sized c.args.demo c.in-Ok.length c.in-Ok.ensures.told told is in
+    let counts = c.in_ok-records.ensures.counts told size.0 in
+    points_fail c.args.profile.now told c.args.demo c.args.index counted (g.F.Files.told c.write_head.new.files) (g.F.Files.told c.write_checkpoints.new.files) c.in-Ok.length c.in_ok-records.records
+    c.in_err-write_checkpoints.field-0.0 (c.requires.other told is).1 (c.requires.other told is).0 (still_empty told before counted c.args.index is (c.requires.other told is).1 asks)
+    (size.1, counts.1) c.in_ok-write_head.ensures.writes c.in_err-write_checkpoints.ensures.writes)
 
 pub returns-in_err-write_checkpoints-clause-cause : goal.returns-in_err-write_checkpoints-clause-cause
 returns-in_err-write_checkpoints-clause-cause g c =
@@ -88,8 +88,8 @@ returns-clause-builds g c =
     let built : Built = record { records = c.in_ok-records.records; checkpoints = c.in_ok-records.records / spacing } in
     let asks : OnlyAsks before counted = asks_then before sized counted (size_asks before sized c.args.demo (Ok c.in-Ok.length) c.in-Ok.ensures.told) c.in_ok-records.ensures.asks in
     λ told is.
-        let size = size_is before sized c.args.demo c.in-Ok.length c.in-Ok.ensures.told told is in
-        let counts = c.in_ok-records.ensures.counts told size.0 in
-        it_is_made c.args.profile.now told c.args.demo c.args.index counted (g.F.Files.told c.write_head.new.files) (g.F.Files.told c.write_checkpoints.new.files) c.in-Ok.length built
-        (c.requires.other told is).1 (c.requires.other told is).0 (still_empty told before counted c.args.index is (c.requires.other told is).1 asks) (size.1, counts.1) refl counts.0
-        c.in_ok-write_head.ensures.writes c.in_ok-write_checkpoints.ensures.writes
+    let size = size_is before sized c.args.demo c.in-Ok.length c.in-Ok.ensures.told told is in
+    let counts = c.in_ok-records.ensures.counts told size.0 in
+    it_is_made c.args.profile.now told c.args.demo c.args.index counted (g.F.Files.told c.write_head.new.files) (g.F.Files.told c.write_checkpoints.new.files) c.in-Ok.length built
+    (c.requires.other told is).1 (c.requires.other told is).0 (still_empty told before counted c.args.index is (c.requires.other told is).1 asks) (size.1, counts.1) refl counts.0
+    c.in_ok-write_head.ensures.writes c.in_ok-write_checkpoints.ensures.writes

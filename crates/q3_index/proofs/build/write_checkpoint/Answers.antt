@@ -1,4 +1,4 @@
-use Rattle.std.proofs.Common.{◌≡◌, List, ℕ, [], ◌++◌, length, ap₂, ◌∙◌, arith}
+use Rattle.std.proofs.Common.{◌≡◌, List, ℕ, [], ◌++◌, ap₂, ◌∙◌}
 use Rattle.std.proofs.lemmas.Result.{err_from_is_err_and}
 use Rattle.q3_savestate.specs.State.{state_bytes}
 use Rattle.q3_clstate.specs.State.{AppliedState}
@@ -29,7 +29,7 @@ returns-in_err-write_numbers-clause-writes g c =
     point_is profile played c.records.result c.place.result c.len.result c.write_state.new.into.items c.records.ensures c.place.ensures (c.len.ensures ∙ c.write_state.new.into.ok.0) state in
     rw (p.1, p.2)
     (λ told is has. point_breaks told (g.F.Files.told c.write_numbers.new.files) c.args.index (numbers_bytes c.records.result c.place.result c.len.result) c.write_state.new.into.items
-        (checkpoint_bytes profile played) c.in_err-write_numbers.field-0.0 same (c.in_err-write_numbers.ensures.writes told is))
+    (checkpoint_bytes profile played) c.in_err-write_numbers.field-0.0 same (c.in_err-write_numbers.ensures.writes told is))
 
 pub returns-clause-writes : goal.returns-clause-writes
 returns-clause-writes g c =
@@ -41,4 +41,4 @@ returns-clause-writes g c =
     point_is profile played c.records.result c.place.result c.len.result c.write_state.new.into.items c.records.ensures c.place.ensures (c.len.ensures ∙ c.write_state.new.into.ok.0) state in
     let last = rw c.deref.ensures.value at c.append.ensures.writes in
     λ told is has. point_put told (g.F.Files.told c.write_numbers.new.files) (g.F.Files.told c.append.new.files) c.args.index (numbers_bytes c.records.result c.place.result c.len.result)
-        c.write_state.new.into.items (checkpoint_bytes profile played) c.append.result same (c.in_ok-write_numbers.ensures.writes told is) last
+    c.write_state.new.into.items (checkpoint_bytes profile played) c.append.result same (c.in_ok-write_numbers.ensures.writes told is) last

@@ -1,4 +1,4 @@
-use Rattle.std.proofs.Common.{◌≡◌, ◌*◌, ◌<◌, List, ℕ, length, Bool, true, false, Ok, Err, refl, sym, ap, subst, ◌∙◌, arith}
+use Rattle.std.proofs.Common.{◌≡◌, ◌*◌, ◌<◌, List, ℕ, length, Bool, true, false, refl, sym, ap, subst, ◌∙◌, arith}
 use Rattle.std.proofs.lemmas.Grind.{common_steps}
 use Rattle.std.proofs.lemmas.Result.{err_from_is_err_and}
 use Rattle.q3_io.specs.Told.{contents_at}
@@ -17,8 +17,8 @@ returns-in_err-player-clause-writes g c =
     let p = err_from_is_err_and c.from_residual.result c.from_residual.ensures.1 in
     rw (p.1, p.2)
     (λ told is has apart count.
-        let all : List ℕ = checkpoints_bytes c.args.profile.now (records_of c.args.profile.now (contents_at told c.args.demo)) in
-        put_ends told (g.F.Files.told c.args.files.now) c.args.index all all NoMemory (put_none told (g.F.Files.told c.args.files.now) c.args.index all is has) tt)
+    let all : List ℕ = checkpoints_bytes c.args.profile.now (records_of c.args.profile.now (contents_at told c.args.demo)) in
+    put_ends told (g.F.Files.told c.args.files.now) c.args.index all all NoMemory (put_none told (g.F.Files.told c.args.files.now) c.args.index all is has) tt)
 
 pub loop-init : goal.loop-init
 loop-init g c =
@@ -39,10 +39,10 @@ returns-in_err-write_next-clause-writes g c =
     let p = err_from_is_err_and c.from_residual-in_err-write_next.result c.from_residual-in_err-write_next.ensures.1 in
     rw (p.1, p.2)
     (λ told is has apart count.
-        let few : c.loop.player.played.records < most_records = omega (arith, c.loop.invariant.records) in
-        let more : c.loop.player.played.records < length (records_of c.args.profile.now (contents_at told c.args.demo)) = omega (arith, c.loop.invariant.records, count) in
-        writing_stops told (g.F.Files.told c.loop.files) (g.F.Files.told c.write_next.new.files) c.args.demo c.args.index c.args.profile.now c.loop.player.played c.write_next.new.player.played
-        c.in_err-write_next.field-0.0 (c.loop.invariant.writes told is has apart) few more apart c.loop.invariant.by c.in_err-write_next.ensures.writes)
+    let few : c.loop.player.played.records < most_records = omega (arith, c.loop.invariant.records) in
+    let more : c.loop.player.played.records < length (records_of c.args.profile.now (contents_at told c.args.demo)) = omega (arith, c.loop.invariant.records, count) in
+    writing_stops told (g.F.Files.told c.loop.files) (g.F.Files.told c.write_next.new.files) c.args.demo c.args.index c.args.profile.now c.loop.player.played c.write_next.new.player.played
+    c.in_err-write_next.field-0.0 (c.loop.invariant.writes told is has apart) few more apart c.loop.invariant.by c.in_err-write_next.ensures.writes)
 
 pub returns-in_err-write_next-clause-cause : goal.returns-in_err-write_next-clause-cause
 returns-in_err-write_next-clause-cause g c =
@@ -63,10 +63,10 @@ returns-then-not-branch-clause-writes g c =
     let no : c.in_ok-write_next.field-0 ≡ false = c.if-not-branch.true in
     let writes = rw no at c.in_ok-write_next.ensures.writes in
     λ told is has apart count.
-        let few : c.loop.player.played.records < most_records = omega (arith, c.loop.invariant.records) in
-        let more : c.loop.player.played.records < length (records_of c.args.profile.now (contents_at told c.args.demo)) = omega (arith, c.loop.invariant.records, count) in
-        absurd (never_ends told (g.F.Files.told c.loop.files) (g.F.Files.told c.write_next.new.files) c.args.demo c.args.index c.args.profile.now c.loop.player.played c.write_next.new.player.played
-        (c.loop.invariant.writes told is has apart) few more apart c.loop.invariant.by writes)
+    let few : c.loop.player.played.records < most_records = omega (arith, c.loop.invariant.records) in
+    let more : c.loop.player.played.records < length (records_of c.args.profile.now (contents_at told c.args.demo)) = omega (arith, c.loop.invariant.records, count) in
+    absurd (never_ends told (g.F.Files.told c.loop.files) (g.F.Files.told c.write_next.new.files) c.args.demo c.args.index c.args.profile.now c.loop.player.played c.write_next.new.player.played
+    (c.loop.invariant.writes told is has apart) few more apart c.loop.invariant.by writes)
 
 pub loop-preserved : goal.loop-preserved
 loop-preserved g c =
@@ -92,5 +92,5 @@ loop-preserved g c =
 pub returns-clause-writes : goal.returns-clause-writes
 returns-clause-writes g c =
     λ told is has apart count.
-        let here : c.loop.player.played.records ≡ c.args.checkpoints * spacing = omega (arith, c.loop.invariant.records) in
-        writing_all told (g.F.Files.told c.loop.files) c.args.demo c.args.index c.args.checkpoints c.args.profile.now c.loop.player.played (c.loop.invariant.writes told is has apart) here count
+    let here : c.loop.player.played.records ≡ c.args.checkpoints * spacing = omega (arith, c.loop.invariant.records) in
+    writing_all told (g.F.Files.told c.loop.files) c.args.demo c.args.index c.args.checkpoints c.args.profile.now c.loop.player.played (c.loop.invariant.writes told is has apart) here count

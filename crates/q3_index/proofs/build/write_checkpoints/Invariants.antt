@@ -1,6 +1,5 @@
-use Rattle.std.proofs.Common.{◌≡◌, ◌≢◌, ◌≤◌, Some, None}
+use Rattle.std.proofs.Common.{◌≡◌, ◌≢◌, Some, None}
 use Rattle.q3_io.specs.Told.{Told, name_of}
-use Rattle.q3_demo.specs.Running.{OnlyAsks}
 use Rattle.q3_index.specs.Steps.{HasIndex, IsAged}
 use Rattle.q3_index.proofs.Writing.{GoesWriting}
 use Rattle.q3_index.proofs.build.write_checkpoints.Given as goal

@@ -1,7 +1,7 @@
-use Rattle.std.proofs.Common.{◌≡◌, ◌+◌, ◌%◌, Bool, true, Ok, refl, subst, arith}
+use Rattle.std.proofs.Common.{◌≡◌, ◌%◌, true, refl, arith}
 use Rattle.std.proofs.lemmas.Result.{err_from_is_err_and}
 use Rattle.q3_index.specs.Text.{spacing}
-use Rattle.q3_index.proofs.Writing.{PlaysAs, has_ages, writes_wrong, writes_point, breaks_point, writes_none}
+use Rattle.q3_index.proofs.Writing.{has_ages, writes_wrong, writes_point, breaks_point, writes_none}
 use Rattle.q3_index.proofs.build.write_next.Goals as goal
 
 pub returns-in_err-play_next-clause-writes : goal.returns-in_err-play_next-clause-writes
