@@ -12,3 +12,8 @@ pub mod Points
 pub mod HeadsBack
 pub mod Sought
 pub mod Costing
+pub mod Putting
+pub mod Counting
+pub mod Writing
+pub mod Building
+pub mod Causes

@@ -21,15 +21,15 @@ counts : (demo : List ℕ) (played : Played) (stepped : Stepped) → step demo p
 counts demo played stepped is = sym (ap (λ (s : Stepped). s.played.records) (was_played demo played stepped is).stepped_is)
 
 -- a record that isn't a 256th is passed over
-passed : (records : List Stepped) (stepped : Stepped) → (stepped.played.records % 256 ≡ 0 → ⊥) → checkpoints (stepped ∷ records) ≡ checkpoints records
+pub passed : (records : List Stepped) (stepped : Stepped) → (stepped.played.records % 256 ≡ 0 → ⊥) → checkpoints (stepped ∷ records) ≡ checkpoints records
 passed records stepped other = rw (ne_eqb (stepped.played.records % 256) 0 other) refl
 
 -- and one that is, is kept
-kept : (records : List Stepped) (stepped : Stepped) → stepped.played.records % 256 ≡ 0 → checkpoints (stepped ∷ records) ≡ stepped.played ∷ checkpoints records
+pub kept : (records : List Stepped) (stepped : Stepped) → stepped.played.records % 256 ≡ 0 → checkpoints (stepped ∷ records) ≡ stepped.played ∷ checkpoints records
 kept records stepped is = rw (eq-eqb (stepped.played.records % 256) 0 is) refl
 
 -- there is none before the next 256th
-none_before : (gap : ℕ) (demo : List ℕ) (played : Played) (records : List Stepped) → Follow demo played records → (played.records + gap + 1) % 256 ≡ 0 → gap < 256 → length records ≤ gap
+pub none_before : (gap : ℕ) (demo : List ℕ) (played : Played) (records : List Stepped) → Follow demo played records → (played.records + gap + 1) % 256 ≡ 0 → gap < 256 → length records ≤ gap
     → checkpoints records ≡ []
 none_before gap demo played [] follow next short few = refl
 none_before zero demo played (stepped ∷ records) follow next short few = absurd (omega arith)

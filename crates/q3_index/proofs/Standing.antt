@@ -56,7 +56,7 @@ section_leaves state number (Skipped base) =
     (λ (applied : Application). (applied.state.profile ≡ state.profile) × (applied.state.number ≡ number)) (λ e. (refl, refl)) (λ e. (refl, refl))
 
 -- and so does a message
-message_leaves : (state : AppliedState) (number : ℕ) (message : List ℕ) (applied : Application) → apply_at state number message ≡ Ok applied
+pub message_leaves : (state : AppliedState) (number : ℕ) (message : List ℕ) (applied : Application) → apply_at state number message ≡ Ok applied
     → (applied.state.profile ≡ state.profile) × (applied.state.number ≡ number)
 message_leaves state number message applied is =
     let read = bind_ok (message_at state.profile (context_of state.held state.lines) number (bits_of message)) (λ (read : Message). Ok (apply_read state number read)) applied is in

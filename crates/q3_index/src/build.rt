@@ -1,6 +1,6 @@
 //! Makes the index of a demo. The demo is read twice, since the head counts its records.
 
-ghost use Rattle.std.specs.Prelude.{◌≡◌, ◌≢◌, ◌+◌, ◌*◌, ◌/◌, ◌<◌, ◌≤◌, [], length, true, Ok, Some, None, IfOk, IfErr, OnOk};
+ghost use Rattle.std.specs.Prelude.{◌≡◌, ◌≢◌, ◌+◌, ◌*◌, ◌/◌, ◌<◌, ◌≤◌, [], length, true, false, Ok, Some, None, IfOk, IfErr};
 ghost use Rattle.q3_io.specs.Told.{Told, contents_at, contents_of, name_of};
 ghost use Rattle.q3_clstate.specs.Standing.{IsApplied};
 ghost use Rattle.q3_savestate.specs.Lending.{HasAges};
@@ -62,7 +62,12 @@ pub fn build_index<F: Files>(
 }
 
 /// Plays all records of a demo, and counts them.
-fn count_records<F: Files>(alloc: Global, profile: &Profile, files: &mut F, demo: usize) -> Result<u32, DemoError>
+fn count_records<F: Files>(
+    alloc: Global,
+    profile: &Profile,
+    files: &mut F,
+    demo: usize,
+) -> Result<u32, DemoError>
     requires least { 512 ≤ profile.now.parse_ring }
     requires most { profile.now.parse_ring ≤ 65536 }
     requires demo { demo < F.given files.old }
@@ -85,7 +90,7 @@ fn count_next<F: Files>(player: &mut Player, files: &mut F, demo: usize) -> Resu
     requires demo { demo < F.given files.old }
     ensures counts { (told : Told) → F.told files.old ≡ Some told → CountsNext (step_of_all (contents_at told demo) player.old.played) player.new.played result }
     ensures more { result ≡ Ok true → (player.new.played.records ≡ player.old.played.records + 1) × (player.old.played.records < most_records) }
-    ensures end { OnOk result (player.new.played.records ≤ player.old.played.records + 1) }
+    ensures end { result ≡ Ok false → player.new.played ≡ player.old.played }
     ensures given { F.given files.new ≡ F.given files.old }
     ensures asks { OnlyAsks (F.told files.old) (F.told files.new) }
     ensures cause { BuildCause (F.faults files.old) (F.faults files.new) result }
@@ -96,7 +101,13 @@ fn count_next<F: Files>(player: &mut Player, files: &mut F, demo: usize) -> Resu
 }
 
 /// Writes the head of an index.
-fn write_head<F: Files>(length: u64, mark: u64, built: Built, files: &mut F, index: usize) -> Result<(), DemoError>
+fn write_head<F: Files>(
+    length: u64,
+    mark: u64,
+    built: Built,
+    files: &mut F,
+    index: usize,
+) -> Result<(), DemoError>
     requires index { index < F.given files.old }
     requires checkpoints { built.checkpoints ≡ built.records / spacing }
     ensures writes { (told : Told) → F.told files.old ≡ Some told → Extends told (F.told files.new) index (head_bytes length mark built.records) result }
@@ -113,7 +124,8 @@ fn write_head<F: Files>(length: u64, mark: u64, built: Built, files: &mut F, ind
     append(files, index, &built.checkpoints.to_le_bytes())
 }
 
-/// Plays the records up to the last of so many checkpoints again, and writes what every 256th left.
+/// Plays the records up to the last of so many checkpoints again, and writes what every 256th left. A demo that ends before, as it may only
+/// where nothing is told of the files, is refused there, so that no index counts more records than were played.
 fn write_checkpoints<F: Files>(
     alloc: Global,
     profile: &Profile,
@@ -140,7 +152,7 @@ fn write_checkpoints<F: Files>(
     let mut bytes = Vec::new(alloc);
     for _ in 0..checkpoints * SPACING {
         if !write_next(&mut player, files, demo, index, &mut bytes)? {
-            return Ok(());
+            return Err(DemoError::Truncated(player.place()));
         }
     }
     Ok(())
@@ -203,7 +215,12 @@ fn stands(state: &ClState)
 }
 
 /// Writes a checkpoint: how many records, the place of the next one, and what they left, behind its length. The bytes are a place for it.
-fn write_checkpoint<F: Files>(player: &Player, files: &mut F, index: usize, bytes: &mut Vec<u8>) -> Result<(), DemoError>
+fn write_checkpoint<F: Files>(
+    player: &Player,
+    files: &mut F,
+    index: usize,
+    bytes: &mut Vec<u8>,
+) -> Result<(), DemoError>
     requires index { index < F.given files.old }
     requires ages { HasAges player.now.played.state.held }
     ensures writes { (told : Told) → F.told files.old ≡ Some told → HasIndex told index
@@ -221,7 +238,13 @@ fn write_checkpoint<F: Files>(player: &Player, files: &mut F, index: usize, byte
 }
 
 /// Writes what stands in front of a checkpoint's state. Its length has four bytes.
-fn write_numbers<F: Files>(records: u32, place: u64, length: usize, files: &mut F, index: usize) -> Result<(), DemoError>
+fn write_numbers<F: Files>(
+    records: u32,
+    place: u64,
+    length: usize,
+    files: &mut F,
+    index: usize,
+) -> Result<(), DemoError>
     requires index { index < F.given files.old }
     ensures writes { (told : Told) → F.told files.old ≡ Some told → Extends told (F.told files.new) index (numbers_bytes records place length) result }
     ensures untold { F.told files.old ≡ None → F.told files.new ≡ None }
