@@ -1,5 +1,6 @@
 -- What the input of a run decides: what is printed, and how the run ends.
-use Rattle.std.specs.Prelude.{◌≡◌, ℕ, Bool, true, false, List, [], ◌∷◌, ◌++◌, map, Option, Some, None, Result, Ok, Err, ok_or}
+use Rattle.std.specs.Prelude.{◌≡◌, ℕ, ◌/◌, Bool, true, false, List, [], ◌∷◌, ◌++◌, length, map, codes, decimal, Option, Some, None, Result, Ok, Err, ok_or}
+use Rattle.std.specs.List.{concat}
 use Rattle.std.specs.Result.{result_map_both}
 use Rattle.std.specs.Global.{Vec}
 use Rattle.q3_profile.specs.declared.profile.Profile.{Profile as ProfileValue}
@@ -10,7 +11,7 @@ use Rattle.q3_script.specs.declared.cause.ScriptKind.{ScriptKind}
 use Rattle.q3_script.specs.declared.cause.ScriptKind.TheVariants as kinds
 use Rattle.q3_script.specs.Script.{BadLine, script_at}
 use Rattle.q3_io.specs.declared.address.Address.{Address}
-use Rattle.q3_io.specs.Acts.{FileAct}
+use Rattle.q3_io.specs.Acts.{FileAct, Makes, Extends}
 use Rattle.q3_io.specs.Told.{Told, Named}
 use Rattle.q3_io.specs.Traffic.{Parcel, Traffic}
 use Rattle.q3_server.specs.Server.{places, new_server}
@@ -19,6 +20,11 @@ use Rattle.q3_node.specs.AtServer.{server_rules}
 use Rattle.q3_node.specs.AtClient.{ClientEnd, client_of, client_rules}
 use Rattle.q3_node.specs.Running.{ToRead, ToArrive}
 use Rattle.q3_demo.specs.Playing as demos
+use Rattle.q3_demo.specs.Report.{state_text}
+use Rattle.q3_demo.specs.declared.error.DemoError.{DemoError}
+use Rattle.q3_index.specs.Text as indexes
+use Rattle.q3_index.specs.Opening.{open_at}
+use Rattle.q3_index.specs.Seeking.{seek_at}
 use Rattle.q3_make.specs.Printed.{script_text}
 use Rattle.q3_make.specs.Generated.{generated}
 use Rattle.q3_world.specs.World.{opening, answers}
@@ -27,8 +33,8 @@ use Rattle.q3_world.specs.Files.{acts_from}
 use Rattle.q3_world.specs.Report.{report}
 use Rattle.q3_world.specs.Counts.{counts_of}
 use Rattle.q3net.specs.declared.command.Draws.{Draws}
-use Rattle.q3net.specs.Command.{Command, Help, Version, Replay, Make, Trial, Serve, Join, Play}
-use Rattle.q3net.specs.Faults.{Gets, demo_fault}
+use Rattle.q3net.specs.Command.{Command, Help, Version, Replay, Make, Trial, Serve, Join, Play, Index, Seek}
+use Rattle.q3net.specs.Faults.{Gets, demo_fault, build_fault, index_fault, seek_fault}
 use Rattle.q3net.specs.Input.{Holds, looked_up, created}
 use Rattle.q3net.specs.Lines.{help_text, version_text}
 use Rattle.q3net.specs.Summary.{summary_text}
@@ -69,6 +75,13 @@ takes_memory = record stops_nowhere { memory = Anywhere }
 
 abbrev pub reads_first : Stops
 reads_first = record takes_memory { reads = First }
+
+-- and what has all its input and all its memory before its first line, which it may want early; and what also makes a file by then
+abbrev pub all_first : Stops
+all_first = record { memory = First; reads = First; writes = Nowhere; wire = Nowhere }
+
+abbrev pub makes_first : Stops
+makes_first = record all_first { writes = First }
 
 -- and what has all its memory before its first line, and goes on reading
 abbrev pub goes_on_reading : Stops
@@ -198,6 +211,62 @@ abbrev pub demo_played : List (List ℕ) → Result demos.Play Fault → Verdict
 demo_played names (Ok play) = printing goes_on_reading names (demos.play_text play) (result_map_both (λ x. x) demo_fault play.ending)
 demo_played names (Err cause) = printing reads_first names [] (Err cause)
 
+-- a demo, and by which profile it is played: that in one file by the profile in another
+pub record Demo : Type 0 where
+  pub by : ProfileValue
+  pub bytes : List ℕ
+
+abbrev pub demo_in : Option (List ℕ) → Option (List ℕ) → Result Demo Fault
+demo_in profile demo = do
+  by ← profile_in profile
+  bytes ← ok_or demo Read
+  Ok (record { by = by; bytes = bytes })
+
+-- its index, or why it has none
+abbrev pub index_of : Demo → Result (List ℕ) DemoError
+index_of demo = indexes.index_of demo.by demo.bytes
+
+-- its file is made, empty, and then has it, if there is one
+abbrev pub index_acts : List ℕ → Result (List ℕ) DemoError → List FileAct
+index_acts name (Ok index) = Makes name ∷ Extends name index ∷ []
+index_acts name (Err e) = Makes name ∷ []
+
+-- what making it tells: how many records and checkpoints it counts
+abbrev pub indexed_text : ℕ → List ℕ
+indexed_text records =
+    concat (codes "indexed " ∷ decimal records ∷ codes " records " ∷ decimal (records / indexes.spacing) ∷ codes " checkpoints\n" ∷ [])
+
+abbrev pub indexed : Demo → Result (List ℕ) Fault
+indexed demo = result_map_both (λ (index : List ℕ). indexed_text (length (demos.records_of demo.by demo.bytes))) build_fault (index_of demo)
+
+-- of none, by a cause
+abbrev pub demo_indexed : List (List ℕ) → List ℕ → Result Demo Fault → Verdict
+demo_indexed names name (Ok demo) =
+    record (settled makes_first names (indexed demo)) {
+      named = map looked_up names ++ created (index_acts name (index_of demo));
+      acts = index_acts name (index_of demo);
+    }
+demo_indexed names name (Err cause) = printing reads_first names [] (Err cause)
+
+-- what so many records of a demo leave, by the bytes of an index
+abbrev pub sought_in : Demo → List ℕ → ℕ → Result demos.Played Fault
+sought_in demo index number = do
+  heads ← result_map_both (λ heads. heads) index_fault (open_at (length demo.bytes) demo.by.mark index)
+  result_map_both (λ played. played) seek_fault (seek_at demo.by demo.bytes index heads.records heads.checkpoints number)
+
+-- and what seeking prints, by the profile in one file, the demo in another, and the index in a third
+abbrev pub sought : Option (List ℕ) → Option (List ℕ) → Option (List ℕ) → ℕ → Result (List ℕ) Fault
+sought profile demo index number = do
+  demo ← demo_in profile demo
+  bytes ← ok_or index Read
+  played ← sought_in demo bytes number
+  Ok (state_text played.state number)
+
+-- the names that it gives: the others only where the profile passed
+abbrev pub names_behind : Result ProfileValue Fault → List ℕ → List (List ℕ) → List (List ℕ)
+names_behind (Ok by) profile others = profile ∷ others
+names_behind (Err cause) profile others = profile ∷ []
+
 -- what is told of the outside: of the files, of the wire, and of the clock
 pub record Outside : Type 0 where
   pub files : Option Told
@@ -233,6 +302,13 @@ IsVerdict told (Some (Join profile script at server)) verdict =
 IsVerdict told (Some (Play profile demo)) verdict =
     (of_profile : Option (List ℕ)) × (of_demo : Option (List ℕ)) × Holds told.files profile of_profile × Holds told.files demo of_demo
     × (verdict ≡ demo_played (names_by (profile_in of_profile) profile demo) (played of_profile of_demo))
+IsVerdict told (Some (Index profile demo index)) verdict =
+    (of_profile : Option (List ℕ)) × (of_demo : Option (List ℕ)) × Holds told.files profile of_profile × Holds told.files demo of_demo
+    × (verdict ≡ demo_indexed (names_by (profile_in of_profile) profile demo) index (demo_in of_profile of_demo))
+IsVerdict told (Some (Seek profile demo index records)) verdict =
+    (of_profile : Option (List ℕ)) × (of_demo : Option (List ℕ)) × (of_index : Option (List ℕ)) × Holds told.files profile of_profile × Holds told.files demo of_demo
+    × Holds told.files index of_index
+    × (verdict ≡ settled all_first (names_behind (profile_in of_profile) profile (demo ∷ index ∷ [])) (sought of_profile of_demo of_index records))
 
 -- what a part of a run answers by the file of a name
 abbrev pub GetsFrom : {A : Type 0} → (Option (List ℕ) → Result A Fault) → Option Told → List ℕ → Result A Fault → Type 0
