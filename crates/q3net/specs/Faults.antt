@@ -12,9 +12,13 @@ use Rattle.q3_node.specs.declared.error.NodeError.{NodeError}
 use Rattle.q3_node.specs.declared.error.NodeError.TheVariants as node
 use Rattle.q3_demo.specs.declared.error.DemoError.{DemoError}
 use Rattle.q3_demo.specs.declared.error.DemoError.TheVariants as demo
+use Rattle.q3_index.specs.declared.error.IndexError.{IndexError}
+use Rattle.q3_index.specs.declared.error.IndexError.TheVariants as opening
+use Rattle.q3_index.specs.declared.error.SeekError.{SeekError}
+use Rattle.q3_index.specs.declared.error.SeekError.TheVariants as seeking
 use Rattle.q3_io.specs.Faults.{Rose}
 use Rattle.q3net.specs.declared.fault.Fault.{Fault}
-use Rattle.q3net.specs.declared.fault.Fault.TheVariants.{NoMemory, Usage, Read, Write, FileWrite, Profile, Script, Wire, Turns, Demo}
+use Rattle.q3net.specs.declared.fault.Fault.TheVariants.{NoMemory, Usage, Read, Write, FileWrite, Profile, Script, Wire, Turns, Demo, Index, PastEnd}
 
 abbrev pub profile_fault : ProfileError → Fault
 profile_fault profile.NoMemory = NoMemory
@@ -36,6 +40,23 @@ demo_fault demo.NoMemory = NoMemory
 demo_fault demo.ReadFault = Read
 demo_fault demo.WriteFault = Write
 demo_fault e = Demo e
+
+abbrev pub index_fault : IndexError → Fault
+index_fault opening.NoMemory = NoMemory
+index_fault opening.ReadFault = Read
+index_fault e = Index e
+
+-- an index is made: what can't be written is its file
+abbrev pub build_fault : DemoError → Fault
+build_fault demo.WriteFault = FileWrite
+build_fault e = demo_fault e
+
+abbrev pub seek_fault : SeekError → Fault
+seek_fault seeking.NoMemory = NoMemory
+seek_fault seeking.ReadFault = Read
+seek_fault (seeking.NotIndex place) = Index (opening.NotIndex place)
+seek_fault (seeking.PastEnd records) = PastEnd records
+seek_fault (seeking.Demo e) = demo_fault e
 
 abbrev pub step_fault : StepError → Fault
 step_fault step.NoMemory = NoMemory

@@ -1,10 +1,10 @@
 -- How a run goes: as its verdict says, or something from outside ends it early.
-use Rattle.std.specs.Prelude.{◌≡◌, ◌≢◌, ◌⊎◌, ℕ, ◌≤◌, true, false, List, [], ◌++◌, map, take, Option, Some, None, OnOk, Result, Ok, Err, IsErr}
+use Rattle.std.specs.Prelude.{◌≡◌, ◌≢◌, ◌⊎◌, ℕ, ◌^◌, ◌<◌, ◌≤◌, ⊤, true, false, List, [], ◌++◌, length, map, take, Option, Some, None, OnOk, Result, Ok, Err, IsErr}
 use Rattle.std.specs.List.{flat_map}
 use Rattle.q3_io.specs.Faults.{Rose}
 use Rattle.q3_io.specs.declared.address.Address.{Address}
 use Rattle.q3_io.specs.Acts.{FileAct, ActsOn}
-use Rattle.q3_io.specs.Told.{Told, Named}
+use Rattle.q3_io.specs.Told.{Told, Named, contents_of}
 use Rattle.q3_io.specs.Traffic.{Traffic}
 use Rattle.q3_node.specs.declared.error.NodeError.{NodeError}
 use Rattle.q3_node.specs.declared.error.NodeError.TheVariants as node
@@ -16,11 +16,15 @@ use Rattle.q3_report.specs.AnswerLines.{lines_of}
 use Rattle.q3_world.specs.Files.{by_files}
 use Rattle.q3_world.specs.declared.told.StepError.{StepError}
 use Rattle.q3_world.specs.declared.told.StepError.TheVariants as step
-use Rattle.q3net.specs.Command.{Command, files_of}
+use Rattle.q3_profile.specs.declared.profile.Profile.{Profile as ProfileValue}
+use Rattle.q3_demo.specs.Playing.{Played, records_of, play_state}
+use Rattle.q3_demo.specs.Report.{state_text}
+use Rattle.q3_index.specs.Text.{index_of}
+use Rattle.q3net.specs.Command.{Command, Seek, files_of}
 use Rattle.q3net.specs.Faults.{IsOutside, node_fault, FileCause}
 use Rattle.q3net.specs.Input.{IsFront, looked_up, created, LeavesTold, LeavesFirst, Touches}
 use Rattle.q3net.specs.Lines.{fault_status, ending_line, ending_status}
-use Rattle.q3net.specs.Verdict.{Place, Nowhere, First, Anywhere, Stops, Verdict, Outside, IsVerdict}
+use Rattle.q3net.specs.Verdict.{Place, Nowhere, First, Anywhere, Stops, Verdict, Outside, IsVerdict, profile_in}
 use Rattle.q3net.specs.declared.fault.Fault.{Fault}
 use Rattle.q3net.specs.declared.fault.Fault.TheVariants.{NoMemory, Read, Write, FileWrite, Wire}
 
@@ -178,6 +182,20 @@ HasLeft command told now status =
     (verdict : Verdict) × IsVerdict told command verdict
     × (LeavesTold told.files now verdict.named verdict.acts
     ⊎ ((fault : Fault) × IsOutside fault × (status ≡ fault_status fault) × LeavesFirst told.files now verdict.named verdict.acts))
+
+-- by the index that was made of a demo, by the same profile, what so many of its records leave is what playing them leaves, and is printed; only
+-- want of memory, a read that fails and a write that does come before that
+abbrev pub IsSought : ProfileValue → List ℕ → ℕ → Option Written → Option Written → ℕ → Type 0
+IsSought by demo records old now status =
+    ((status ≡ 0) × (played : Played) × (play_state by demo records ≡ Ok played) × HandsOn old now (state_text played.state records))
+    ⊎ ((status ≡ 1) ⊎ ((status ≡ 3) ⊎ (status ≡ 4)))
+
+abbrev pub SeeksAsPlays : Option Command → Outside → Option Written → Option Written → ℕ → Type 0
+SeeksAsPlays (Some (Seek profile demo index records)) told old now status =
+    (files : Told) (by : ProfileValue) (bytes made : List ℕ) → told.files ≡ Some files → profile_in (contents_of files.files profile) ≡ Ok by
+    → contents_of files.files demo ≡ Some bytes → contents_of files.files index ≡ Some made → length bytes < 2 ^ 64 → index_of by bytes ≡ Ok made
+    → records ≤ length (records_of by bytes) → IsSought by bytes records old now status
+SeeksAsPlays command told old now status = ⊤
 
 -- the names of the command's words are looked up, once each and in this order, and then the files that the verdict makes are created, or
 -- the first of these; its acts are done, or the first of them, and every other file stays

@@ -1,5 +1,6 @@
 -- What the input of a run decides: what is printed, and how the run ends.
-use Rattle.std.specs.Prelude.{◌≡◌, ℕ, Bool, true, false, List, [], ◌∷◌, ◌++◌, map, Option, Some, None, Result, Ok, Err, ok_or}
+use Rattle.std.specs.Prelude.{◌≡◌, ◌⊎◌, ℕ, ◌/◌, ⊤, Bool, true, false, List, [], ◌∷◌, ◌++◌, length, map, codes, decimal, Option, Some, None, Result, Ok, Err, IfErr, ok_or}
+use Rattle.std.specs.List.{concat}
 use Rattle.std.specs.Result.{result_map_both}
 use Rattle.std.specs.Global.{Vec}
 use Rattle.q3_profile.specs.declared.profile.Profile.{Profile as ProfileValue}
@@ -10,8 +11,8 @@ use Rattle.q3_script.specs.declared.cause.ScriptKind.{ScriptKind}
 use Rattle.q3_script.specs.declared.cause.ScriptKind.TheVariants as kinds
 use Rattle.q3_script.specs.Script.{BadLine, script_at}
 use Rattle.q3_io.specs.declared.address.Address.{Address}
-use Rattle.q3_io.specs.Acts.{FileAct}
-use Rattle.q3_io.specs.Told.{Told, Named}
+use Rattle.q3_io.specs.Acts.{FileAct, Makes, Extends}
+use Rattle.q3_io.specs.Told.{Told, Named, contents_of}
 use Rattle.q3_io.specs.Traffic.{Parcel, Traffic}
 use Rattle.q3_server.specs.Server.{places, new_server}
 use Rattle.q3_node.specs.Node.{Turn, most_turns, new_node, turns_of, did_end, text_of, acts_of, want_memory}
@@ -19,6 +20,14 @@ use Rattle.q3_node.specs.AtServer.{server_rules}
 use Rattle.q3_node.specs.AtClient.{ClientEnd, client_of, client_rules}
 use Rattle.q3_node.specs.Running.{ToRead, ToArrive}
 use Rattle.q3_demo.specs.Playing as demos
+use Rattle.q3_demo.specs.Report.{state_text}
+use Rattle.q3_demo.specs.declared.error.DemoError.{DemoError}
+use Rattle.q3_demo.specs.declared.error.DemoError.TheVariants.{ReadFault}
+use Rattle.q3_index.specs.declared.error.IndexError.{IndexError}
+use Rattle.q3_index.specs.declared.error.SeekError.{SeekError}
+use Rattle.q3_index.specs.Text as indexes
+use Rattle.q3_index.specs.Opening.{open_at}
+use Rattle.q3_index.specs.Seeking.{seek_at}
 use Rattle.q3_make.specs.Printed.{script_text}
 use Rattle.q3_make.specs.Generated.{generated}
 use Rattle.q3_world.specs.World.{opening, answers}
@@ -27,8 +36,8 @@ use Rattle.q3_world.specs.Files.{acts_from}
 use Rattle.q3_world.specs.Report.{report}
 use Rattle.q3_world.specs.Counts.{counts_of}
 use Rattle.q3net.specs.declared.command.Draws.{Draws}
-use Rattle.q3net.specs.Command.{Command, Help, Version, Replay, Make, Trial, Serve, Join, Play}
-use Rattle.q3net.specs.Faults.{Gets, demo_fault}
+use Rattle.q3net.specs.Command.{Command, Help, Version, Replay, Make, Trial, Serve, Join, Play, Index, Seek}
+use Rattle.q3net.specs.Faults.{Gets, demo_fault, build_fault, index_fault, seek_fault}
 use Rattle.q3net.specs.Input.{Holds, looked_up, created}
 use Rattle.q3net.specs.Lines.{help_text, version_text}
 use Rattle.q3net.specs.Summary.{summary_text}
@@ -69,6 +78,13 @@ takes_memory = record stops_nowhere { memory = Anywhere }
 
 abbrev pub reads_first : Stops
 reads_first = record takes_memory { reads = First }
+
+-- and what has all its input and all its memory before its first line, which it may want early; and what also makes a file by then
+abbrev pub all_first : Stops
+all_first = record { memory = First; reads = First; writes = Nowhere; wire = Nowhere }
+
+abbrev pub makes_first : Stops
+makes_first = record all_first { writes = First }
 
 -- and what has all its memory before its first line, and goes on reading
 abbrev pub goes_on_reading : Stops
@@ -198,6 +214,77 @@ abbrev pub demo_played : List (List ℕ) → Result demos.Play Fault → Verdict
 demo_played names (Ok play) = printing goes_on_reading names (demos.play_text play) (result_map_both (λ x. x) demo_fault play.ending)
 demo_played names (Err cause) = printing reads_first names [] (Err cause)
 
+-- the index of a demo, and how many records it counts
+pub record Indexing : Type 0 where
+  pub index : List ℕ
+  pub records : ℕ
+
+abbrev pub indexing_of : ProfileValue → List ℕ → Result Indexing DemoError
+indexing_of by demo = result_map_both (λ (index : List ℕ). record { index = index; records = length (demos.records_of by demo) }) (λ e. e) (indexes.index_of by demo)
+
+-- that of the demo in a file; a file that isn't there doesn't read
+abbrev pub indexing_in : ProfileValue → Option (List ℕ) → Result Indexing DemoError
+indexing_in by demo = do
+  bytes ← ok_or demo ReadFault
+  indexing_of by bytes
+
+-- and of the file of a name, where it is told
+abbrev pub Indexes : Option Told → ProfileValue → List ℕ → Result Indexing DemoError → Type 0
+Indexes None by demo answer = ⊤
+Indexes (Some told) by demo answer = answer ≡ indexing_in by (contents_of told.files demo)
+
+-- its file is made, empty, and then has it, unless the demo is refused
+abbrev pub index_acts : List ℕ → Result Indexing DemoError → List FileAct
+index_acts name (Ok made) = Makes name ∷ Extends name made.index ∷ []
+index_acts name (Err ReadFault) = []
+index_acts name (Err e) = Makes name ∷ []
+
+-- how many records and checkpoints it counts
+abbrev pub indexed_text : ℕ → List ℕ
+indexed_text records =
+    concat (codes "indexed " ∷ decimal records ∷ codes " records " ∷ decimal (records / indexes.spacing) ∷ codes " checkpoints\n" ∷ [])
+
+abbrev pub demo_indexed : List (List ℕ) → List ℕ → Result Indexing DemoError → Verdict
+demo_indexed names name answer =
+    record (settled makes_first names (result_map_both (λ (made : Indexing). indexed_text made.records) build_fault answer)) {
+      named = map looked_up names ++ created (index_acts name answer);
+      acts = index_acts name answer;
+    }
+
+-- by a profile that passed
+abbrev pub IsIndexed : Option Told → Result ProfileValue Fault → (profile demo index : List ℕ) → Verdict → Type 0
+IsIndexed told (Ok by) profile demo index verdict =
+    (answer : Result Indexing DemoError) × Indexes told by demo answer × (verdict ≡ demo_indexed (profile ∷ demo ∷ []) index answer)
+IsIndexed told (Err cause) profile demo index verdict = verdict ≡ printing reads_first (profile ∷ []) [] (Err cause)
+
+-- what so many records of a demo leave, by the bytes of an index
+abbrev pub sought_in : ProfileValue → List ℕ → List ℕ → ℕ → Result demos.Played Fault
+sought_in by demo index number = do
+  heads ← result_map_both (λ heads. heads) index_fault (open_at (length demo) by.mark index)
+  result_map_both (λ played. played) seek_fault (seek_at by demo index heads.records heads.checkpoints number)
+
+-- and what is printed, by the demo in one file and the index in another
+abbrev pub sought : ProfileValue → Option (List ℕ) → Option (List ℕ) → ℕ → Result (List ℕ) Fault
+sought by demo index number = do
+  bytes ← ok_or demo Read
+  index_bytes ← ok_or index Read
+  played ← sought_in by bytes index_bytes number
+  Ok (state_text played.state number)
+
+-- what opening an index and seeking in it may be refused for
+abbrev pub IsSeekFault : Fault → Type 0
+IsSeekFault fault = ((e : IndexError) × (fault ≡ index_fault e)) ⊎ ((e : SeekError) × (fault ≡ seek_fault e))
+
+-- of the files of two names, where they are told
+abbrev pub Sought : Option Told → ProfileValue → (demo index : List ℕ) → ℕ → Result (List ℕ) Fault → Type 0
+Sought None by demo index number answer = IfErr answer IsSeekFault
+Sought (Some told) by demo index number answer = answer ≡ sought by (contents_of told.files demo) (contents_of told.files index) number
+
+abbrev pub IsSoughtBy : Option Told → Result ProfileValue Fault → (profile demo index : List ℕ) → ℕ → Verdict → Type 0
+IsSoughtBy told (Ok by) profile demo index number verdict =
+    (answer : Result (List ℕ) Fault) × Sought told by demo index number answer × (verdict ≡ settled all_first (profile ∷ demo ∷ index ∷ []) answer)
+IsSoughtBy told (Err cause) profile demo index number verdict = verdict ≡ printing reads_first (profile ∷ []) [] (Err cause)
+
 -- what is told of the outside: of the files, of the wire, and of the clock
 pub record Outside : Type 0 where
   pub files : Option Told
@@ -233,6 +320,10 @@ IsVerdict told (Some (Join profile script at server)) verdict =
 IsVerdict told (Some (Play profile demo)) verdict =
     (of_profile : Option (List ℕ)) × (of_demo : Option (List ℕ)) × Holds told.files profile of_profile × Holds told.files demo of_demo
     × (verdict ≡ demo_played (names_by (profile_in of_profile) profile demo) (played of_profile of_demo))
+IsVerdict told (Some (Index profile demo index)) verdict =
+    (of_profile : Option (List ℕ)) × Holds told.files profile of_profile × IsIndexed told.files (profile_in of_profile) profile demo index verdict
+IsVerdict told (Some (Seek profile demo index records)) verdict =
+    (of_profile : Option (List ℕ)) × Holds told.files profile of_profile × IsSoughtBy told.files (profile_in of_profile) profile demo index records verdict
 
 -- what a part of a run answers by the file of a name
 abbrev pub GetsFrom : {A : Type 0} → (Option (List ℕ) → Result A Fault) → Option Told → List ℕ → Result A Fault → Type 0

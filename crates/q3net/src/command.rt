@@ -3,7 +3,7 @@
 ghost use Rattle.std.specs.Prelude.{◌≡◌, ◌-◌, ◌^◌, [], ◌∷◌, map, option_map, IfSome};
 ghost use Rattle.std.specs.String.{string_bytes};
 ghost use Rattle.q3_text.specs.Decimals.{number_at};
-ghost use Rattle.q3net.specs.Command.{AreDraws, MayDraw, command_of, command_value, draws_at};
+ghost use Rattle.q3net.specs.Command.{AreDraws, MayRun, command_of, command_value, draws_at, index_at};
 
 use q3_io::Address;
 use q3_text::decimal_within;
@@ -56,12 +56,25 @@ pub enum Command<'a> {
         profile: &'a str,
         demo: &'a str,
     },
+    /// Makes the index of a demo, in a file of another name than the other two.
+    Index {
+        profile: &'a str,
+        demo: &'a str,
+        index: &'a str,
+    },
+    /// Prints what so many records of a demo leave, by its index.
+    Seek {
+        profile: &'a str,
+        demo: &'a str,
+        index: &'a str,
+        records: u32,
+    },
 }
 
 /// The command that the words are, or `None` where they are no command line.
 pub fn parse(words: &[String]) -> Option<Command<'_>>
     ensures value { option_map command_value result ≡ command_of (map string_bytes words.now) }
-    ensures draws { IfSome result MayDraw }
+    ensures runs { IfSome result MayRun }
 {
     match words {
         [word] => alone(word.as_str()),
@@ -86,7 +99,7 @@ pub fn parse(words: &[String]) -> Option<Command<'_>>
 /// The command that a word is by itself.
 fn alone(word: &str) -> Option<Command<'_>>
     ensures value { option_map command_value result ≡ command_of (word.now ∷ []) }
-    ensures draws { IfSome result MayDraw }
+    ensures runs { IfSome result MayRun }
 {
     if word == "--help" {
         Some(Command::Help)
@@ -100,7 +113,7 @@ fn alone(word: &str) -> Option<Command<'_>>
 /// The command that a word is with two behind it.
 fn with_two<'a>(word: &str, first: &'a str, second: &'a str) -> Option<Command<'a>>
     ensures value { option_map command_value result ≡ command_of (word.now ∷ first.now ∷ second.now ∷ []) }
-    ensures draws { IfSome result MayDraw }
+    ensures runs { IfSome result MayRun }
 {
     if word == "replay" {
         Some(Command::Replay {
@@ -127,7 +140,7 @@ fn with_three<'a>(
     third: &'a str,
 ) -> Option<Command<'a>>
     ensures value { option_map command_value result ≡ command_of (word.now ∷ first.now ∷ second.now ∷ third.now ∷ []) }
-    ensures draws { IfSome result MayDraw }
+    ensures runs { IfSome result MayRun }
 {
     if word == "trial" {
         Some(Command::Trial {
@@ -140,9 +153,26 @@ fn with_three<'a>(
             script: second,
             at: read_address(third.as_bytes())?,
         })
+    } else if word == "index" {
+        index_of(first, second, third)
     } else {
         None
     }
+}
+
+/// Makes an index, unless its name is that of the profile or of the demo.
+fn index_of<'a>(profile: &'a str, demo: &'a str, index: &'a str) -> Option<Command<'a>>
+    ensures value { option_map command_value result ≡ index_at profile.now demo.now index.now }
+    ensures runs { IfSome result MayRun }
+{
+    if index == profile || index == demo {
+        return None;
+    }
+    Some(Command::Index {
+        profile,
+        demo,
+        index,
+    })
 }
 
 /// The command that a word is with four behind it.
@@ -154,7 +184,7 @@ fn with_four<'a>(
     fourth: &'a str,
 ) -> Option<Command<'a>>
     ensures value { option_map command_value result ≡ command_of (word.now ∷ first.now ∷ second.now ∷ third.now ∷ fourth.now ∷ []) }
-    ensures draws { IfSome result MayDraw }
+    ensures runs { IfSome result MayRun }
 {
     if word == "join" {
         Some(Command::Join {
@@ -162,6 +192,13 @@ fn with_four<'a>(
             script: second,
             at: read_address(third.as_bytes())?,
             server: read_address(fourth.as_bytes())?,
+        })
+    } else if word == "seek" {
+        Some(Command::Seek {
+            profile: first,
+            demo: second,
+            index: third,
+            records: decimal_within(fourth.as_bytes(), 0, u32::MAX)?,
         })
     } else {
         None

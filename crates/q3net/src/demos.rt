@@ -1,14 +1,16 @@
-//! Plays demos.
+//! Plays demos, makes their indexes, and seeks in them.
 
 ghost use Rattle.std.specs.Prelude.{◌≡◌, Some};
-ghost use Rattle.q3net.specs.Command.{Play};
-ghost use Rattle.q3net.specs.Faults.{ReadCause, WriteCause};
+ghost use Rattle.q3net.specs.Command.{Play, Index, Seek};
+ghost use Rattle.q3net.specs.Faults.{ReadCause, WriteCause, FileCause};
 ghost use Rattle.q3net.specs.Verdict.{of_files};
 ghost use Rattle.q3net.specs.Run.{Executes, LeavesFiles};
 
 use crate::fault::Fault;
 use crate::input::{find_file, load_profile};
-use q3_io::{Files, Sink};
+use q3_demo::{DemoError, print_state};
+use q3_index::{Built, build_index, open_index};
+use q3_io::{Failed, Files, Piece, Sink, print_all};
 use std::alloc::Global;
 
 /// Plays the demo of this name by the profile of that name, and prints what its records do and what they leave.
@@ -30,4 +32,81 @@ pub fn play<F: Files, O: Sink>(
     let file = find_file(demo, files)?;
     q3_demo::play(alloc, &profile, files, file, out)?;
     Ok(())
+}
+
+/// Makes the index of the demo of this name, by the profile of that name, and prints how many records and checkpoints it counts.
+pub fn index<F: Files, O: Sink>(
+    alloc: Global,
+    profile: &str,
+    demo: &str,
+    index: &str,
+    files: &mut F,
+    out: &mut O,
+) -> Result<(), Fault>
+    requires other { index.now ≢ demo.now }
+    ensures executes { Executes (Some (Index profile.now demo.now index.now)) (of_files (F.told files.old)) (O.written out.old) (O.written out.new) result }
+    ensures gives { LeavesFiles (Some (Index profile.now demo.now index.now)) (of_files (F.told files.old)) (F.told files.new) result }
+    ensures file_cause { FileCause (F.write_faults files.old) (F.write_faults files.new) result }
+    ensures read_cause { ReadCause (F.faults files.old) (F.faults files.new) result }
+    ensures write_cause { WriteCause (O.faults out.old) (O.faults out.new) result }
+{
+    q3_io::laws::texts_follow();
+    let profile = load_profile(alloc, profile, files)?;
+    let demo = find_file(demo, files)?;
+    let index = make_file(index, files)?;
+    let built = match build_index(alloc, &profile, files, demo, index) {
+        Ok(built) => built,
+        Err(DemoError::WriteFault) => return Err(Fault::FileWrite),
+        Err(e) => return Err(Fault::from(e)),
+    };
+    print_built(built, out).map_err(|_| Fault::Write)
+}
+
+/// Makes an empty file of this name, and answers its number. `FileWrite` comes where the files' count of failed writes rose.
+fn make_file<F: Files>(name: &str, files: &mut F) -> Result<usize, Fault>
+{
+    match files.create(name) {
+        Ok(file) => Ok(file),
+        Err(_) => Err(Fault::FileWrite),
+    }
+}
+
+/// Prints how many records and checkpoints an index counts.
+fn print_built<O: Sink>(built: Built, out: &mut O) -> Result<(), Failed>
+{
+    print_all(
+        &[
+            Piece::Text(b"indexed "),
+            Piece::Number(u64::from(built.records)),
+            Piece::Text(b" records "),
+            Piece::Number(u64::from(built.checkpoints)),
+            Piece::Text(b" checkpoints\n"),
+        ],
+        out,
+    )
+}
+
+/// Prints what so many records of the demo of this name leave, by the index of that name.
+pub fn seek<F: Files, O: Sink>(
+    alloc: Global,
+    profile: &str,
+    demo: &str,
+    index: &str,
+    records: u32,
+    files: &mut F,
+    out: &mut O,
+) -> Result<(), Fault>
+    ensures executes { Executes (Some (Seek profile.now demo.now index.now records)) (of_files (F.told files.old)) (O.written out.old) (O.written out.new) result }
+    ensures gives { LeavesFiles (Some (Seek profile.now demo.now index.now records)) (of_files (F.told files.old)) (F.told files.new) result }
+    ensures writes { F.write_faults files.new ≡ F.write_faults files.old }
+    ensures read_cause { ReadCause (F.faults files.old) (F.faults files.new) result }
+    ensures write_cause { WriteCause (O.faults out.old) (O.faults out.new) result }
+{
+    q3_io::laws::texts_follow();
+    let profile = load_profile(alloc, profile, files)?;
+    let demo = find_file(demo, files)?;
+    let index = find_file(index, files)?;
+    let opened = open_index(alloc, &profile, files, demo, index)?;
+    let state = opened.seek(&profile, files, records)?;
+    print_state(&state, records, out).map_err(|_| Fault::Write)
 }

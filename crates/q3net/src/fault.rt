@@ -4,11 +4,12 @@ ghost use Rattle.std.specs.Prelude.{◌≡◌, [], ◌∷◌, codes};
 ghost use Rattle.std.specs.List.{concat};
 ghost use Rattle.q3_io.specs.Faults.{HasCause};
 ghost use Rattle.q3_io.specs.Written.{Adds};
-ghost use Rattle.q3net.specs.Lines.{fault_line, fault_status, cause_word, key_line, text_line, code_line, profile_line, record_line, illegible_text, demo_line};
+ghost use Rattle.q3net.specs.Lines.{fault_line, fault_status, cause_word, key_line, text_line, code_line, profile_line, record_line, illegible_text, demo_line, index_line};
 ghost use Rattle.q3_svmsg.specs.Report.{cause_word as illegible_word, cause_number};
 
 use q3_bits::{CodeError, NoMemory};
 use q3_demo::DemoError;
+use q3_index::{IndexError, SeekError};
 use q3_io::{Failed, Piece, Sink, print_all};
 use q3_node::NodeError;
 use q3_profile::{Key, ProfileError};
@@ -40,6 +41,10 @@ pub enum Fault {
     Turns,
     /// The demo's first record that is refused, with its place, and why.
     Demo(DemoError),
+    /// The index is none, or of another demo.
+    Index(IndexError),
+    /// The index counts fewer records, so many.
+    PastEnd(u32),
 }
 
 impl Fault {
@@ -56,7 +61,9 @@ impl Fault {
             Fault::Profile(_) => 5,
             Fault::Script { .. } => 6,
             Fault::Demo(_) => 7,
+            Fault::Index(_) => 8,
             Fault::Wire => 9,
+            Fault::PastEnd(_) => 10,
             Fault::Turns => 11,
         }
     }
@@ -76,6 +83,15 @@ impl Fault {
             Fault::Turns => print_all(&[Piece::Text(b"turns spent\n")], out),
             Fault::Profile(e) => print_profile(e, out),
             Fault::Demo(e) => print_demo(e, out),
+            Fault::Index(e) => print_index(e, out),
+            Fault::PastEnd(records) => print_all(
+                &[
+                    Piece::Text(b"past end: "),
+                    Piece::Number(u64::from(records)),
+                    Piece::Text(b"\n"),
+                ],
+                out,
+            ),
             Fault::Script { line, cause } => print_all(
                 &[
                     Piece::Text(b"script: line "),
@@ -240,6 +256,39 @@ fn print_message<O: Sink>(at: u64, cause: Illegible, out: &mut O) -> Result<(), 
     )
 }
 
+/// Prints the fault line of an index.
+fn print_index<O: Sink>(e: IndexError, out: &mut O) -> Result<(), Failed>
+    ensures adds { Adds (O.written out.old) (O.written out.new) (index_line e) result }
+    ensures cause { HasCause (O.faults out.old) (O.faults out.new) result }
+{
+    match e {
+        IndexError::ReadFault => print_all(&[Piece::Text(b"read fault\n")], out),
+        IndexError::NoMemory => print_all(&[Piece::Text(b"no memory\n")], out),
+        IndexError::NotIndex(at) => print_all(
+            &[
+                Piece::Text(b"index: bad at "),
+                Piece::Number(at),
+                Piece::Text(b"\n"),
+            ],
+            out,
+        ),
+        IndexError::OtherDemo { kept, found } => print_all(
+            &[
+                Piece::Text(b"index: other demo "),
+                Piece::Number(found.0),
+                Piece::Text(b" "),
+                Piece::Number(found.1),
+                Piece::Text(b", kept "),
+                Piece::Number(kept.0),
+                Piece::Text(b" "),
+                Piece::Number(kept.1),
+                Piece::Text(b"\n"),
+            ],
+            out,
+        ),
+    }
+}
+
 /// The word of a cause.
 fn word(cause: LineCause) -> &'static [u8]
     ensures { result.now ≡ cause_word cause }
@@ -335,6 +384,36 @@ impl From<DemoError> for Fault {
             DemoError::ReadFault => Fault::Read,
             DemoError::WriteFault => Fault::Write,
             e => Fault::Demo(e),
+        }
+    }
+}
+
+impl From<IndexError> for Fault {
+    ghost use Rattle.q3net.specs.Faults.{index_fault};
+
+    ghost from_gives = { λ e f. f ≡ index_fault e };
+
+    fn from(e: IndexError) -> Fault {
+        match e {
+            IndexError::NoMemory => Fault::NoMemory,
+            IndexError::ReadFault => Fault::Read,
+            e => Fault::Index(e),
+        }
+    }
+}
+
+impl From<SeekError> for Fault {
+    ghost use Rattle.q3net.specs.Faults.{seek_fault};
+
+    ghost from_gives = { λ e f. f ≡ seek_fault e };
+
+    fn from(e: SeekError) -> Fault {
+        match e {
+            SeekError::NoMemory => Fault::NoMemory,
+            SeekError::ReadFault => Fault::Read,
+            SeekError::NotIndex(place) => Fault::Index(IndexError::NotIndex(place)),
+            SeekError::PastEnd(records) => Fault::PastEnd(records),
+            SeekError::Demo(e) => Fault::from(e),
         }
     }
 }

@@ -8,10 +8,10 @@ ghost use Rattle.q3net.specs.Command.{command_of};
 ghost use Rattle.q3net.specs.Faults.{ReadCause, WriteCause, FileCause, WireCause};
 ghost use Rattle.q3net.specs.Lines.{fault_line, ending_line, ending_status};
 ghost use Rattle.q3net.specs.Verdict.{outside};
-ghost use Rattle.q3net.specs.Run.{PrintsAll, left_so, ExecutesWired, Took, Prints, Reports, FilesFail, IsDecided, IsComplete, HasLeft, Touched, LeavesFiles, MayBind, Settles};
+ghost use Rattle.q3net.specs.Run.{PrintsAll, SeeksAsPlays, left_so, ExecutesWired, Took, Prints, Reports, FilesFail, IsDecided, IsComplete, HasLeft, Touched, LeavesFiles, MayBind, Settles};
 
 use crate::command::{Command, parse};
-use crate::demos::play;
+use crate::demos::{index, play, seek};
 use crate::fault::Fault;
 use crate::generated::{make, trial};
 use crate::nodes::{join, serve};
@@ -20,12 +20,13 @@ use q3_io::{Clock, Failed, Files, Sink, Wire};
 use std::alloc::Global;
 
 const HELP: &[u8] =
-    b"q3net replays schedules of Quake III's connected protocol 68, and serves and joins by it over UDP\n\nq3net replay PROFILE SCRIPT                replays the schedule of the script by the profile, and prints its report\nq3net serve PROFILE SCRIPT ADDRESS         is a server at the address, by the script whose lines are done when they are due\nq3net join PROFILE SCRIPT ADDRESS SERVER   is a client at the address, of the server at that one, likewise\nq3net play PROFILE DEMO                    plays a demo, and prints what its records do and what they leave\nq3net make NUMBER SEED                     prints a generated script, of which so many events are drawn from the seed\nq3net trial PROFILE NUMBER SEED            replays that script by the profile, and prints what the report counts\nq3net --help                               prints this text\nq3net --version                            prints the version\n";
+    b"q3net replays schedules of Quake III's connected protocol 68, and serves and joins by it over UDP\n\nq3net replay PROFILE SCRIPT                replays the schedule of the script by the profile, and prints its report\nq3net serve PROFILE SCRIPT ADDRESS         is a server at the address, by the script whose lines are done when they are due\nq3net join PROFILE SCRIPT ADDRESS SERVER   is a client at the address, of the server at that one, likewise\nq3net play PROFILE DEMO                    plays a demo, and prints what its records do and what they leave\nq3net index PROFILE DEMO INDEX             makes the index of a demo, by which it is sought\nq3net seek PROFILE DEMO INDEX RECORD       prints what so many records of a demo leave, by its index\nq3net make NUMBER SEED                     prints a generated script, of which so many events are drawn from the seed\nq3net trial PROFILE NUMBER SEED            replays that script by the profile, and prints what the report counts\nq3net --help                               prints this text\nq3net --version                            prints the version\n";
 
 const VERSION: &[u8] = b"q3net 0.1.0\n";
 
 /// Runs the command that the words after the program's name are, and answers its status:
-/// 0 done, 1 no memory, 2 usage, 3 read fault, 4 write fault, 5 bad profile, 6 bad script, 7 bad demo, 9 wire fault, 11 turns spent.
+/// 0 done, 1 no memory, 2 usage, 3 read fault, 4 write fault, 5 bad profile, 6 bad script, 7 bad demo, 8 bad index,
+/// 9 wire fault, 10 past the end, 11 turns spent.
 /// Want of memory may come at any point after usage, and no clause ties it to anything.
 pub fn run<F: Files, W: Wire, C: Clock, O: Sink>(
     alloc: Global,
@@ -60,8 +61,11 @@ pub fn run<F: Files, W: Wire, C: Clock, O: Sink>(
     ensures binds { W.bound wire.new ≡ true → MayBind (command_of (map string_bytes words.now)) (outside (F.told files.old) (W.told wire.old) (C.readings clock.old)) }
     ensures unbound { W.bound wire.new ≡ false → clock.new ≡ clock.old }
 
+    // What is sought in a demo by the index that was made of it is what playing leaves, and such an index is never refused.
+    ensures sought { SeeksAsPlays (command_of (map string_bytes words.now)) (outside (F.told files.old) (W.told wire.old) (C.readings clock.old)) (O.written out.old) (O.written out.new) result }
+
     // When each status comes: it is that of the verdict, or 1, 3, 4 or 9 by something from outside.
-    ensures statuses { (result ≤ 7) ⊎ ((result ≡ 9) ⊎ (result ≡ 11)) }
+    ensures statuses { result ≤ 11 }
     ensures decided { IsDecided (command_of (map string_bytes words.now)) (outside (F.told files.old) (W.told wire.old) (C.readings clock.old)) result }
     ensures usage { result ≡ 2 → IsNone (command_of (map string_bytes words.now)) }
     ensures no_command { IsNone (command_of (map string_bytes words.now)) → (result ≡ 2) ⊎ (result ≡ 4) }
@@ -128,6 +132,21 @@ fn execute<F: Files, W: Wire, C: Clock, O: Sink>(
             },
         ) => join(alloc, profile, script, at, server, files, wire, clock, out),
         Some(Command::Play { profile, demo }) => play(alloc, profile, demo, files, out),
+        Some(
+            Command::Index {
+                profile,
+                demo,
+                index: name,
+            },
+        ) => index(alloc, profile, demo, name, files, out),
+        Some(
+            Command::Seek {
+                profile,
+                demo,
+                index: name,
+                records,
+            },
+        ) => seek(alloc, profile, demo, name, records, files, out),
     }
 }
 
