@@ -1,5 +1,5 @@
-"""What check and check-nodes share: where cases are, their files, and how a difference is told. And what edges shares with them:
-the program that is tried."""
+"""What check and check-nodes share: where cases are, their files, and how a difference is told. And what the other scripts share with
+them: the program that is tried, and files."""
 import itertools
 import json
 import os
