@@ -1,5 +1,5 @@
 -- The index of a demo is made: its head, and then the checkpoints.
-use Rattle.std.proofs.Common.{◌≡◌, ◌≢◌, ℕ, ◌/◌, List, [], ◌++◌, length, Option, Some, None, Result, Ok, Err, IsSome, unwrap_or, refl, sym, ap, subst, ◌∙◌}
+use Rattle.std.proofs.Common.{◌≡◌, ◌≢◌, ℕ, ◌/◌, List, [], ◌++◌, length, Option, Some, None, Result, Ok, Err, IsSome, unwrap_or, refl, sym, ap, subst, ◌∙◌, inl, inr}
 use Rattle.std.proofs.lemmas.List.{append-nil}
 use Rattle.q3_bits.specs.ResultBind.{◌>>=◌}
 use Rattle.q3_io.specs.Told.{Told, Measures, contents_of, contents_at, name_of}
@@ -37,7 +37,7 @@ pub size_is : (before now : Option Told) (demo size : ℕ) → Measures before n
 size_is before now demo size measures told is = subst (λ (was : Option Told). Measures was now demo (Ok size)) is measures
 
 none_begun : (profile : Profile) (told : Told) (demo index : ℕ) (now : Option Told) → LeavesIndex told now index [] → BeginsIndex profile told demo index now
-none_begun profile told demo index now leaves = ([], index_text profile (contents_at told demo), refl, leaves)
+none_begun profile told demo index now leaves = ([], index_text profile (contents_at told demo), refl, leaves, inl refl)
 
 pub size_fails : (profile : Profile) (told : Told) (demo index : ℕ) (now : Option Told) → LeavesIndex told now index [] → Builds profile told demo index now (Err ReadFault)
 size_fails profile told demo index now leaves = none_begun profile told demo index now leaves
@@ -67,11 +67,15 @@ by_outside profile told demo index now (NoMessage at cause) outside begun = absu
 by_outside profile told demo index now NoMemory outside begun = begun
 by_outside profile told demo index now WriteFault outside begun = begun
 
-breaks : (profile : Profile) (told : Told) (demo index : ℕ) (now : Option Told) (e : DemoError) → IsEmpty told index → BreaksOff told now index (index_text profile (contents_at told demo)) e
-    → Builds profile told demo index now (Err e)
-breaks profile told demo index now e empty off =
+-- every record may be played
+may_be_made : (profile : Profile) (demo : List ℕ) → (play_of profile demo).ending ≡ Ok tt → index_of profile demo ≡ Ok (index_text profile demo)
+may_be_made profile demo is = ap (λ (ending : Result (Unit {0}) DemoError). ending >>= λ (x : Unit {0}). let whole : Result (List ℕ) DemoError = Ok (index_text profile demo) in whole) is
+
+breaks : (profile : Profile) (told : Told) (demo index : ℕ) (now : Option Told) (e : DemoError) → IsEmpty told index → (play_of profile (contents_at told demo)).ending ≡ Ok tt
+    → BreaksOff told now index (index_text profile (contents_at told demo)) e → Builds profile told demo index now (Err e)
+breaks profile told demo index now e empty ending off =
     by_outside profile told demo index now e off.0
-    (off.1, off.2, off.3, subst (λ (before : List ℕ). LeavesIndex told now index (before ++ off.1)) (holds_none told index empty) off.4)
+    (off.1, off.2, off.3, subst (λ (before : List ℕ). LeavesIndex told now index (before ++ off.1)) (holds_none told index empty) off.4, inr (may_be_made profile (contents_at told demo) ending))
 
 -- all of it is still to be put there
 whole_waits : (profile : Profile) (told : Told) (demo index : ℕ) (mid : Option Told) → IsEmpty told index → LeavesIndex told mid index []
@@ -93,10 +97,10 @@ same_head : (profile : Profile) (told : Told) (demo size records : ℕ) → Give
 same_head profile told demo size records given = ap (λ n. head_bytes n profile.mark records) given.0 ∙ ap (λ n. head_bytes (length (contents_at told demo)) profile.mark n) given.1
 
 pub head_fails : (profile : Profile) (told : Told) (demo index : ℕ) (mid now : Option Told) (size records : ℕ) (e : DemoError) → IsEmpty told index → LeavesIndex told mid index [] → Given profile told demo size records
-    → ThenBreaks mid now index (head_bytes size profile.mark records) e → Builds profile told demo index now (Err e)
-head_fails profile told demo index mid now size records e empty leaves given off =
+    → (play_of profile (contents_at told demo)).ending ≡ Ok tt → ThenBreaks mid now index (head_bytes size profile.mark records) e → Builds profile told demo index now (Err e)
+head_fails profile told demo index mid now size records e empty leaves given ending off =
     let bytes : List ℕ = contents_at told demo in
-    breaks profile told demo index now e empty
+    breaks profile told demo index now e empty ending
     (put_stops told mid now index (head_of profile bytes) (checkpoints_bytes profile (records_of profile bytes)) (index_text profile bytes) e (whole_waits profile told demo index mid empty leaves)
     (subst (λ (head : List ℕ). ThenBreaks mid now index head e) (same_head profile told demo size records given) off))
 
@@ -144,10 +148,11 @@ points_put profile told (Some mid) now demo index records (Err e) apart has reco
     put_stops_at told mid now index points [] all e left (points_there profile told mid now demo index records points all (Err e) apart has records_is puts)
 
 pub points_fail : (profile : Profile) (told : Told) (demo index : ℕ) (mid written now : Option Told) (size records : ℕ) (e : DemoError) → IsEmpty told index → Apart told demo index → LeavesIndex told mid index []
-    → Given profile told demo size records → ThenLeaves mid written index (head_bytes size profile.mark records) → PutsPoints profile written now demo index (records / spacing) (Err e)
+    → Given profile told demo size records → (play_of profile (contents_at told demo)).ending ≡ Ok tt → ThenLeaves mid written index (head_bytes size profile.mark records)
+    → PutsPoints profile written now demo index (records / spacing) (Err e)
     → Builds profile told demo index now (Err e)
-points_fail profile told demo index mid written now size records e empty apart leaves given head puts =
-    breaks profile told demo index now e empty
+points_fail profile told demo index mid written now size records e empty apart leaves given ending head puts =
+    breaks profile told demo index now e empty ending
     (points_put profile told written now demo index records (Err e) apart (head_put profile told demo index mid written size records empty leaves given head) given.1 puts)
 
 -- the index was made
@@ -158,7 +163,7 @@ pub it_is_made : (profile : Profile) (told : Told) (demo index : ℕ) (mid writt
 it_is_made profile told demo index mid written now size built empty apart leaves given points ending head puts =
     let bytes : List ℕ = contents_at told demo in
     let put = points_put profile told written now demo index built.records (Ok tt) apart (head_put profile told demo index mid written size built.records empty leaves given head) given.1 puts in (
-      ap (λ (ending : Result (Unit {0}) DemoError). ending >>= λ (x : Unit {0}). let whole : Result (List ℕ) DemoError = Ok (index_text profile bytes) in whole) ending,
+      may_be_made profile bytes ending,
       subst (λ (before : List ℕ). LeavesIndex told now index (before ++ index_text profile bytes)) (holds_none told index empty) put,
       given.1,
       points,

@@ -1,5 +1,5 @@
 -- How an index is made, opened and sought in, over files.
-use Rattle.std.specs.Prelude.{◌≡◌, ◌≢◌, ℕ, ◌^◌, ◌<◌, ◌≤◌, ◌/◌, ⊤, List, [], ◌++◌, length, Option, Some, None, Result, Ok, Err}
+use Rattle.std.specs.Prelude.{◌≡◌, ◌≢◌, ◌⊎◌, ℕ, ◌^◌, ◌<◌, ◌≤◌, ◌/◌, ⊤, List, [], ◌++◌, length, Option, Some, None, Result, Ok, Err}
 use Rattle.q3_io.specs.Faults.{Rose}
 use Rattle.q3_io.specs.Told.{Told, contents_at, name_of, with_contents}
 use Rattle.q3_profile.specs.declared.profile.Profile.{Profile}
@@ -31,10 +31,11 @@ abbrev pub LeavesIndex : Told → Option Told → ℕ → List ℕ → Type 0
 LeavesIndex told None index bytes = ⊥
 LeavesIndex told (Some now) index bytes = Puts told now index bytes
 
--- a front of the index was written
+-- a front of the index was written, and nothing unless every record may be played
 abbrev pub BeginsIndex : Profile → Told → ℕ → ℕ → Option Told → Type 0
 BeginsIndex profile told demo_file index now =
     (front : List ℕ) × (rest : List ℕ) × (front ++ rest ≡ index_text profile (contents_at told demo_file)) × LeavesIndex told now index front
+    × ((front ≡ []) ⊎ (index_of profile (contents_at told demo_file) ≡ Ok (index_text profile (contents_at told demo_file))))
 
 -- the index was made whole; nothing was written where a record is refused, and else a front of it
 abbrev pub Builds : Profile → Told → ℕ → ℕ → Option Told → Result Built DemoError → Type 0

@@ -43,6 +43,7 @@ pub fn build_index<F: Files>(
     requires index { index < F.given files.old }
     requires other { (told : Told) → F.told files.old ≡ Some told → (name_of told demo ≢ name_of told index) × (contents_of told.files (name_of told index) ≡ Some []) }
     ensures builds { (told : Told) → F.told files.old ≡ Some told → Builds profile.now told demo index (F.told files.new) result }
+    ensures spaced { IfOk result (λ built. built.checkpoints ≡ built.records / spacing) }
     ensures untold { F.told files.old ≡ None → F.told files.new ≡ None }
     ensures given { F.given files.new ≡ F.given files.old }
     ensures cause { BuildCause (F.faults files.old) (F.faults files.new) result }

@@ -54,6 +54,7 @@ pub fn open_index<F: Files>(
     ensures given { F.given files.new ≡ F.given files.old }
     ensures asks { OnlyAsks (F.told files.old) (F.told files.new) }
     ensures nothing { AsksNothing demo index (F.told files.old) (F.told files.new) }
+    ensures numbers { IfOk result (λ opened. (opened.demo ≡ demo) × (opened.index ≡ index)) }
     ensures cause { OpenCause (F.faults files.old) (F.faults files.new) result }
     ensures others { F.write_faults files.new ≡ F.write_faults files.old }
 {

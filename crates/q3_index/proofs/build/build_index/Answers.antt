@@ -46,7 +46,7 @@ returns-in_err-write_head-clause-builds g c =
     let size = size_is before sized c.args.demo c.in-Ok.length c.in-Ok.ensures.told told is in
     let counts = c.in_ok-records.ensures.counts told size.0 in
     head_fails c.args.profile.now told c.args.demo c.args.index counted (g.F.Files.told c.write_head.new.files) c.in-Ok.length c.in_ok-records.records c.in_err-write_head.field-0.0
-    (c.requires.other told is).1 (still_empty told before counted c.args.index is (c.requires.other told is).1 asks) (size.1, counts.1) c.in_err-write_head.ensures.writes)
+    (c.requires.other told is).1 (still_empty told before counted c.args.index is (c.requires.other told is).1 asks) (size.1, counts.1) counts.0 c.in_err-write_head.ensures.writes)
 
 pub write_checkpoints-requires-clause-few : goal.write_checkpoints-requires-clause-few
 write_checkpoints-requires-clause-few g c = omega (arith, c.in_ok-records.ensures.few)
@@ -64,7 +64,7 @@ returns-in_err-write_checkpoints-clause-builds g c =
     let counts = c.in_ok-records.ensures.counts told size.0 in
     points_fail c.args.profile.now told c.args.demo c.args.index counted (g.F.Files.told c.write_head.new.files) (g.F.Files.told c.write_checkpoints.new.files) c.in-Ok.length c.in_ok-records.records
     c.in_err-write_checkpoints.field-0.0 (c.requires.other told is).1 (c.requires.other told is).0 (still_empty told before counted c.args.index is (c.requires.other told is).1 asks)
-    (size.1, counts.1) c.in_ok-write_head.ensures.writes c.in_err-write_checkpoints.ensures.writes)
+    (size.1, counts.1) counts.0 c.in_ok-write_head.ensures.writes c.in_err-write_checkpoints.ensures.writes)
 
 pub returns-in_err-write_checkpoints-clause-cause : goal.returns-in_err-write_checkpoints-clause-cause
 returns-in_err-write_checkpoints-clause-cause g c =
