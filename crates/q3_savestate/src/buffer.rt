@@ -1,6 +1,6 @@
 //! A sink that keeps what is written to it, as long as memory can be had.
 
-ghost use Rattle.std.specs.Prelude.{◌≡◌, [], Some};
+ghost use Rattle.std.specs.Prelude.{◌≡◌, true, [], Some, is_ok};
 ghost use Rattle.q3_io.specs.Faults.{HasCause};
 ghost use Rattle.q3_io.specs.Written.{Adds, NothingWaits, all_sent};
 
