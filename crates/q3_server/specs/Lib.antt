@@ -3,3 +3,4 @@ pub mod Taking
 pub mod Standing
 pub mod Laws
 pub mod Apart
+pub mod Isolated

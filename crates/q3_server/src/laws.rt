@@ -1,6 +1,7 @@
 //! Laws of the server's end, each the contract of a call that does nothing but cite the laws below it.
 
 ghost use Rattle.q3_server.specs.Apart.{SlotsApart};
+ghost use Rattle.q3_server.specs.Isolated.{SlotsIsolated};
 ghost use Rattle.q3_server.specs.Standing.{Below};
 ghost use Rattle.q3_server.specs.Laws.{MapStays, ServerStays, BeginsAsBuilt};
 
@@ -52,4 +53,12 @@ pub fn slots_apart()
     ensures { SlotsApart }
 {
     q3_frames::laws::held_was_built();
+}
+
+/// What a datagram does to a client's slot, and what is answered, depends on the map, on the slot, and on who the clients are, and not on what the
+/// other slots hold; and a datagram for another slot, or for none, leaves the slot and the map.
+pub fn slots_isolated()
+    ensures { SlotsIsolated }
+{
+    slots_apart();
 }
