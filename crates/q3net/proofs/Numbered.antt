@@ -1,5 +1,5 @@
 -- Files that were looked up or made, one behind the other, and what their numbers stand for.
-use Rattle.std.proofs.Common.{◌≡◌, ◌≢◌, ℕ, List, [], ◌∷◌, ◌++◌, length, map, Option, Some, None, Result, Ok, Err, refl, sym, ap, ap₂, subst, ◌∙◌, append_assoc, inl, inr}
+use Rattle.std.proofs.Common.{◌≡◌, ◌≢◌, ℕ, List, [], ◌∷◌, ◌++◌, length, map, Option, Some, None, Result, Ok, Err, false, refl, sym, ap, ap₂, subst, ◌∙◌, append_assoc, inl, inr}
 use Rattle.std.specs.Prelude.{if◌then◌else◌, unwrap_or, slice_index_or}
 use Rattle.std.specs.Str.{bytes_eq}
 use Rattle.std.proofs.lemmas.Bool.{cases_Bool, cond_both}
@@ -84,31 +84,31 @@ pub record TwoFound (told now : Told) (demo index : List ℕ) (first second : �
 
 two_so : (told mid : Told) (demo index : List ℕ) (first second : ℕ) → mid.files ≡ told.files → LooksUp (Some mid) (Some (found_in mid demo)) demo (Ok first)
     → LooksUp (Some (found_in mid demo)) (Some (found_in (found_in mid demo) index)) index (Ok second) → TwoFound told (found_in (found_in mid demo) index) demo index first second
-two_so told mid demo index first second same looks then = record {
+two_so told mid demo index first second same looks next = record {
   of_demo = ap (λ (files : List File). contents_of files demo) (sym same) ∙ (some_held (contents_of mid.files demo) looks.0
       ∙ ap (λ (name : List ℕ). Some (unwrap_or (contents_of mid.files name) []))
       (sym (ap (λ (n : ℕ). slice_index_or ((mid.numbers ++ demo ∷ []) ++ index ∷ []) n []) looks.1 ∙ number_before mid.numbers demo index)));
-  of_index = ap (λ (files : List File). contents_of files index) (sym same) ∙ (some_held (contents_of mid.files index) then.0
+  of_index = ap (λ (files : List File). contents_of files index) (sym same) ∙ (some_held (contents_of mid.files index) next.0
       ∙ ap (λ (name : List ℕ). Some (unwrap_or (contents_of mid.files name) []))
-      (sym (ap (λ (n : ℕ). slice_index_or ((mid.numbers ++ demo ∷ []) ++ index ∷ []) n []) then.1 ∙ last_number (mid.numbers ++ demo ∷ []) index)));
+      (sym (ap (λ (n : ℕ). slice_index_or ((mid.numbers ++ demo ∷ []) ++ index ∷ []) n []) next.1 ∙ last_number (mid.numbers ++ demo ∷ []) index)));
 }
 
 pub two_found : (told : Told) (t1 t2 t3 : Option Told) (names : List Named) (demo index : List ℕ) (first second : ℕ) → LeavesTold (Some told) t1 names [] → LooksUp t1 t2 demo (Ok first)
     → LooksUp t2 t3 index (Ok second) → (now : Told) × (t3 ≡ Some now) × TwoFound told now demo index first second
 unfolding after_acts
-two_found told t1 t2 t3 names demo index first second leaves looks then =
+two_found told t1 t2 t3 names demo index first second leaves looks next =
     let mid = leaves.0 in
     let one : LooksUp (Some mid) t2 demo (Ok first) = subst (λ (t : Option Told). LooksUp t t2 demo (Ok first)) leaves.1 looks in
-    let two : LooksUp (Some (found_in mid demo)) t3 index (Ok second) = subst (λ (t : Option Told). LooksUp t t3 index (Ok second)) one.2 then in (
+    let two : LooksUp (Some (found_in mid demo)) t3 index (Ok second) = subst (λ (t : Option Told). LooksUp t t3 index (Ok second)) one.2 next in (
       found_in (found_in mid demo) index,
       two.2,
       two_so told mid demo index first second leaves.2.files (one.0, one.1, refl) (two.0, two.1, refl),
     )
 
 pub untold_twice : (t1 t2 t3 : Option Told) (demo index : List ℕ) (first second : ℕ) → t1 ≡ None → LooksUp t1 t2 demo (Ok first) → LooksUp t2 t3 index (Ok second) → t3 ≡ None
-untold_twice t1 t2 t3 demo index first second none looks then =
+untold_twice t1 t2 t3 demo index first second none looks next =
     let one : t2 ≡ None = subst (λ (t : Option Told). LooksUp t t2 demo (Ok first)) none looks in
-    subst (λ (t : Option Told). LooksUp t t3 index (Ok second)) one then
+    subst (λ (t : Option Told). LooksUp t t3 index (Ok second)) one next
 
 -- ---- one was looked up, and another was made
 

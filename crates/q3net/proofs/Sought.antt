@@ -185,11 +185,11 @@ pub sought_of : (t3 t4 : Option Told) (by : Profile) (first second number : ℕ)
     → (now : Told) → t3 ≡ Some now → SoughtIn by (contents_at now first) (contents_at now second) first second number result
 sought_of t3 t4 by first second number index result opens asks seeks now is =
     let only = subst (λ (t : Option Told). OnlyAsks t t4) is asks in
-    let open = opens now is in
+    let there = opens now is in
     record {
-      heads = open.0;
-      opens = open.1;
-      seeks = subst (λ (i : IndexState). Seeks by i (contents_at now i.demo) (contents_at now i.index) number result) open.2 (seeks (record now { asked = only.0 }) only.1);
+      heads = there.0;
+      opens = there.1;
+      seeks = subst (λ (i : IndexState). Seeks by i (contents_at now i.demo) (contents_at now i.index) number result) there.2 (seeks (record now { asked = only.0 }) only.1);
     }
 
 pub seek_ends : (e : SeekError) → ((seek_fault e ≡ faults.NoMemory) ⊎ (seek_fault e ≡ faults.Read))

@@ -1,5 +1,5 @@
 -- What is sought by the index that was made of a demo is what playing leaves.
-use Rattle.std.proofs.Common.{◌≡◌, ℕ, ◌<◌, ◌≤◌, List, [], ◌∷◌, length, Option, Some, None, Result, Ok, Err, refl, sym, ap, subst, ◌∙◌, inl, inr, arith}
+use Rattle.std.proofs.Common.{◌≡◌, ℕ, ◌<◌, ◌≤◌, true, List, [], ◌∷◌, length, Option, Some, None, Result, Ok, Err, refl, sym, ap, subst, ◌∙◌, inl, inr, rules}
 use Rattle.std.specs.Prelude.{◌⊎◌, ◌^◌}
 use Rattle.std.proofs.lemmas.List.{append-nil}
 use Rattle.q3_io.specs.Laws.{TextsFollow}
@@ -41,7 +41,7 @@ record PlaysSo (by : Profile) (bytes made : List ℕ) (number : ℕ) : Type 0 wh
   seeks : seek_at by bytes made heads.records heads.checkpoints number ≡ Ok played
 
 least_ring : (by : Profile) → IsProfile by → 512 ≤ by.parse_ring
-least_ring by is = let ring = is.parse_ring in search rules in
+least_ring by is = let ring = is.parse_ring in search rules
 
 plays_so : IndexOpens → SeekingIsPlaying → (by : Profile) (bytes made : List ℕ) (number : ℕ) → IsProfile by → IsCodec by → by.mark < 2 ^ 64 → length bytes < 2 ^ 64 → index_of by bytes ≡ Ok made
     → number ≤ length (demos.records_of by bytes) → PlaysSo by bytes made number
@@ -79,7 +79,7 @@ pub record Premises (told t1 t2 t3 : Option Told) (profile demo index : List ℕ
   pub mark : by.mark < 2 ^ 64
   pub gives : Gives (Ok by) (profile ∷ []) told t1
   pub looks : LooksUp t1 t2 demo (Ok first)
-  pub then : LooksUp t2 t3 index (Ok second)
+  pub next : LooksUp t2 t3 index (Ok second)
 
 found_made : (told t1 t2 t3 : Option Told) (profile demo index : List ℕ) (first second number : ℕ) (by : Profile) → Premises told t1 t2 t3 profile demo index first second by
     → (files : Told) (other : Profile) (bytes made : List ℕ) → told ≡ Some files → profile_in (contents_of files.files profile) ≡ Ok other
@@ -87,7 +87,7 @@ found_made : (told t1 t2 t3 : Option Told) (profile demo index : List ℕ) (firs
     → number ≤ length (demos.records_of other bytes) → FoundMade t3 first second number by other bytes made
 found_made told t1 t2 t3 profile demo index first second number by p files other bytes made is says of_demo of_index long whole few =
     let leaves = subst (λ (t : Option Told). LooksUpTold t t1 (profile ∷ [])) is (gave by (profile ∷ []) told t1 p.gives) in
-    let two = two_found files t1 t2 t3 (looked_up profile ∷ []) demo index first second leaves p.looks p.then in
+    let two = two_found files t1 t2 t3 (looked_up profile ∷ []) demo index first second leaves p.looks p.next in
     let holds : contents_of files.files profile ≡ p.passes.0 = subst (λ (t : Option Told). Holds t profile p.passes.0) is p.passes.1 in
     let same = same_profile by other (profile_in (contents_of files.files profile)) (ap profile_in holds ∙ got_ok (profile_in p.passes.0) by p.passes.2) says in
     record {
