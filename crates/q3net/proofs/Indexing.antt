@@ -11,15 +11,15 @@ use Rattle.q3_io.specs.Told.{Told, Named, Create, contents_of, contents_at, Look
 use Rattle.q3_io.specs.Written.{Written}
 use Rattle.q3_profile.specs.declared.profile.Profile.{Profile}
 use Rattle.q3_demo.specs.declared.error.DemoError.{DemoError}
-use Rattle.q3_demo.specs.declared.error.DemoError.TheVariants as demo
+use Rattle.q3_demo.specs.declared.error.DemoError.TheVariants as errors
 use Rattle.q3_demo.specs.Playing as demos
 use Rattle.q3_index.specs.declared.build.Built.{Built}
 use Rattle.q3_index.specs.Text as indexes
-use Rattle.q3_index.specs.Running.{Puts, LeavesIndex, BeginsIndex, Builds}
+use Rattle.q3_index.specs.Running.{Puts, LeavesIndex, BeginsIndex, Builds, BuildCause, BuildWrites}
 use Rattle.q3net.specs.declared.fault.Fault.{Fault}
 use Rattle.q3net.specs.declared.fault.Fault.TheVariants as faults
 use Rattle.q3net.specs.Command.{Command, Index}
-use Rattle.q3net.specs.Faults.{demo_fault, build_fault, IsOutside}
+use Rattle.q3net.specs.Faults.{build_fault, IsOutside, ReadCause, WriteCause, FileCause}
 use Rattle.q3net.specs.Input.{IsFront, Holds, looked_up, created, Leaves, LeavesTold, AreBegun, LeavesFirst, LooksUpTold, Gives}
 use Rattle.q3net.specs.Verdict.{Verdict, of_files, IsVerdict, reads_first, printing, profile_in, Indexing, indexing_of, indexing_in, Indexes, index_acts, indexed_text, demo_indexed, IsIndexed, GetsFrom}
 use Rattle.q3net.specs.Run.{Comes, Executes, LeavesFiles, PrintsAll}
@@ -39,7 +39,7 @@ abbrev both : List ℕ → List ℕ → List Named
 both profile demo = looked_up profile ∷ looked_up demo ∷ []
 
 some_indexed : (told : Option Told) (by : Profile) (demo : List ℕ) → (answer : Result Indexing DemoError) × Indexes told by demo answer
-some_indexed None by demo = (Err demo.NoMemory, tt)
+some_indexed None by demo = (Err errors.NoMemory, tt)
 some_indexed (Some told) by demo = (indexing_in by (contents_of told.files demo), refl)
 
 index_verdict : (told : Option Told) (profile demo index : List ℕ) (by : Profile) (answer : Result Indexing DemoError) → GetsFrom profile_in told profile (Ok by) → Indexes told by demo answer
@@ -157,22 +157,21 @@ indexed_so (Some told) t1 t2 t3 profile demo index by first second answer apart 
 
 -- a build that failed was refused by what the demo holds, or by something from outside
 pub record IsRefused (e : DemoError) : Type 0 where
-  pub fault : build_fault e ≡ demo_fault e
   pub acts : (index : List ℕ) → index_acts index (Err e) ≡ Makes index ∷ []
   pub says : (by : Profile) (now : Told) (first second : ℕ) (t4 : Option Told) → Builds by now first second t4 (Err e) → (indexes.index_of by (contents_at now first) ≡ Err e) × LeavesIndex now t4 second []
 
 pub record IsBroken (e : DemoError) : Type 0 where
-  pub fault : (demo_fault e ≡ faults.NoMemory) ⊎ (demo_fault e ≡ faults.Read)
+  pub fault : ((build_fault e ≡ faults.NoMemory) ⊎ (build_fault e ≡ faults.Read)) ⊎ (build_fault e ≡ faults.FileWrite)
   pub begins : (by : Profile) (now : Told) (first second : ℕ) (t4 : Option Told) → Builds by now first second t4 (Err e) → BeginsIndex by now first second t4
 
-pub build_ends : (e : DemoError) → (e ≡ demo.WriteFault → ⊥) → IsBroken e ⊎ IsRefused e
-build_ends demo.ReadFault other = inl (record { fault = inr refl; begins = λ by now first second t4 is. is })
-build_ends demo.NoMemory other = inl (record { fault = inl refl; begins = λ by now first second t4 is. is })
-build_ends demo.WriteFault other = absurd (other refl)
-build_ends (demo.Truncated at) other = inr (record { fault = refl; acts = λ index. refl; says = λ by now first second t4 is. is })
-build_ends (demo.BadLength at) other = inr (record { fault = refl; acts = λ index. refl; says = λ by now first second t4 is. is })
-build_ends (demo.BadNumber at) other = inr (record { fault = refl; acts = λ index. refl; says = λ by now first second t4 is. is })
-build_ends (demo.Message at cause) other = inr (record { fault = refl; acts = λ index. refl; says = λ by now first second t4 is. is })
+pub build_ends : (e : DemoError) → IsBroken e ⊎ IsRefused e
+build_ends errors.ReadFault = inl (record { fault = inl (inr refl); begins = λ by now first second t4 is. is })
+build_ends errors.NoMemory = inl (record { fault = inl (inl refl); begins = λ by now first second t4 is. is })
+build_ends errors.WriteFault = inl (record { fault = inr refl; begins = λ by now first second t4 is. is })
+build_ends (errors.Truncated at) = inr (record { acts = λ index. refl; says = λ by now first second t4 is. is })
+build_ends (errors.BadLength at) = inr (record { acts = λ index. refl; says = λ by now first second t4 is. is })
+build_ends (errors.BadNumber at) = inr (record { acts = λ index. refl; says = λ by now first second t4 is. is })
+build_ends (errors.Message at cause) = inr (record { acts = λ index. refl; says = λ by now first second t4 is. is })
 
 refused_is : (told t1 t2 t3 t4 : Option Told) (profile demo index : List ℕ) (by : Profile) (first second : ℕ) (e : DemoError) → index ≢ demo → LooksUpTold told t1 (profile ∷ [])
     → LooksUp t1 t2 demo (Ok first) → Creates t2 t3 index (Ok second) → IsRefused e → ((now : Told) → t3 ≡ Some now → Builds by now first second t4 (Err e)) → Indexes told by demo (Err e)
@@ -182,14 +181,17 @@ refused_is told t1 t2 t3 t4 profile demo index by first second e apart leaves lo
     (λ now is. sym (ap (indexed_as by (contents_at now first)) (refused.says by now first second t4 (builds now is)).0))
 
 pub index_refused : (follow : TextsFollow) (told t1 t2 t3 t4 : Option Told) (profile demo index : List ℕ) (by : Profile) (first second : ℕ) (old : Option Written) (e : DemoError) → index ≢ demo
-    → GetsFrom profile_in told profile (Ok by) → Gives (Ok by) (profile ∷ []) told t1 → LooksUp t1 t2 demo (Ok first) → Creates t2 t3 index (Ok second) → (e ≡ demo.WriteFault → ⊥)
-    → ((now : Told) → t3 ≡ Some now → Builds by now first second t4 (Err e)) → Executes (makes profile demo index) (of_files told) old old (Err (demo_fault e))
-index_refused follow told t1 t2 t3 t4 profile demo index by first second old e apart passes gives looks makes_it other builds =
-    elim (build_ends e other) [
-      | inl broken ↦ index_ended follow told profile demo index by old (demo_fault e) passes broken.fault
-      | inr refused ↦ refused_so follow (makes profile demo index) (of_files told) old (demo_indexed (profile ∷ demo ∷ []) index (Err e)) (demo_fault e)
+    → GetsFrom profile_in told profile (Ok by) → Gives (Ok by) (profile ∷ []) told t1 → LooksUp t1 t2 demo (Ok first) → Creates t2 t3 index (Ok second)
+    → ((now : Told) → t3 ≡ Some now → Builds by now first second t4 (Err e)) → Executes (makes profile demo index) (of_files told) old old (Err (build_fault e))
+index_refused follow told t1 t2 t3 t4 profile demo index by first second old e apart passes gives looks makes_it builds =
+    elim (build_ends e) [
+      | inl broken ↦ elim broken.fault [
+        | inl outside ↦ index_ended follow told profile demo index by old (build_fault e) passes outside
+        | inr written ↦ index_unwritten follow told profile demo index by old (build_fault e) passes written
+      ]
+      | inr refused ↦ refused_so follow (makes profile demo index) (of_files told) old (demo_indexed (profile ∷ demo ∷ []) index (Err e)) (build_fault e)
           (index_verdict told profile demo index by (Err e) passes
-          (refused_is told t1 t2 t3 t4 profile demo index by first second e apart (gave by (profile ∷ []) told t1 gives) looks makes_it refused builds)) (ap Err refused.fault) refl
+          (refused_is told t1 t2 t3 t4 profile demo index by first second e apart (gave by (profile ∷ []) told t1 gives) looks makes_it refused builds)) refl refl
     ]
 
 -- the answer of an index that was made
@@ -253,9 +255,9 @@ index_gives_demo told t1 now profile demo index by e passes one two read =
     (first_then told t1 now (looked_up profile) (looked_up demo ∷ []) (gave by (profile ∷ []) told t1 one) (gave_first {A = ℕ} (Err e) (demo ∷ []) t1 now two))
 
 -- of a demo that is there the index is made first
-not_reading : (ending : Result (Unit {0}) DemoError) → Refuses ending → ending ≡ Err demo.ReadFault → ⊥
+not_reading : (ending : Result (Unit {0}) DemoError) → Refuses ending → ending ≡ Err errors.ReadFault → ⊥
 not_reading (Ok x) so is = cc
-not_reading (Err e) so is = let same : e ≡ demo.ReadFault = cc in subst OfDemo same so
+not_reading (Err e) so is = let same : e ≡ errors.ReadFault = cc in subst OfDemo same so
 
 record BeginsSo (index : List ℕ) (answer : Result Indexing DemoError) : Type 0 where
   rest : List FileAct
@@ -266,13 +268,13 @@ acts_begin : (index bytes : List ℕ) (by : Profile) (ending : Result (Unit {0})
     → BeginsSo index (indexed_as by bytes (ending >>= λ none. Ok (indexes.index_text by bytes)))
 unfolding created indexed_as
 acts_begin index bytes by (Ok x) so = record { rest = Extends index (indexes.index_text by bytes) ∷ []; acts = refl; none = refl }
-acts_begin index bytes by (Err demo.ReadFault) so = absurd so
-acts_begin index bytes by (Err demo.NoMemory) so = absurd so
-acts_begin index bytes by (Err demo.WriteFault) so = absurd so
-acts_begin index bytes by (Err (demo.Truncated at)) so = record { rest = []; acts = refl; none = refl }
-acts_begin index bytes by (Err (demo.BadLength at)) so = record { rest = []; acts = refl; none = refl }
-acts_begin index bytes by (Err (demo.BadNumber at)) so = record { rest = []; acts = refl; none = refl }
-acts_begin index bytes by (Err (demo.Message at cause)) so = record { rest = []; acts = refl; none = refl }
+acts_begin index bytes by (Err errors.ReadFault) so = absurd so
+acts_begin index bytes by (Err errors.NoMemory) so = absurd so
+acts_begin index bytes by (Err errors.WriteFault) so = absurd so
+acts_begin index bytes by (Err (errors.Truncated at)) so = record { rest = []; acts = refl; none = refl }
+acts_begin index bytes by (Err (errors.BadLength at)) so = record { rest = []; acts = refl; none = refl }
+acts_begin index bytes by (Err (errors.BadNumber at)) so = record { rest = []; acts = refl; none = refl }
+acts_begin index bytes by (Err (errors.Message at cause)) so = record { rest = []; acts = refl; none = refl }
 
 begins_so : (told : Told) (demo index bytes : List ℕ) (by : Profile) → contents_of told.files demo ≡ Some bytes → BeginsSo index (indexing_in by (contents_of told.files demo))
 unfolding indexed_as
@@ -374,11 +376,8 @@ index_broken (Some told) t1 t2 t3 t4 profile demo index by first second e apart 
       inr (outside, begun_leaves told behind.0 t4 profile demo index by first second behind.2 (begins behind.0 behind.1)),
     )
 
-pub index_gives_front : (told t1 t2 t3 t4 : Option Told) (profile demo index : List ℕ) (by : Profile) (first second : ℕ) (e : Fault) → index ≢ demo → GetsFrom profile_in told profile (Ok by)
-    → Gives (Ok by) (profile ∷ []) told t1 → LooksUp t1 t2 demo (Ok first) → Creates t2 t3 index (Ok second) → e ≡ faults.FileWrite → (t3 ≡ None → t4 ≡ None)
-    → ((now : Told) → t3 ≡ Some now → Builds by now first second t4 (Err demo.WriteFault)) → LeavesFiles (makes profile demo index) (of_files told) t4 (Err e)
-index_gives_front told t1 t2 t3 t4 profile demo index by first second e apart passes gives looks makes_it is untold builds =
-    index_broken told t1 t2 t3 t4 profile demo index by first second e apart passes gives looks makes_it (subst IsOutside (sym is) tt) untold builds
+broken_outside : (e : Fault) → ((e ≡ faults.NoMemory) ⊎ (e ≡ faults.Read)) ⊎ (e ≡ faults.FileWrite) → IsOutside e
+broken_outside e is = elim is [ inl outside ↦ is_outside e outside | inr written ↦ subst IsOutside (sym written) tt ]
 
 -- what it leaves that was made, or refused
 index_left : (told : Told) (t1 t2 t3 t4 : Option Told) (profile demo index : List ℕ) (by : Profile) (ended : Result (Unit {0}) Fault) (answer : Result Indexing DemoError) (acts : List FileAct)
@@ -397,20 +396,20 @@ left_some now None second bytes leaves = absurd leaves
 left_some now (Some after) second bytes leaves = (after, refl, leaves)
 
 pub index_gives_refused : (told t1 t2 t3 t4 : Option Told) (profile demo index : List ℕ) (by : Profile) (first second : ℕ) (e : DemoError) → index ≢ demo → GetsFrom profile_in told profile (Ok by)
-    → Gives (Ok by) (profile ∷ []) told t1 → LooksUp t1 t2 demo (Ok first) → Creates t2 t3 index (Ok second) → (e ≡ demo.WriteFault → ⊥) → (t3 ≡ None → t4 ≡ None)
-    → ((now : Told) → t3 ≡ Some now → Builds by now first second t4 (Err e)) → LeavesFiles (makes profile demo index) (of_files told) t4 (Err (demo_fault e))
+    → Gives (Ok by) (profile ∷ []) told t1 → LooksUp t1 t2 demo (Ok first) → Creates t2 t3 index (Ok second) → (t3 ≡ None → t4 ≡ None)
+    → ((now : Told) → t3 ≡ Some now → Builds by now first second t4 (Err e)) → LeavesFiles (makes profile demo index) (of_files told) t4 (Err (build_fault e))
 unfolding created made_names
-index_gives_refused None t1 t2 t3 t4 profile demo index by first second e apart passes gives looks makes_it other untold builds =
-    untold_gives profile demo index by (Err (demo_fault e)) t4 passes (untold (untold_made t1 t2 t3 demo index first second (gave by (profile ∷ []) None t1 gives) looks makes_it))
-index_gives_refused (Some told) t1 t2 t3 t4 profile demo index by first second e apart passes gives looks makes_it other untold builds =
+index_gives_refused None t1 t2 t3 t4 profile demo index by first second e apart passes gives looks makes_it untold builds =
+    untold_gives profile demo index by (Err (build_fault e)) t4 passes (untold (untold_made t1 t2 t3 demo index first second (gave by (profile ∷ []) None t1 gives) looks makes_it))
+index_gives_refused (Some told) t1 t2 t3 t4 profile demo index by first second e apart passes gives looks makes_it untold builds =
     let looked = gave by (profile ∷ []) (Some told) t1 gives in
     let behind = made_behind told t1 t2 t3 (looked_up profile ∷ []) demo index first second apart looked looks makes_it in
-    elim (build_ends e other) [
-      | inl broken ↦ index_broken (Some told) t1 t2 t3 t4 profile demo index by first second (demo_fault e) apart passes gives looks makes_it (is_outside (demo_fault e) broken.fault) untold
+    elim (build_ends e) [
+      | inl broken ↦ index_broken (Some told) t1 t2 t3 t4 profile demo index by first second (build_fault e) apart passes gives looks makes_it (broken_outside (build_fault e) broken.fault) untold
           (λ now is. broken.begins by now first second t4 (builds now is))
       | inr refused ↦
           let so = left_some behind.0 t4 second [] (refused.says by behind.0 first second t4 (builds behind.0 behind.1)).1 in
-          index_left told t1 t2 t3 t4 profile demo index by (Err (demo_fault e)) (Err e) (Makes index ∷ []) passes
+          index_left told t1 t2 t3 t4 profile demo index by (Err (build_fault e)) (Err e) (Makes index ∷ []) passes
           (refused_is (Some told) t1 t2 t3 t4 profile demo index by first second e apart looked looks makes_it refused builds) (refused.acts index) refl
           (so.0, so.1, none_left told behind.0 so.0 (looked_up profile ∷ []) demo index first second behind.2 so.2)
     ]
@@ -432,3 +431,29 @@ index_gives_all (Some told) t1 t2 t3 t4 profile demo index by first second built
 
 -- ---- causes
 
+pub build_read_cause : (before now : ℕ) (e : DemoError) → BuildCause {T = Built} before now (Err e) → ReadCause {T = Unit {0}} before now (Err (build_fault e))
+build_read_cause before now errors.ReadFault cause = cause
+build_read_cause before now errors.NoMemory cause = cause
+build_read_cause before now errors.WriteFault cause = cause
+build_read_cause before now (errors.Truncated at) cause = cause
+build_read_cause before now (errors.BadLength at) cause = cause
+build_read_cause before now (errors.BadNumber at) cause = cause
+build_read_cause before now (errors.Message at why) cause = cause
+
+pub build_file_cause : (before now : ℕ) (e : DemoError) → BuildWrites {T = Built} before now (Err e) → FileCause before now (Err (build_fault e))
+build_file_cause before now errors.ReadFault cause = cause
+build_file_cause before now errors.NoMemory cause = cause
+build_file_cause before now errors.WriteFault cause = cause
+build_file_cause before now (errors.Truncated at) cause = cause
+build_file_cause before now (errors.BadLength at) cause = cause
+build_file_cause before now (errors.BadNumber at) cause = cause
+build_file_cause before now (errors.Message at why) cause = cause
+
+pub build_write_cause : (count : ℕ) (e : DemoError) → WriteCause count count (Err (build_fault e))
+build_write_cause count errors.ReadFault = refl
+build_write_cause count errors.NoMemory = refl
+build_write_cause count errors.WriteFault = refl
+build_write_cause count (errors.Truncated at) = refl
+build_write_cause count (errors.BadLength at) = refl
+build_write_cause count (errors.BadNumber at) = refl
+build_write_cause count (errors.Message at why) = refl

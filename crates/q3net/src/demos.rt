@@ -7,7 +7,7 @@ ghost use Rattle.q3_profile.specs.Profile.{IsCodec};
 ghost use Rattle.q3_demo.specs.Report.{state_text};
 ghost use Rattle.q3_index.specs.Text.{spacing};
 ghost use Rattle.q3net.specs.Command.{Play, Index, Seek};
-ghost use Rattle.q3net.specs.Faults.{ReadCause, WriteCause, FileCause};
+ghost use Rattle.q3net.specs.Faults.{build_fault, ReadCause, WriteCause, FileCause};
 ghost use Rattle.q3net.specs.Input.{as_told};
 ghost use Rattle.q3net.specs.Verdict.{of_files, indexed_text};
 ghost use Rattle.q3net.specs.Run.{EndsAsPlays, Executes, LeavesFiles, PrintsAll};
@@ -65,10 +65,19 @@ pub fn index<F: Files, O: Sink>(
     let index = make_file(index, files)?;
     let built = match build_index(alloc, &profile, files, demo, index) {
         Ok(built) => built,
-        Err(DemoError::WriteFault) => return Err(Fault::FileWrite),
-        Err(e) => return Err(Fault::from(e)),
+        Err(e) => return Err(build_fault(e)),
     };
     print_built(built, out)
+}
+
+/// Why no index was made: what can't be written is its file.
+fn build_fault(e: DemoError) -> Fault
+    ensures { result ≡ build_fault e }
+{
+    match e {
+        DemoError::WriteFault => Fault::FileWrite,
+        e => Fault::from(e),
+    }
 }
 
 /// Makes an empty file of this name, and answers its number. `FileWrite` comes where the files' count of failed writes rose.
