@@ -1,5 +1,5 @@
 -- A command that something from outside ends before its first line.
-use Rattle.std.proofs.Common.{◌≡◌, ℕ, List, [], ◌++◌, Option, Result, Ok, Err, refl, sym, ap, subst, inl, inr}
+use Rattle.std.proofs.Common.{◌≡◌, List, [], ◌++◌, Option, Result, Ok, Err, refl, sym, subst, inl, inr}
 use Rattle.std.specs.Prelude.{◌⊎◌}
 use Rattle.q3_io.specs.Laws.{TextsFollow}
 use Rattle.q3_io.specs.Told.{Told, Named}

@@ -1,5 +1,5 @@
 -- How the making of an index ends.
-use Rattle.std.proofs.Common.{◌≡◌, ◌≢◌, ℕ, List, [], ◌∷◌, ◌++◌, map, length, Option, Some, None, Result, Ok, Err, refl, sym, ap, subst, ◌∙◌, append_assoc, inl, inr}
+use Rattle.std.proofs.Common.{◌≡◌, ◌≢◌, ℕ, List, [], ◌∷◌, ◌++◌, length, Option, Some, None, Result, Ok, Err, refl, sym, ap, subst, ◌∙◌, append_assoc, inl, inr}
 use Rattle.std.specs.Prelude.{◌⊎◌}
 use Rattle.std.specs.Result.{result_map_both}
 use Rattle.std.proofs.lemmas.List.{append-nil}
@@ -20,7 +20,7 @@ use Rattle.q3net.specs.declared.fault.Fault.{Fault}
 use Rattle.q3net.specs.declared.fault.Fault.TheVariants as faults
 use Rattle.q3net.specs.Command.{Command, Index}
 use Rattle.q3net.specs.Faults.{build_fault, IsOutside, ReadCause, WriteCause, FileCause}
-use Rattle.q3net.specs.Input.{IsFront, Holds, looked_up, created, Leaves, LeavesTold, AreBegun, LeavesFirst, LooksUpTold, Gives}
+use Rattle.q3net.specs.Input.{IsFront, Holds, looked_up, created, Leaves, LeavesTold, LeavesFirst, LooksUpTold, Gives}
 use Rattle.q3net.specs.Verdict.{Verdict, of_files, IsVerdict, reads_first, printing, profile_in, Indexing, indexing_of, indexing_in, Indexes, index_acts, indexed_text, demo_indexed, IsIndexed, GetsFrom}
 use Rattle.q3net.specs.Run.{Comes, Executes, LeavesFiles, PrintsAll}
 use Rattle.q3net.proofs.Acting.{first_left}
@@ -388,7 +388,7 @@ index_left told t1 t2 t3 t4 profile demo index by ended answer acts passes is ar
   demo_indexed (profile ∷ demo ∷ []) index answer,
   index_verdict (Some told) profile demo index by answer passes is,
   inl (subst (λ (a : List FileAct). LeavesTold (Some told) t4 (both profile demo ++ created a) a) (sym are)
-  (subst (λ (n : List Named). LeavesTold (Some told) t4 (both profile demo ++ n) acts) (sym names) leaves)),
+      (subst (λ (n : List Named). LeavesTold (Some told) t4 (both profile demo ++ n) acts) (sym names) leaves)),
 )
 
 left_some : (now : Told) (t4 : Option Told) (second : ℕ) (bytes : List ℕ) → LeavesIndex now t4 second bytes → (after : Told) × (t4 ≡ Some after) × Puts now after second bytes

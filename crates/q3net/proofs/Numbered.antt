@@ -1,16 +1,16 @@
 -- Files that were looked up or made, one behind the other, and what their numbers stand for.
-use Rattle.std.proofs.Common.{◌≡◌, ◌≢◌, ℕ, List, [], ◌∷◌, ◌++◌, length, map, Option, Some, None, Result, Ok, Err, false, refl, sym, ap, ap₂, subst, ◌∙◌, append_assoc, inl, inr}
+use Rattle.std.proofs.Common.{◌≡◌, ◌≢◌, ℕ, List, [], ◌∷◌, ◌++◌, length, Option, Some, None, Ok, Err, false, refl, sym, ap, ap₂, subst, ◌∙◌, append_assoc, inl, inr}
 use Rattle.std.specs.Prelude.{if◌then◌else◌, unwrap_or, slice_index_or}
 use Rattle.std.specs.Str.{bytes_eq}
 use Rattle.std.proofs.lemmas.Bool.{cases_Bool, cond_both}
 use Rattle.std.proofs.lemmas.Slice.Eq.{bytes_eq-Decides}
 use Rattle.std.proofs.Math.Seq.{get_or-append_seam}
 use Rattle.q3_io.specs.declared.sink.Failed.{Failed}
-use Rattle.q3_io.specs.Acts.{FileAct, Makes, Extends, held_by, after_acts, ActsOn}
+use Rattle.q3_io.specs.Acts.{FileAct, Makes, Extends, after_acts, ActsOn}
 use Rattle.q3_io.specs.Told.{File, Told, Named, Lookup, Create, contents_of, with_contents, name_of, contents_at, after_named, after_given, after_written, LooksUp, Creates}
 use Rattle.q3_demo.specs.Running.{OnlyAsks}
 use Rattle.q3_index.specs.Running.{Puts}
-use Rattle.q3net.specs.Input.{looked_up, created, Leaves, LeavesTold, LooksUpTold}
+use Rattle.q3net.specs.Input.{looked_up, Leaves, LeavesTold, LooksUpTold}
 use Rattle.q3net.proofs.Reading.{some_held}
 
 -- ---- what the files of names hold
@@ -70,8 +70,7 @@ pub found_one : (told : Told) (t1 t2 : Option Told) (names : List Named) (demo :
     → (bytes : List ℕ) × (contents_of told.files demo ≡ Some bytes)
 unfolding after_acts
 found_one told t1 t2 names demo first leaves looks =
-    let one : LooksUp (Some leaves.0) t2 demo (Ok first) = subst (λ (t : Option Told). LooksUp t t2 demo (Ok first)) leaves.1 looks in
-    (
+    let one : LooksUp (Some leaves.0) t2 demo (Ok first) = subst (λ (t : Option Told). LooksUp t t2 demo (Ok first)) leaves.1 looks in (
       unwrap_or (contents_of leaves.0.files demo) [],
       ap (λ (files : List File). contents_of files demo) (sym leaves.2.files) ∙ some_held (contents_of leaves.0.files demo) one.0,
     )

@@ -219,9 +219,9 @@ seek_refused follow told t1 t2 t3 t4 profile demo index number by first second s
           (seek_verdict told profile demo index number by answer passes
           (sought_so told t1 t2 t3 profile demo index number by first second answer (gave by (profile ∷ []) told t1 gives) looks then (inr (e, refl))
           (λ now is.
-              let so = sought_of t3 t4 by first second number state (Err e) opens asks sought_there now is in
-              sym (found_so by (contents_at now first) (contents_at now second) number so.heads (Err e) so.opens
-              (same by (contents_at now first) (contents_at now second) number (opened first second so.heads) so.seeks))))) refl refl
+          let so = sought_of t3 t4 by first second number state (Err e) opens asks sought_there now is in
+          sym (found_so by (contents_at now first) (contents_at now second) number so.heads (Err e) so.opens
+          (same by (contents_at now first) (contents_at now second) number (opened first second so.heads) so.seeks))))) refl refl
     ]
 
 pub seek_printed : (told t1 t2 t3 t4 : Option Told) (profile demo index : List ℕ) (number : ℕ) (by : Profile) (first second : ℕ) (state : IndexState) (left : AppliedState) (old now : Option Written)
@@ -235,10 +235,10 @@ seek_printed told t1 t2 t3 t4 profile demo index number by first second state le
     (seek_verdict told profile demo index number by answer passes
     (sought_so told t1 t2 t3 profile demo index number by first second answer (gave by (profile ∷ []) told t1 gives) looks then tt
     (λ now is.
-        let so = sought_of t3 t4 by first second number state (Ok left) opens asks sought_there now is in
-        let is_left : left ≡ so.seeks.0.state = so.seeks.2 in
-        ap (λ (s : AppliedState). Ok (state_text s number)) is_left
-        ∙ sym (found_so by (contents_at now first) (contents_at now second) number so.heads (Ok so.seeks.0) so.opens so.seeks.1)))) prints
+    let so = sought_of t3 t4 by first second number state (Ok left) opens asks sought_there now is in
+    let is_left : left ≡ so.seeks.0.state = so.seeks.2 in
+    ap (λ (s : AppliedState). Ok (state_text s number)) is_left
+    ∙ sym (found_so by (contents_at now first) (contents_at now second) number so.heads (Ok so.seeks.0) so.opens so.seeks.1)))) prints
 
 -- ---- what it leaves of the files
 

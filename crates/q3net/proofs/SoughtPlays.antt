@@ -1,5 +1,5 @@
 -- What is sought by the index that was made of a demo is what playing leaves.
-use Rattle.std.proofs.Common.{◌≡◌, ℕ, ◌<◌, ◌≤◌, true, List, [], ◌∷◌, length, Option, Some, None, Result, Ok, Err, refl, sym, ap, subst, ◌∙◌, inl, inr, rules}
+use Rattle.std.proofs.Common.{◌≡◌, ℕ, ◌<◌, ◌≤◌, true, List, [], ◌∷◌, length, Option, Some, Result, Ok, Err, refl, sym, ap, subst, ◌∙◌, inl, inr, rules}
 use Rattle.std.specs.Prelude.{◌⊎◌, ◌^◌}
 use Rattle.std.proofs.lemmas.List.{append-nil}
 use Rattle.q3_io.specs.Laws.{TextsFollow}
@@ -116,11 +116,11 @@ pub plays_unprofiled : (told : Option Told) (profile demo index : List ℕ) (num
     → EndsAsPlays (seeks profile demo index number) (of_files told) old now (Err e)
 plays_unprofiled told profile demo index number old now e gets =
     λ files by bytes made is says of_demo of_index long whole few.
-        let holds : contents_of files.files profile ≡ gets.0 = subst (λ (t : Option Told). Holds t profile gets.0) is gets.1 in
-        elim gets.2 [
-          | inl said ↦ absurd (not_both by e (profile_in gets.0) (ap profile_in (sym holds) ∙ says) said)
-          | inr outside ↦ is_early by bytes number old now e (outside_of {A = Profile} (Err e) e refl outside)
-        ]
+    let holds : contents_of files.files profile ≡ gets.0 = subst (λ (t : Option Told). Holds t profile gets.0) is gets.1 in
+    elim gets.2 [
+      | inl said ↦ absurd (not_both by e (profile_in gets.0) (ap profile_in (sym holds) ∙ says) said)
+      | inr outside ↦ is_early by bytes number old now e (outside_of {A = Profile} (Err e) e refl outside)
+    ]
 
 not_refused : (whole : Result Heads IndexError) (heads : Heads) (e : IndexError) → whole ≡ Ok heads → whole ≡ Err e → ⊥
 not_refused whole heads e done refused = cc
@@ -131,13 +131,13 @@ pub plays_unopened : (told t1 t2 t3 : Option Told) (profile demo index : List �
     → EndsAsPlays (seeks profile demo index number) (of_files told) old now (Err (index_fault e))
 plays_unopened told t1 t2 t3 profile demo index number by first second old now e p opens =
     λ files other bytes made is says of_demo of_index long whole few.
-        let so = found_made told t1 t2 t3 profile demo index first second number by p files other bytes made is says of_demo of_index long whole few in
-        elim (open_ends e) [
-          | inl outside ↦ is_early other bytes number old now (index_fault e) outside
-          | inr same ↦ absurd (not_refused (open_at (length bytes) other.mark made) so.plays.heads e so.plays.opens
-              (same first second (open_at (length bytes) other.mark made)
-              (carry (λ q d i. Opens first second (open_at (length d) q.mark i) (Err e)) by other (contents_at so.now first) bytes (contents_at so.now second) made so.same so.of_demo so.of_index (opens so.now so.told))))
-        ]
+    let so = found_made told t1 t2 t3 profile demo index first second number by p files other bytes made is says of_demo of_index long whole few in
+    elim (open_ends e) [
+      | inl outside ↦ is_early other bytes number old now (index_fault e) outside
+      | inr same ↦ absurd (not_refused (open_at (length bytes) other.mark made) so.plays.heads e so.plays.opens
+          (same first second (open_at (length bytes) other.mark made)
+          (carry (λ q d i. Opens first second (open_at (length d) q.mark i) (Err e)) by other (contents_at so.now first) bytes (contents_at so.now second) made so.same so.of_demo so.of_index (opens so.now so.told))))
+    ]
 
 same_heads : (whole : Result Heads IndexError) (a b : Heads) → whole ≡ Ok a → whole ≡ Ok b → a ≡ b
 same_heads whole a b first second = cc
@@ -150,7 +150,7 @@ made_sought : (t3 t4 : Option Told) (first second number : ℕ) (by other : Prof
     → Seeks other (opened first second so.plays.heads) bytes made number result
 made_sought t3 t4 first second number by other bytes made state result so opens asks sought =
     let there = carry (λ q d i. SoughtIn q d i first second number result) by other (contents_at so.now first) bytes (contents_at so.now second) made so.same so.of_demo so.of_index
-        (sought_of t3 t4 by first second number state result opens asks sought so.now so.told) in
+    (sought_of t3 t4 by first second number state result opens asks sought so.now so.told) in
     subst (λ (heads : Heads). Seeks other (opened first second heads) bytes made number result)
     (same_heads (open_at (length bytes) other.mark made) there.heads so.plays.heads there.opens so.plays.opens) there.seeks
 
@@ -164,12 +164,12 @@ pub plays_refused : (told t1 t2 t3 t4 : Option Told) (profile demo index : List 
     → EndsAsPlays (seeks profile demo index number) (of_files told) old now (Err (seek_fault e))
 plays_refused told t1 t2 t3 t4 profile demo index number by first second state old now e p opens asks sought =
     λ files other bytes made is says of_demo of_index long whole few.
-        let so = found_made told t1 t2 t3 profile demo index first second number by p files other bytes made is says of_demo of_index long whole few in
-        elim (seek_ends e) [
-          | inl outside ↦ is_early other bytes number old now (seek_fault e) outside
-          | inr same ↦ absurd (not_found (seek_at other bytes made so.plays.heads.records so.plays.heads.checkpoints number) so.plays.played e so.plays.seeks
-              (same other bytes made number (opened first second so.plays.heads) (made_sought t3 t4 first second number by other bytes made state (Err e) so opens asks sought)))
-        ]
+    let so = found_made told t1 t2 t3 profile demo index first second number by p files other bytes made is says of_demo of_index long whole few in
+    elim (seek_ends e) [
+      | inl outside ↦ is_early other bytes number old now (seek_fault e) outside
+      | inr same ↦ absurd (not_found (seek_at other bytes made so.plays.heads.records so.plays.heads.checkpoints number) so.plays.played e so.plays.seeks
+          (same other bytes made number (opened first second so.plays.heads) (made_sought t3 t4 first second number by other bytes made state (Err e) so opens asks sought)))
+    ]
 
 same_played : (found : Result demos.Played SeekError) (a b : demos.Played) → found ≡ Ok a → found ≡ Ok b → a ≡ b
 same_played found a b first second = cc
@@ -181,11 +181,14 @@ pub plays_printed : (told t1 t2 t3 t4 : Option Told) (profile demo index : List 
     → EndsAsPlays (seeks profile demo index number) (of_files told) old now ended
 plays_printed told t1 t2 t3 t4 profile demo index number by first second state left old now ended p opens asks sought prints =
     λ files other bytes made is says of_demo of_index long whole few.
-        let so = found_made told t1 t2 t3 profile demo index first second number by p files other bytes made is says of_demo of_index long whole few in
-        let there = made_sought t3 t4 first second number by other bytes made state (Ok left) so opens asks sought in
-        let played = same_played (seek_at other bytes made so.plays.heads.records so.plays.heads.checkpoints number) there.0 so.plays.played there.1 so.plays.seeks in
-        inl (so.plays.played, so.plays.plays,
-        subst (λ (s : AppliedState). PrintsAll (state_text s number) old now ended) (there.2 ∙ ap (λ (q : demos.Played). q.state) played) prints)
+    let so = found_made told t1 t2 t3 profile demo index first second number by p files other bytes made is says of_demo of_index long whole few in
+    let there = made_sought t3 t4 first second number by other bytes made state (Ok left) so opens asks sought in
+    let played = same_played (seek_at other bytes made so.plays.heads.records so.plays.heads.checkpoints number) there.0 so.plays.played there.1 so.plays.seeks in
+    inl (
+      so.plays.played,
+      so.plays.plays,
+      subst (λ (s : AppliedState). PrintsAll (state_text s number) old now ended) (there.2 ∙ ap (λ (q : demos.Played). q.state) played) prints,
+    )
 
 -- ---- and the run
 

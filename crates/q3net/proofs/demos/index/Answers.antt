@@ -41,8 +41,8 @@ returns-in_err-index-clause-gives g c =
 pub build_index-requires-clause-other : goal.build_index-requires-clause-other
 build_index-requires-clause-other g c =
     λ told is.
-        let may = builds_apart (g.F.Files.told c.args.files.now) (g.F.Files.told c.load_profile.new.files) (g.F.Files.told c.find_file.new.files) (g.F.Files.told c.make_file.new.files) c.args.profile.now c.args.demo.now c.args.index.now c.in_ok-demo.demo c.in_ok-index.index c.requires.other (gave c.in_ok-profile.profile (c.args.profile.now ∷ []) (g.F.Files.told c.args.files.now) (g.F.Files.told c.load_profile.new.files) c.in_ok-profile.ensures.gives) c.in_ok-demo.ensures.looks c.in_ok-index.ensures.creates told is in
-        (may.apart, may.empty)
+    let may = builds_apart (g.F.Files.told c.args.files.now) (g.F.Files.told c.load_profile.new.files) (g.F.Files.told c.find_file.new.files) (g.F.Files.told c.make_file.new.files) c.args.profile.now c.args.demo.now c.args.index.now c.in_ok-demo.demo c.in_ok-index.index c.requires.other (gave c.in_ok-profile.profile (c.args.profile.now ∷ []) (g.F.Files.told c.args.files.now) (g.F.Files.told c.load_profile.new.files) c.in_ok-profile.ensures.gives) c.in_ok-demo.ensures.looks c.in_ok-index.ensures.creates told is in
+    (may.apart, may.empty)
 
 pub returns-in-Err-clause-executes : goal.returns-in-Err-clause-executes
 returns-in-Err-clause-executes g c =
