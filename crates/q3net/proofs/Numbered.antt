@@ -104,11 +104,6 @@ two_found told t1 t2 t3 names demo index first second leaves looks next =
       two_so told mid demo index first second leaves.2.files (one.0, one.1, refl) (two.0, two.1, refl),
     )
 
-pub untold_twice : (t1 t2 t3 : Option Told) (demo index : List ℕ) (first second : ℕ) → t1 ≡ None → LooksUp t1 t2 demo (Ok first) → LooksUp t2 t3 index (Ok second) → t3 ≡ None
-untold_twice t1 t2 t3 demo index first second none looks next =
-    let one : t2 ≡ None = subst (λ (t : Option Told). LooksUp t t2 demo (Ok first)) none looks in
-    subst (λ (t : Option Told). LooksUp t t3 index (Ok second)) one next
-
 -- ---- one was looked up, and another was made
 
 pub record MadeBehind (told now : Told) (names : List Named) (demo index : List ℕ) (first second : ℕ) : Type 0 where

@@ -42,6 +42,7 @@ use Rattle.q3net.specs.Verdict.{Stops, Verdict, Outside, IsVerdict, stops_nowher
 use Rattle.q3net.specs.Run.{Left, left_so, Comes, ComesBehind, place_of, Executes, FilesFail, IsEarlyStatus, IsDecided, IsComplete, WiredBy, HandedOn, FailsBy, ExecutesWired}
 use Rattle.q3net.proofs.Ending.{comes_behind, settled_writes, settled_wire}
 use Rattle.q3net.proofs.Looking.{schedules}
+use Rattle.q3net.proofs.Indexing.{indexed_writes}
 use Rattle.q3net.proofs.Refusing.{OfFault, OfInput, play_refuses}
 
 -- ---- what an input decides
@@ -404,13 +405,9 @@ make_reads_nothing told draws verdict is = (
 usage_alone : (ending : Result (Unit {0}) Fault) → ending ≡ Err faults.Usage → ending ≡ Err faults.FileWrite → ⊥
 usage_alone ending usage ends = cc
 
-index_writes : (names : List (List ℕ)) (index : List ℕ) (answer : Result Indexing DemoError) → Comes (demo_indexed names index answer).stops.writes
-index_writes names index (Ok made) = tt
-index_writes names index (Err e) = tt
-
 index_may_fail : (told : Option Told) (says : Result ProfileValue Fault) (profile demo index : List ℕ) (verdict : Verdict) → OfInput says → IsIndexed told says profile demo index verdict
     → verdict.ending ≡ Err faults.FileWrite → Comes verdict.stops.writes
-index_may_fail told (Ok by) profile demo index verdict so is ends = subst (λ (v : Verdict). Comes v.stops.writes) (sym is.2) (index_writes (profile ∷ demo ∷ []) index is.0)
+index_may_fail told (Ok by) profile demo index verdict so is ends = subst (λ (v : Verdict). Comes v.stops.writes) (sym is.2) (indexed_writes (profile ∷ demo ∷ []) index is.0)
 index_may_fail told (Err cause) profile demo index verdict so is ends =
     absurd (subst (λ (e : Result (Unit {0}) Fault). OfInput e) ends (subst (λ (v : Verdict). OfInput v.ending) (sym is) so))
 
