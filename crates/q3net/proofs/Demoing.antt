@@ -25,6 +25,7 @@ use Rattle.q3net.specs.Run.{Comes, Executes, LeavesFiles}
 use Rattle.q3net.proofs.Loading.{held}
 use Rattle.q3net.proofs.Looking.{got_ok, gave, leaves_then, first_then, profile_names}
 use Rattle.q3net.proofs.Reading.{given_name}
+use Rattle.q3net.proofs.Numbered.{leaves_asked}
 use Rattle.q3net.proofs.Replaying.{same_held}
 use Rattle.q3net.proofs.Ending.{refused_so, wants_memory, fails_reading}
 
@@ -169,18 +170,11 @@ play_gives_demo told mid now profile demo by e passes first second =
       | inr early ↦ inr (early.0, first_then told mid now (looked_up profile) (looked_up demo ∷ []) (gave by (profile ∷ []) told mid first) early.1)
     ])
 
--- reading leaves all but what is asked for
-leaves_asked : (told mid now : Option Told) (name : List ℕ) → LeavesTold told mid (looked_up name ∷ []) [] → OnlyAsks mid now → LeavesTold told now (looked_up name ∷ []) []
-leaves_asked None mid now name leaves asks = subst (λ (m : Option Told). OnlyAsks m now) leaves asks
-leaves_asked (Some told) mid now name leaves asks =
-    let only = subst (λ (m : Option Told). OnlyAsks m now) leaves.1 asks in
-    (record leaves.0 { asked = only.0 }, only.1, record { named = leaves.2.named; files = leaves.2.files })
-
 pub play_gives_all : (told mid found now : Option Told) (profile demo : List ℕ) (by : Profile) (file : ℕ) (ended : Result (Unit {0}) Fault) → GetsFrom profile_in told profile (Ok by)
     → Gives (Ok by) (profile ∷ []) told mid → Gives (Ok file) (demo ∷ []) mid found → OnlyAsks found now → LeavesFiles (Some (Play profile demo)) (of_files told) now ended
 play_gives_all told mid found now profile demo by file ended passes first second asks =
     passed_given told now profile demo by ended passes
-    (inl (leaves_then told mid now (looked_up profile) (looked_up demo ∷ []) (gave by (profile ∷ []) told mid first) (leaves_asked mid found now demo (gave file (demo ∷ []) mid found second) asks)))
+    (inl (leaves_then told mid now (looked_up profile) (looked_up demo ∷ []) (gave by (profile ∷ []) told mid first) (leaves_asked mid found now (looked_up demo ∷ []) (gave file (demo ∷ []) mid found second) asks)))
 
 -- ---- the file of a name
 

@@ -85,6 +85,12 @@ pub fails_reading : (follow : TextsFollow) (command : Option Command) (told : Ou
 fails_reading follow command told old verdict is may =
     (verdict, is, inl ([], inr (faults.Read, refl, comes_first verdict.stops.reads verdict.text may), follow.none))
 
+-- a file that it makes can't be written
+pub fails_writing : (follow : TextsFollow) (command : Option Command) (told : Outside) (old : Option Written) (verdict : Verdict)
+    → IsVerdict told command verdict → Comes verdict.stops.writes → Executes command told old old (Err faults.FileWrite)
+fails_writing follow command told old verdict is may =
+    (verdict, is, inl ([], inr (faults.FileWrite, refl, comes_first verdict.stops.writes verdict.text may), follow.none))
+
 -- a part that reads a file ended it
 pub part_ended : {A : Type 0} (follow : TextsFollow) (command : Option Command) (told : Outside) (old : Option Written) (stops : Stops) (names : List (List ℕ)) (answer : Result (List ℕ) Fault)
     (said : Result A Fault) (e : Fault) → IsVerdict told command (settled stops names answer) → Comes stops.memory → Comes stops.reads
@@ -203,6 +209,8 @@ none_is_done (Err e) none = absurd (no_status e none)
     no_status faults.Wire none = omega (arith, none)
     no_status faults.Turns none = omega (arith, none)
     no_status (faults.Demo e) none = omega (arith, none)
+    no_status (faults.Index e) none = omega (arith, none)
+    no_status (faults.PastEnd records) none = omega (arith, none)
 
 no_early : (e : NodeError) (ended : Result (Unit {0}) Fault) → ended ≡ Ok tt → ended ≡ Err (node_fault e) → ⊥
 no_early node.NoMemory ended done is = cc

@@ -11,3 +11,8 @@ pub mod Trying
 pub mod Noding
 mod Demoing
 mod Refusing
+mod Early
+mod Numbered
+mod Indexing
+mod Sought
+mod SoughtPlays

@@ -13,14 +13,14 @@ use Rattle.q3_server.specs.Server.{places, new_server}
 use Rattle.q3net.specs.declared.fault.Fault.{Fault}
 use Rattle.q3net.specs.declared.fault.Fault.TheVariants as faults
 use Rattle.q3net.specs.declared.command.Draws.{Draws}
-use Rattle.q3net.specs.Command.{Command, Help, Version, Replay, Make, Trial, Serve, Join, Play, files_of}
+use Rattle.q3net.specs.Command.{Command, Help, Version, Replay, Make, Trial, Serve, Join, Play, Index, Seek, files_of}
 use Rattle.q3net.specs.Faults.{Gets, IsOutside, IsEarly}
 use Rattle.q3net.specs.Input.{IsFront, looked_up, created, Leaves, LeavesTold, AreBegun, LeavesFirst, Touches, LooksUpTold, LooksUpFirst, Gives}
 use Rattle.q3_demo.specs.Playing as demos
 use Rattle.q3_make.specs.Printed.{script_text}
 use Rattle.q3_make.specs.Generated.{generated}
 use Rattle.q3net.specs.Lines.{help_text, version_text, fault_status, ending_status}
-use Rattle.q3net.specs.Verdict.{Stops, Verdict, Outside, of_files, IsVerdict, stops_nowhere, takes_memory, reads_first, Schedule, settled, replay_done, names_by, tried, noded, client_turns, played, demo_played, profile_in, events_in}
+use Rattle.q3net.specs.Verdict.{Stops, Verdict, Outside, of_files, IsVerdict, stops_nowhere, takes_memory, reads_first, all_first, Schedule, settled, replay_done, names_by, tried, noded, client_turns, played, demo_played, IsIndexed, IsSoughtBy, profile_in, events_in}
 use Rattle.q3net.specs.Run.{LeavesFiles, HasLeft, Touched}
 use Rattle.q3_bits.specs.ResultBind.{◌>>=◌}
 use Rattle.q3_script.specs.declared.event.Event.{Event}
@@ -96,7 +96,7 @@ got_ok said x gets = elim gets [ inl is ↦ sym is | inr outside ↦ absurd (eli
 -- ---- what a verdict says of files
 
 -- one that is settled looks its names up, and does nothing to files
-settled_touches : {A : Type 0} (ended : Result A Fault) (stops : Stops) (names : List (List ℕ)) (answer : Result (List ℕ) Fault) (told now : Option Told) → Gives ended names told now
+pub settled_touches : {A : Type 0} (ended : Result A Fault) (stops : Stops) (names : List (List ℕ)) (answer : Result (List ℕ) Fault) (told now : Option Told) → Gives ended names told now
     → Touches ended (settled stops names answer).named (settled stops names answer).acts told now
 settled_touches ended stops names (Ok text) told now gives = gives
 settled_touches ended stops names (Err cause) told now gives = gives
@@ -156,6 +156,24 @@ unfolding created
 replay_named told now profile script (Ok by) then first = done_named told now profile script (then by) first
 replay_named told now profile script (Err cause) then first = names_more (Err cause) profile script told now first
 
+-- of an index, and of a seek in it, by what the profile's file says
+indexed_named : (told now : Option Told) (profile demo index : List ℕ) (says : Result Profile Fault) (verdict : Verdict) → IsIndexed told says profile demo index verdict
+    → IsNamed told now (Some (Index profile demo index)) verdict
+indexed_named told now profile demo index (Ok by) verdict is = subst (IsNamed told now (Some (Index profile demo index))) (sym is.2) (λ first. first)
+indexed_named told now profile demo index (Err cause) verdict is =
+    subst (IsNamed told now (Some (Index profile demo index))) (sym is)
+    (settled_named told now (Some (Index profile demo index)) reads_first (profile ∷ []) (Err cause) (λ first. first_more told now (looked_up profile ∷ []) (looked_up demo ∷ []) [] [] first))
+
+sought_named : (told now : Option Told) (profile demo index : List ℕ) (number : ℕ) (says : Result Profile Fault) (verdict : Verdict) → IsSoughtBy told says profile demo index number verdict
+    → IsNamed told now (Some (Seek profile demo index number)) verdict
+sought_named told now profile demo index number (Ok by) verdict is =
+    subst (IsNamed told now (Some (Seek profile demo index number))) (sym is.2)
+    (settled_named told now (Some (Seek profile demo index number)) all_first (profile ∷ demo ∷ index ∷ []) is.0 (λ first. first))
+sought_named told now profile demo index number (Err cause) verdict is =
+    subst (IsNamed told now (Some (Seek profile demo index number))) (sym is)
+    (settled_named told now (Some (Seek profile demo index number)) reads_first (profile ∷ []) (Err cause)
+    (λ first. first_more told now (looked_up profile ∷ []) (looked_up demo ∷ looked_up index ∷ []) [] [] first))
+
 verdict_named : (told : Outside) (now : Option Told) (command : Option Command) (verdict : Verdict) → IsVerdict told command verdict → IsNamed told.files now command verdict
 verdict_named told now None verdict is = subst (IsNamed told.files now None) (sym is) (settled_named told.files now None stops_nowhere [] (Err faults.Usage) (λ first. first))
 verdict_named told now (Some Help) verdict is = subst (IsNamed told.files now (Some Help)) (sym is) (settled_named told.files now (Some Help) stops_nowhere [] (Ok help_text) (λ first. first))
@@ -181,6 +199,8 @@ verdict_named told now (Some (Play profile demo)) verdict is =
     let names = names_by (profile_in is.0) profile demo in
     subst (IsNamed told.files now (Some (Play profile demo))) (sym is.4)
     (demo_named told.files now (Some (Play profile demo)) names (played is.0 is.1) (names_more (profile_in is.0) profile demo told.files now))
+verdict_named told now (Some (Index profile demo index)) verdict is = indexed_named told.files now profile demo index (profile_in is.0) verdict is.2
+verdict_named told now (Some (Seek profile demo index number)) verdict is = sought_named told.files now profile demo index number (profile_in is.0) verdict is.2
 
 -- the names that are given are the first of those that the command names, and of the files that its verdict makes
 pub touches : (command : Option Command) (told : Outside) (now : Option Told) (ended : Result (Unit {0}) Fault) → LeavesFiles command told now ended → Touched command told now

@@ -1,11 +1,11 @@
 -- What comes from outside: it ends a run only where the verdict says that it may come, and where its count rose.
 use Rattle.std.proofs.Common.{◌≡◌, ℕ, ◌<◌, ◌≤◌, Bool, true, false, List, [], ◌∷◌, Option, Some, None, Result, Ok, Err, refl, sym, ap, subst, ◌∙◌, inl, inr, arith}
-use Rattle.std.specs.Prelude.{◌⊎◌, IsNone, ok_or}
+use Rattle.std.specs.Prelude.{◌⊎◌, IsNone, IfErr, length, ok_or}
 use Rattle.std.specs.Result.{result_map_both}
 use Rattle.q3_bits.specs.ResultBind.{◌>>=◌}
 use Rattle.std.proofs.lemmas.Bool.{cases_lt}
 use Rattle.q3_io.specs.Faults.{Rose, last_count}
-use Rattle.q3_io.specs.Told.{Told}
+use Rattle.q3_io.specs.Told.{Told, contents_of}
 use Rattle.q3_io.specs.Written.{Written}
 use Rattle.q3_io.specs.declared.address.Address.{Address}
 use Rattle.q3_io.specs.Traffic.{Parcel}
@@ -13,7 +13,16 @@ use Rattle.q3_server.specs.Server.{places, new_server}
 use Rattle.q3_node.specs.Node.{Turn, most_turns, new_node, turns_of, did_end}
 use Rattle.q3_node.specs.AtServer.{server_rules}
 use Rattle.q3_node.specs.AtClient.{client_of}
+use Rattle.q3_demo.specs.declared.error.DemoError.{DemoError}
+use Rattle.q3_demo.specs.declared.error.DemoError.TheVariants as demo
 use Rattle.q3_demo.specs.Playing as demos
+use Rattle.q3_demo.specs.Report.{state_text}
+use Rattle.q3_index.specs.declared.error.IndexError.{IndexError}
+use Rattle.q3_index.specs.declared.error.IndexError.TheVariants as opening
+use Rattle.q3_index.specs.declared.error.SeekError.{SeekError}
+use Rattle.q3_index.specs.declared.error.SeekError.TheVariants as seeking
+use Rattle.q3_index.specs.Opening.{Heads, open_at}
+use Rattle.q3_index.specs.Seeking.{seek_at}
 use Rattle.q3_make.specs.Generated.{generated}
 use Rattle.q3_make.specs.Printed.{script_text}
 use Rattle.q3_profile.specs.declared.profile.Profile.{Profile as ProfileValue}
@@ -26,13 +35,14 @@ use Rattle.q3_script.specs.Script.{BadLine, script_at}
 use Rattle.q3net.specs.declared.command.Draws.{Draws}
 use Rattle.q3net.specs.declared.fault.Fault.{Fault}
 use Rattle.q3net.specs.declared.fault.Fault.TheVariants as faults
-use Rattle.q3net.specs.Command.{Command, Help, Version, Replay, Make, Trial, Serve, Join, Play}
-use Rattle.q3net.specs.Faults.{demo_fault, ReadCause, WriteCause, FileCause, WireCause}
+use Rattle.q3net.specs.Command.{Command, Help, Version, Replay, Make, Trial, Serve, Join, Play, Index, Seek}
+use Rattle.q3net.specs.Faults.{demo_fault, build_fault, index_fault, seek_fault, ReadCause, WriteCause, FileCause, WireCause}
 use Rattle.q3net.specs.Lines.{help_text, version_text, fault_status, ending_status}
-use Rattle.q3net.specs.Verdict.{Stops, Verdict, Outside, IsVerdict, stops_nowhere, takes_memory, reads_first, Schedule, settled, profile_in, events_in, replayed, replay_done, names_by, summary, tried, ending_of, noded, served, client_turns, joined, played, demo_played}
+use Rattle.q3net.specs.Verdict.{Stops, Verdict, Outside, IsVerdict, stops_nowhere, takes_memory, reads_first, all_first, Schedule, settled, profile_in, events_in, replayed, replay_done, names_by, summary, tried, ending_of, noded, served, client_turns, joined, played, demo_played, Indexing, demo_indexed, IsIndexed, sought, sought_in, IsSeekFault, Sought, IsSoughtBy}
 use Rattle.q3net.specs.Run.{Left, left_so, Comes, ComesBehind, place_of, Executes, FilesFail, IsEarlyStatus, IsDecided, IsComplete, WiredBy, HandedOn, FailsBy, ExecutesWired}
 use Rattle.q3net.proofs.Ending.{comes_behind, settled_writes, settled_wire}
 use Rattle.q3net.proofs.Looking.{schedules}
+use Rattle.q3net.proofs.Indexing.{indexed_writes}
 use Rattle.q3net.proofs.Refusing.{OfFault, OfInput, play_refuses}
 
 -- ---- what an input decides
@@ -119,24 +129,130 @@ demo_of_input : (names : List (List ℕ)) (answer : Result demos.Play Fault) →
 demo_of_input names (Ok play) so = so
 demo_of_input names (Err e) so = so
 
+-- and of a seek
+index_of_fault : (e : IndexError) → OfFault (index_fault e)
+index_of_fault opening.ReadFault = tt
+index_of_fault opening.NoMemory = tt
+index_of_fault (opening.NotIndex place) = tt
+index_of_fault (opening.OtherDemo kept found) = tt
+
+seek_of_fault : (e : SeekError) → OfFault (seek_fault e)
+seek_of_fault seeking.ReadFault = tt
+seek_of_fault seeking.NoMemory = tt
+seek_of_fault (seeking.NotIndex place) = tt
+seek_of_fault (seeking.PastEnd records) = tt
+seek_of_fault (seeking.Demo e) = tt
+
+heads_of_input : (found : Result Heads IndexError) → OfInput (result_map_both (λ heads. heads) index_fault found)
+heads_of_input (Ok heads) = tt
+heads_of_input (Err e) = index_of_fault e
+
+found_of_input : (found : Result demos.Played SeekError) → OfInput (result_map_both (λ played. played) seek_fault found)
+found_of_input (Ok played) = tt
+found_of_input (Err e) = seek_of_fault e
+
+file_of_input : (file : Option (List ℕ)) → OfInput (ok_or file faults.Read)
+file_of_input None = tt
+file_of_input (Some bytes) = tt
+
+sought_in_of_input : (by : ProfileValue) (demo index : List ℕ) (number : ℕ) → OfInput (sought_in by demo index number)
+sought_in_of_input by demo index number =
+    bind_of_input (result_map_both (λ heads. heads) index_fault (open_at (length demo) by.mark index))
+    (λ heads. result_map_both (λ played. played) seek_fault (seek_at by demo index heads.records heads.checkpoints number)) (heads_of_input (open_at (length demo) by.mark index))
+    (λ heads. found_of_input (seek_at by demo index heads.records heads.checkpoints number))
+
+told_of_input : (by : ProfileValue) (demo index : Option (List ℕ)) (number : ℕ) → OfInput (sought by demo index number)
+told_of_input by demo index number =
+    bind_of_input (ok_or demo faults.Read) (λ bytes. ok_or index faults.Read >>= λ index_bytes. sought_in by bytes index_bytes number >>= λ played. Ok (state_text played.state number)) (file_of_input demo)
+    (λ bytes. bind_of_input (ok_or index faults.Read) (λ index_bytes. sought_in by bytes index_bytes number >>= λ played. Ok (state_text played.state number)) (file_of_input index)
+    (λ index_bytes. bind_of_input (sought_in by bytes index_bytes number) (λ played. Ok (state_text played.state number)) (sought_in_of_input by bytes index_bytes number) (λ played. tt)))
+
+untold_of_input : (answer : Result (List ℕ) Fault) → IfErr answer IsSeekFault → OfInput answer
+untold_of_input (Ok text) is = tt
+untold_of_input (Err e) is = elim is [ inl opens ↦ subst OfFault (sym opens.1) (index_of_fault opens.0) | inr finds ↦ subst OfFault (sym finds.1) (seek_of_fault finds.0) ]
+
+sought_of_input : (told : Option Told) (by : ProfileValue) (demo index : List ℕ) (number : ℕ) (answer : Result (List ℕ) Fault) → Sought told by demo index number answer → OfInput answer
+sought_of_input None by demo index number answer is = untold_of_input answer is
+sought_of_input (Some told) by demo index number answer is = subst OfInput (sym is) (told_of_input by (contents_of told.files demo) (contents_of told.files index) number)
+
+seek_of_input : (told : Option Told) (says : Result ProfileValue Fault) (profile demo index : List ℕ) (number : ℕ) (verdict : Verdict) → OfInput says
+    → IsSoughtBy told says profile demo index number verdict → OfInput verdict.ending
+seek_of_input told (Ok by) profile demo index number verdict so is =
+    ending_of_input verdict all_first (profile ∷ demo ∷ index ∷ []) is.0 is.2 (sought_of_input told by demo index number is.0 is.1)
+seek_of_input told (Err cause) profile demo index number verdict so is = subst (λ (v : Verdict). OfInput v.ending) (sym is) so
+
+-- a command that makes no index
+abbrev pub IsOther : Command → Type 0
+IsOther (Index profile demo index) = ⊥
+IsOther other = Unit {0}
+
 -- the verdict of a command
-pub verdict_of_input : (told : Outside) (command : Command) (verdict : Verdict) → IsVerdict told (Some command) verdict → OfInput verdict.ending
-verdict_of_input told Help verdict is = ending_of_input verdict stops_nowhere [] (Ok help_text) is tt
-verdict_of_input told Version verdict is = ending_of_input verdict stops_nowhere [] (Ok version_text) is tt
-verdict_of_input told (Replay profile script) verdict is =
+pub verdict_of_input : (told : Outside) (command : Command) (verdict : Verdict) → IsOther command → IsVerdict told (Some command) verdict → OfInput verdict.ending
+verdict_of_input told Help verdict other is = ending_of_input verdict stops_nowhere [] (Ok help_text) is tt
+verdict_of_input told Version verdict other is = ending_of_input verdict stops_nowhere [] (Ok version_text) is tt
+verdict_of_input told (Replay profile script) verdict other is =
     subst (λ (v : Verdict). OfInput v.ending) (sym is.4) (done_of_input (names_by (profile_in is.0) profile script) (replayed is.0 is.1) (replayed_of_input is.0 is.1))
-verdict_of_input told (Make draws) verdict is = ending_of_input verdict takes_memory [] (Ok (script_text (generated draws.number draws.seed))) is tt
-verdict_of_input told (Trial profile draws) verdict is = ending_of_input verdict reads_first (profile ∷ []) (tried is.0 draws) is.2 (tried_of_input is.0 draws)
-verdict_of_input told (Serve profile script at) verdict is =
+verdict_of_input told (Make draws) verdict other is = ending_of_input verdict takes_memory [] (Ok (script_text (generated draws.number draws.seed))) is tt
+verdict_of_input told (Trial profile draws) verdict other is = ending_of_input verdict reads_first (profile ∷ []) (tried is.0 draws) is.2 (tried_of_input is.0 draws)
+verdict_of_input told (Serve profile script at) verdict other is =
     node_of_input verdict (names_by (profile_in is.0) profile script) at (served is.0 is.1 is.4 is.6) is.8 (served_of_input is.0 is.1 is.4 is.6)
-verdict_of_input told (Join profile script at server) verdict is =
+verdict_of_input told (Join profile script at server) verdict other is =
     node_of_input verdict (names_by (profile_in is.0) profile script) at (joined server is.0 is.1 is.4 is.6) is.8 (joined_of_input server is.0 is.1 is.4 is.6)
-verdict_of_input told (Play profile demo) verdict is =
+verdict_of_input told (Play profile demo) verdict other is =
     subst (λ (v : Verdict). OfInput v.ending) (sym is.4) (demo_of_input (names_by (profile_in is.0) profile demo) (played is.0 is.1) (played_of_input is.0 is.1))
+verdict_of_input told (Index profile demo index) verdict other is = absurd other
+verdict_of_input told (Seek profile demo index records) verdict other is =
+    seek_of_input told.files (profile_in is.0) profile demo index records verdict (profile_of_input is.0) is.2
+
+-- that of an index may be of a file that can't be written, where files tell nothing
+abbrev OfBuild : Fault → Type 0
+OfBuild faults.Usage = ⊥
+OfBuild faults.Write = ⊥
+OfBuild faults.Wire = ⊥
+OfBuild other = Unit {0}
+
+abbrev OfBuilt : Result (Unit {0}) Fault → Type 0
+OfBuilt (Ok x) = Unit {0}
+OfBuilt (Err e) = OfBuild e
+
+build_of_fault : (e : DemoError) → OfBuild (build_fault e)
+build_of_fault demo.ReadFault = tt
+build_of_fault demo.NoMemory = tt
+build_of_fault demo.WriteFault = tt
+build_of_fault (demo.Truncated at) = tt
+build_of_fault (demo.BadLength at) = tt
+build_of_fault (demo.BadNumber at) = tt
+build_of_fault (demo.Message at cause) = tt
+
+weaker : (e : Fault) → OfFault e → OfBuild e
+weaker faults.Usage so = so
+weaker faults.Write so = so
+weaker faults.Wire so = so
+weaker other so = tt
+
+weaker_end : (ending : Result (Unit {0}) Fault) → OfInput ending → OfBuilt ending
+weaker_end (Ok x) so = tt
+weaker_end (Err e) so = weaker e so
+
+indexed_of_input : (names : List (List ℕ)) (index : List ℕ) (answer : Result Indexing DemoError) → OfBuilt (demo_indexed names index answer).ending
+indexed_of_input names index (Ok made) = tt
+indexed_of_input names index (Err e) = build_of_fault e
+
+index_of_input : (told : Option Told) (says : Result ProfileValue Fault) (profile demo index : List ℕ) (verdict : Verdict) → OfInput says → IsIndexed told says profile demo index verdict
+    → OfBuilt verdict.ending
+index_of_input told (Ok by) profile demo index verdict so is = subst (λ (v : Verdict). OfBuilt v.ending) (sym is.2) (indexed_of_input (profile ∷ demo ∷ []) index is.0)
+index_of_input told (Err cause) profile demo index verdict so is = subst (λ (v : Verdict). OfBuilt v.ending) (sym is) (weaker cause so)
+
+verdict_of_build : (told : Outside) (command : Command) (verdict : Verdict) → IsVerdict told (Some command) verdict → OfBuilt verdict.ending
+verdict_of_build told (Index profile demo index) verdict is = index_of_input told.files (profile_in is.0) profile demo index verdict (profile_of_input is.0) is.2
+verdict_of_build told other verdict is = weaker_end verdict.ending (verdict_of_input told other verdict tt is)
+
+never_built : (told : Outside) (command : Command) (verdict : Verdict) (fault : Fault) → IsVerdict told (Some command) verdict → (OfBuild fault → ⊥) → verdict.ending ≡ Err fault → ⊥
+never_built told command verdict fault is other ends = other (subst (λ (e : Result (Unit {0}) Fault). OfBuilt e) ends (verdict_of_build told command verdict is))
 
 -- so a fault that no input decides isn't its ending
-not_decided : (told : Outside) (command : Command) (verdict : Verdict) (fault : Fault) → IsVerdict told (Some command) verdict → (OfFault fault → ⊥) → verdict.ending ≡ Err fault → ⊥
-not_decided told command verdict fault is other ends = other (subst (λ (e : Result (Unit {0}) Fault). OfInput e) ends (verdict_of_input told command verdict is))
+not_decided : (told : Outside) (command : Command) (verdict : Verdict) (fault : Fault) → IsOther command → IsVerdict told (Some command) verdict → (OfFault fault → ⊥) → verdict.ending ≡ Err fault → ⊥
+not_decided told command verdict fault plain is other ends = other (subst (λ (e : Result (Unit {0}) Fault). OfInput e) ends (verdict_of_input told command verdict plain is))
 
 -- ---- what doesn't come
 
@@ -192,13 +308,13 @@ no_wire verdict stops names answer is none comes = none (settled_wire stops name
 
 pub make_makes_nothing : (told : Outside) (draws : Draws) → Never (Some (Make draws)) told faults.FileWrite
 make_makes_nothing told draws verdict is = (
-  not_decided told (Make draws) verdict faults.FileWrite is (λ none. none),
+  not_decided told (Make draws) verdict faults.FileWrite tt is (λ none. none),
   no_writes verdict takes_memory [] (Ok (script_text (generated draws.number draws.seed))) is (λ none. none),
 )
 
 pub trial_makes_nothing : (told : Outside) (profile : List ℕ) (draws : Draws) → Never (Some (Trial profile draws)) told faults.FileWrite
 trial_makes_nothing told profile draws verdict is = (
-  not_decided told (Trial profile draws) verdict faults.FileWrite is (λ none. none),
+  not_decided told (Trial profile draws) verdict faults.FileWrite tt is (λ none. none),
   no_writes verdict reads_first (profile ∷ []) (tried is.0 draws) is.2 (λ none. none),
 )
 
@@ -208,7 +324,7 @@ demo_writes names (Err e) comes = comes
 
 pub play_makes_nothing : (told : Outside) (profile demo : List ℕ) → Never (Some (Play profile demo)) told faults.FileWrite
 play_makes_nothing told profile demo verdict is = (
-  not_decided told (Play profile demo) verdict faults.FileWrite is (λ none. none),
+  not_decided told (Play profile demo) verdict faults.FileWrite tt is (λ none. none),
   λ comes. demo_writes (names_by (profile_in is.0) profile demo) (played is.0 is.1) (subst (λ (v : Verdict). Comes v.stops.writes) is.4 comes),
 )
 
@@ -219,9 +335,38 @@ demo_wire names (Err e) comes = comes
 
 pub play_wires_nothing : (told : Outside) (profile demo : List ℕ) → Never (Some (Play profile demo)) told faults.Wire
 play_wires_nothing told profile demo verdict is = (
-  not_decided told (Play profile demo) verdict faults.Wire is (λ none. none),
+  not_decided told (Play profile demo) verdict faults.Wire tt is (λ none. none),
   λ comes. demo_wire (names_by (profile_in is.0) profile demo) (played is.0 is.1) (subst (λ (v : Verdict). Comes v.stops.wire) is.4 comes),
 )
+
+-- an index is made over files alone
+index_wire : (names : List (List ℕ)) (index : List ℕ) (answer : Result Indexing DemoError) → Comes (demo_indexed names index answer).stops.wire → ⊥
+index_wire names index (Ok made) comes = comes
+index_wire names index (Err e) comes = comes
+
+by_index_wire : (told : Option Told) (says : Result ProfileValue Fault) (profile demo index : List ℕ) (verdict : Verdict) → IsIndexed told says profile demo index verdict → Comes verdict.stops.wire → ⊥
+by_index_wire told (Ok by) profile demo index verdict is comes = index_wire (profile ∷ demo ∷ []) index is.0 (subst (λ (v : Verdict). Comes v.stops.wire) is.2 comes)
+by_index_wire told (Err cause) profile demo index verdict is comes = subst (λ (v : Verdict). Comes v.stops.wire) is comes
+
+pub index_wires_nothing : (told : Outside) (profile demo index : List ℕ) → Never (Some (Index profile demo index)) told faults.Wire
+index_wires_nothing told profile demo index verdict is =
+    (never_built told (Index profile demo index) verdict faults.Wire is (λ none. none), by_index_wire told.files (profile_in is.0) profile demo index verdict is.2)
+
+-- and sought in
+seek_stops : (told : Option Told) (says : Result ProfileValue Fault) (profile demo index : List ℕ) (number : ℕ) (verdict : Verdict) → IsSoughtBy told says profile demo index number verdict
+    → (Comes verdict.stops.wire → ⊥) × (Comes verdict.stops.writes → ⊥)
+seek_stops told (Ok by) profile demo index number verdict is =
+    (no_wire verdict all_first (profile ∷ demo ∷ index ∷ []) is.0 is.2 (λ none. none), no_writes verdict all_first (profile ∷ demo ∷ index ∷ []) is.0 is.2 (λ none. none))
+seek_stops told (Err cause) profile demo index number verdict is =
+    (λ comes. subst (λ (v : Verdict). Comes v.stops.wire) is comes, λ comes. subst (λ (v : Verdict). Comes v.stops.writes) is comes)
+
+pub seek_wires_nothing : (told : Outside) (profile demo index : List ℕ) (number : ℕ) → Never (Some (Seek profile demo index number)) told faults.Wire
+seek_wires_nothing told profile demo index number verdict is =
+    (not_decided told (Seek profile demo index number) verdict faults.Wire tt is (λ none. none), (seek_stops told.files (profile_in is.0) profile demo index number verdict is.2).0)
+
+pub seek_makes_nothing : (told : Outside) (profile demo index : List ℕ) (number : ℕ) → Never (Some (Seek profile demo index number)) told faults.FileWrite
+seek_makes_nothing told profile demo index number verdict is =
+    (not_decided told (Seek profile demo index number) verdict faults.FileWrite tt is (λ none. none), (seek_stops told.files (profile_in is.0) profile demo index number verdict is.2).1)
 
 done_wire : (names : List (List ℕ)) (answer : Result Schedule Fault) → Comes (replay_done names answer).stops.wire → ⊥
 done_wire names (Ok replay) comes = comes
@@ -229,19 +374,19 @@ done_wire names (Err e) comes = comes
 
 pub replay_wires_nothing : (told : Outside) (profile script : List ℕ) → Never (Some (Replay profile script)) told faults.Wire
 replay_wires_nothing told profile script verdict is = (
-  not_decided told (Replay profile script) verdict faults.Wire is (λ none. none),
+  not_decided told (Replay profile script) verdict faults.Wire tt is (λ none. none),
   λ comes. done_wire (names_by (profile_in is.0) profile script) (replayed is.0 is.1) (subst (λ (v : Verdict). Comes v.stops.wire) is.4 comes),
 )
 
 pub make_wires_nothing : (told : Outside) (draws : Draws) → Never (Some (Make draws)) told faults.Wire
 make_wires_nothing told draws verdict is = (
-  not_decided told (Make draws) verdict faults.Wire is (λ none. none),
+  not_decided told (Make draws) verdict faults.Wire tt is (λ none. none),
   no_wire verdict takes_memory [] (Ok (script_text (generated draws.number draws.seed))) is (λ none. none),
 )
 
 pub trial_wires_nothing : (told : Outside) (profile : List ℕ) (draws : Draws) → Never (Some (Trial profile draws)) told faults.Wire
 trial_wires_nothing told profile draws verdict is = (
-  not_decided told (Trial profile draws) verdict faults.Wire is (λ none. none),
+  not_decided told (Trial profile draws) verdict faults.Wire tt is (λ none. none),
   no_wire verdict reads_first (profile ∷ []) (tried is.0 draws) is.2 (λ none. none),
 )
 
@@ -260,9 +405,16 @@ make_reads_nothing told draws verdict is = (
 usage_alone : (ending : Result (Unit {0}) Fault) → ending ≡ Err faults.Usage → ending ≡ Err faults.FileWrite → ⊥
 usage_alone ending usage ends = cc
 
-no_verdict_fails : (told : Outside) (command : Option Command) (verdict : Verdict) → IsVerdict told command verdict → verdict.ending ≡ Err faults.FileWrite → ⊥
-no_verdict_fails told None verdict is ends = usage_alone verdict.ending (ap (λ (v : Verdict). v.ending) is) ends
-no_verdict_fails told (Some command) verdict is ends = not_decided told command verdict faults.FileWrite is (λ none. none) ends
+index_may_fail : (told : Option Told) (says : Result ProfileValue Fault) (profile demo index : List ℕ) (verdict : Verdict) → OfInput says → IsIndexed told says profile demo index verdict
+    → verdict.ending ≡ Err faults.FileWrite → Comes verdict.stops.writes
+index_may_fail told (Ok by) profile demo index verdict so is ends = subst (λ (v : Verdict). Comes v.stops.writes) (sym is.2) (indexed_writes (profile ∷ demo ∷ []) index is.0)
+index_may_fail told (Err cause) profile demo index verdict so is ends =
+    absurd (subst (λ (e : Result (Unit {0}) Fault). OfInput e) ends (subst (λ (v : Verdict). OfInput v.ending) (sym is) so))
+
+verdict_fails : (told : Outside) (command : Option Command) (verdict : Verdict) → IsVerdict told command verdict → verdict.ending ≡ Err faults.FileWrite → Comes verdict.stops.writes
+verdict_fails told None verdict is ends = absurd (usage_alone verdict.ending (ap (λ (v : Verdict). v.ending) is) ends)
+verdict_fails told (Some (Index profile demo index)) verdict is ends = index_may_fail told.files (profile_in is.0) profile demo index verdict (profile_of_input is.0) is.2 ends
+verdict_fails told (Some other) verdict is ends = absurd (not_decided told other verdict faults.FileWrite tt is (λ none. none) ends)
 
 -- a write of a file may fail
 files_come : (command : Option Command) (told : Outside) (old now : Option Written) → Executes command told old now (Err faults.FileWrite)
@@ -272,7 +424,7 @@ files_come command told old now executes = (
   executes.1,
   elim executes.2 [
     | inl ends ↦ elim ends.1 [
-      | inl said ↦ absurd (no_verdict_fails told command executes.0 executes.1 (sym said.0))
+      | inl said ↦ verdict_fails told command executes.0 executes.1 (sym said.0)
       | inr stopped ↦ comes_behind executes.0.stops.writes ends.0 executes.0.text
           (subst (λ (f : Fault). ComesBehind (place_of executes.0.stops f) ends.0 executes.0.text) (same_fault (Err faults.FileWrite) stopped.0 faults.FileWrite stopped.1 refl) stopped.2)
     ]
@@ -367,7 +519,7 @@ usage_of_none None told old now ended status mid last executes ends two = refl
 usage_of_none (Some command) told old now ended status mid last executes ends two =
     absurd (elim ends [
       | inl same ↦ never_ended (Some command) told old now ended faults.Usage (λ is. cc)
-          (λ verdict is. (not_decided told command verdict faults.Usage is (λ none. none), λ comes. comes)) executes (two_is_usage ended (sym same.0 ∙ two))
+          (λ verdict is. (never_built told command verdict faults.Usage is (λ none. none), λ comes. comes)) executes (two_is_usage ended (sym same.0 ∙ two))
       | inr failed ↦ omega (arith, failed.0, two)
     ])
 
@@ -391,6 +543,18 @@ demo_nowhere : (verdict : Verdict) (names : List (List ℕ)) (answer : Result de
 demo_nowhere verdict names (Ok play) is = ap (λ (v : Verdict). v.at) is
 demo_nowhere verdict names (Err e) is = ap (λ (v : Verdict). v.at) is
 
+index_nowhere : (names : List (List ℕ)) (index : List ℕ) (answer : Result Indexing DemoError) → (demo_indexed names index answer).at ≡ None
+index_nowhere names index (Ok made) = refl
+index_nowhere names index (Err e) = refl
+
+by_index_nowhere : (told : Option Told) (says : Result ProfileValue Fault) (profile demo index : List ℕ) (verdict : Verdict) → IsIndexed told says profile demo index verdict → verdict.at ≡ None
+by_index_nowhere told (Ok by) profile demo index verdict is = ap (λ (v : Verdict). v.at) is.2 ∙ index_nowhere (profile ∷ demo ∷ []) index is.0
+by_index_nowhere told (Err cause) profile demo index verdict is = ap (λ (v : Verdict). v.at) is
+
+by_seek_nowhere : (told : Option Told) (says : Result ProfileValue Fault) (profile demo index : List ℕ) (number : ℕ) (verdict : Verdict) → IsSoughtBy told says profile demo index number verdict → verdict.at ≡ None
+by_seek_nowhere told (Ok by) profile demo index number verdict is = settled_nowhere verdict all_first (profile ∷ demo ∷ index ∷ []) is.0 is.2
+by_seek_nowhere told (Err cause) profile demo index number verdict is = ap (λ (v : Verdict). v.at) is
+
 binds_nothing : (told : Outside) (command : Option Command) (verdict : Verdict) → IsNodeless command → IsVerdict told command verdict → verdict.at ≡ None
 binds_nothing told None verdict nodeless is = settled_nowhere verdict stops_nowhere [] (Err faults.Usage) is
 binds_nothing told (Some Help) verdict nodeless is = settled_nowhere verdict stops_nowhere [] (Ok help_text) is
@@ -400,6 +564,8 @@ binds_nothing told (Some (Replay profile script)) verdict nodeless is =
 binds_nothing told (Some (Make draws)) verdict nodeless is = settled_nowhere verdict takes_memory [] (Ok (script_text (generated draws.number draws.seed))) is
 binds_nothing told (Some (Trial profile draws)) verdict nodeless is = settled_nowhere verdict reads_first (profile ∷ []) (tried is.0 draws) is.2
 binds_nothing told (Some (Play profile demo)) verdict nodeless is = demo_nowhere verdict (names_by (profile_in is.0) profile demo) (played is.0 is.1) is.4
+binds_nothing told (Some (Index profile demo index)) verdict nodeless is = by_index_nowhere told.files (profile_in is.0) profile demo index verdict is.2
+binds_nothing told (Some (Seek profile demo index number)) verdict nodeless is = by_seek_nowhere told.files (profile_in is.0) profile demo index number verdict is.2
 binds_nothing told (Some (Serve profile script at)) verdict nodeless is = absurd nodeless
 binds_nothing told (Some (Join profile script at server)) verdict nodeless is = absurd nodeless
 
@@ -438,14 +604,12 @@ pub no_wire_passed : (ended : Result (Unit {0}) Fault) (status mid last wires wi
 no_wire_passed ended status mid last wires wired cause ends =
     elim ends [ inl same ↦ wire_passed ended status wires wired cause same.0 | inr failed ↦ inr (inr failed.0) ]
 
-status_in : (ended : Result (Unit {0}) Fault) (status : ℕ) → status ≡ ending_status ended → (status ≤ 7) ⊎ ((status ≡ 9) ⊎ (status ≡ 11))
-status_in (Err faults.Wire) status is = inr (inl is)
-status_in (Err faults.Turns) status is = inr (inr is)
-status_in other status is = inl (omega (arith, is))
+status_in : (ended : Result (Unit {0}) Fault) (status : ℕ) → status ≡ ending_status ended → status ≤ 11
+status_in (Err faults.Turns) status is = omega (arith, is)
+status_in other status is = omega (arith, is)
 
-pub statuses_in : (ended : Result (Unit {0}) Fault) (status mid last : ℕ) → EndsSo mid last ended status → (status ≤ 7) ⊎ ((status ≡ 9) ⊎ (status ≡ 11))
-statuses_in ended status mid last ends =
-    elim ends [ inl same ↦ status_in ended status same.0 | inr failed ↦ inl (omega (arith, failed.0)) ]
+pub statuses_in : (ended : Result (Unit {0}) Fault) (status mid last : ℕ) → EndsSo mid last ended status → status ≤ 11
+statuses_in ended status mid last ends = elim ends [ inl same ↦ status_in ended status same.0 | inr failed ↦ omega (arith, failed.0) ]
 
 -- ---- what decides the status
 

@@ -95,7 +95,7 @@ HasRead-long most (Some told) now file bytes long has = (
 pub given_name : (told : Told) (name : List ℕ) → contents_at (after_given (after_named told name Lookup) name) (length told.numbers) ≡ unwrap_or (contents_of told.files name) []
 given_name told name = ap (λ (n : List ℕ). unwrap_or (contents_of told.files n) []) (get_or-append_seam told.numbers name [] [])
 
-some_held : (found : Option (List ℕ)) → IsSome found → found ≡ Some (unwrap_or found [])
+pub some_held : (found : Option (List ℕ)) → IsSome found → found ≡ Some (unwrap_or found [])
 some_held None is = absurd (let e : false ≡ true = is in cc)
 some_held (Some x) is = refl
 

@@ -17,10 +17,9 @@ use Rattle.q3net.specs.declared.fault.Fault.{Fault}
 use Rattle.q3net.specs.declared.fault.Fault.TheVariants as faults
 use Rattle.q3net.specs.Faults.{demo_fault}
 
--- ---- what an input decides: no want of memory, no failed write, no fault of the wire, and not that the words are no command line
+-- ---- what an input decides: no failed write, no fault of the wire, and not that the words are no command line
 
 abbrev pub OfFault : Fault → Type 0
-OfFault faults.NoMemory = ⊥
 OfFault faults.Usage = ⊥
 OfFault faults.Write = ⊥
 OfFault faults.FileWrite = ⊥
@@ -40,7 +39,7 @@ OfDemo demo.ReadFault = ⊥
 OfDemo demo.WriteFault = ⊥
 OfDemo other = Unit {0}
 
-abbrev Refuses : {A : Type 0} → Result A DemoError → Type 0
+abbrev pub Refuses : {A : Type 0} → Result A DemoError → Type 0
 Refuses (Ok x) = Unit {0}
 Refuses (Err e) = OfDemo e
 
@@ -100,5 +99,9 @@ of_input (Err (demo.BadLength at)) so = tt
 of_input (Err (demo.BadNumber at)) so = tt
 of_input (Err (demo.Message at cause)) so = tt
 
+-- a demo that is played ends with no want of memory and no fault
+pub all_refuses : (by : Profile) (bytes : List ℕ) → Refuses (play_of by bytes).ending
+all_refuses by bytes = from_refuses most_records bytes (unplayed by)
+
 pub play_refuses : (by : Profile) (bytes : List ℕ) → OfInput (result_map_both (λ x. x) demo_fault (play_of by bytes).ending)
-play_refuses by bytes = of_input (play_of by bytes).ending (from_refuses most_records bytes (unplayed by))
+play_refuses by bytes = of_input (play_of by bytes).ending (all_refuses by bytes)

@@ -56,7 +56,7 @@ seek_fault seeking.NoMemory = NoMemory
 seek_fault seeking.ReadFault = Read
 seek_fault (seeking.NotIndex place) = Index (opening.NotIndex place)
 seek_fault (seeking.PastEnd records) = PastEnd records
-seek_fault (seeking.Demo e) = demo_fault e
+seek_fault (seeking.Demo e) = Demo e
 
 abbrev pub step_fault : StepError → Fault
 step_fault step.NoMemory = NoMemory

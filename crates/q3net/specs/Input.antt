@@ -2,6 +2,7 @@
 use Rattle.std.specs.Prelude.{◌≡◌, ◌⊎◌, ℕ, ◌≤◌, List, [], ◌∷◌, ◌++◌, length, map, Option, Some, None, Result, Ok, Err}
 use Rattle.std.specs.Global.{Vec}
 use Rattle.q3_demo.specs.Running.{HasFrom}
+use Rattle.q3_io.specs.declared.sink.Failed.{Failed}
 use Rattle.q3_io.specs.Acts.{FileAct, Makes, Extends, after_acts}
 use Rattle.q3_io.specs.Told.{Told, Named, Lookup, Create, contents_of, contents_at}
 use Rattle.q3net.specs.declared.fault.Fault.{Fault}
@@ -36,6 +37,11 @@ ReadsFile most name told (Err e) = (e ≡ NoMemory) ⊎ (e ≡ Read)
 abbrev pub Finds : List ℕ → Option Told → Option Told → Result ℕ Fault → Type 0
 Finds name told now (Ok file) = (contents : List ℕ) → HasFrom now file 0 contents → Holds told name (Some contents)
 Finds name told now (Err e) = e ≡ Read
+
+-- a call of files that answers a number, its fault aside
+abbrev pub as_told : Result ℕ Fault → Result ℕ Failed
+as_told (Ok file) = Ok file
+as_told (Err e) = Err (record {})
 
 -- of a file that was looked up: what is asked for grows, and nothing else changes
 abbrev pub ReadsWhole : ℕ → List ℕ → Result (List ℕ) Fault → Type 0

@@ -183,19 +183,32 @@ HasLeft command told now status =
     × (LeavesTold told.files now verdict.named verdict.acts
     ⊎ ((fault : Fault) × IsOutside fault × (status ≡ fault_status fault) × LeavesFirst told.files now verdict.named verdict.acts))
 
--- by the index that was made of a demo, by the same profile, what so many of its records leave is what playing them leaves, and is printed; only
--- want of memory, a read that fails and a write that does come before that
+-- what so many of a demo's records leave is what playing them leaves, and is printed; only want of memory, a read that fails and a write that
+-- does come before that
 abbrev pub IsSought : ProfileValue → List ℕ → ℕ → Option Written → Option Written → ℕ → Type 0
 IsSought by demo records old now status =
     ((status ≡ 0) × (played : Played) × (play_state by demo records ≡ Ok played) × HandsOn old now (state_text played.state records))
     ⊎ ((status ≡ 1) ⊎ ((status ≡ 3) ⊎ (status ≡ 4)))
 
-abbrev pub SeeksAsPlays : Option Command → Outside → Option Written → Option Written → ℕ → Type 0
-SeeksAsPlays (Some (Seek profile demo index records)) told old now status =
+-- where a command seeks by the index that was made of a demo, by the same profile
+abbrev pub OfMadeIndex : Option Command → Outside → (ProfileValue → List ℕ → ℕ → Type 0) → Type 0
+OfMadeIndex (Some (Seek profile demo index records)) told So =
     (files : Told) (by : ProfileValue) (bytes made : List ℕ) → told.files ≡ Some files → profile_in (contents_of files.files profile) ≡ Ok by
     → contents_of files.files demo ≡ Some bytes → contents_of files.files index ≡ Some made → length bytes < 2 ^ 64 → index_of by bytes ≡ Ok made
-    → records ≤ length (records_of by bytes) → IsSought by bytes records old now status
-SeeksAsPlays command told old now status = ⊤
+    → records ≤ length (records_of by bytes) → So by bytes records
+OfMadeIndex command told So = ⊤
+
+abbrev pub SeeksAsPlays : Option Command → Outside → Option Written → Option Written → ℕ → Type 0
+SeeksAsPlays command told old now status = OfMadeIndex command told (λ by bytes records. IsSought by bytes records old now status)
+
+-- so the command prints that text, or ends before it
+abbrev pub EndsSought : ProfileValue → List ℕ → ℕ → Option Written → Option Written → Result (Unit {0}) Fault → Type 0
+EndsSought by demo records old now ended =
+    ((played : Played) × (play_state by demo records ≡ Ok played) × PrintsAll (state_text played.state records) old now ended)
+    ⊎ ((ended ≡ Err NoMemory) ⊎ (ended ≡ Err Read))
+
+abbrev pub EndsAsPlays : Option Command → Outside → Option Written → Option Written → Result (Unit {0}) Fault → Type 0
+EndsAsPlays command told old now ended = OfMadeIndex command told (λ by bytes records. EndsSought by bytes records old now ended)
 
 -- the names of the command's words are looked up, once each and in this order, and then the files that the verdict makes are created, or
 -- the first of these; its acts are done, or the first of them, and every other file stays

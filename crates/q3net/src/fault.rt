@@ -413,7 +413,7 @@ impl From<SeekError> for Fault {
             SeekError::ReadFault => Fault::Read,
             SeekError::NotIndex(place) => Fault::Index(IndexError::NotIndex(place)),
             SeekError::PastEnd(records) => Fault::PastEnd(records),
-            SeekError::Demo(e) => Fault::from(e),
+            SeekError::Demo(e) => Fault::Demo(e),
         }
     }
 }

@@ -1,11 +1,12 @@
 //! Reads a file whole, up to a limit: a profile, or a script.
 
-ghost use Rattle.std.specs.Prelude.{◌≡◌, ◌+◌, ◌<◌, ◌≤◌, ◌^◌, [], ◌∷◌, All, length, IfOk};
+ghost use Rattle.std.specs.Prelude.{◌≡◌, ◌+◌, ◌<◌, ◌≤◌, ◌^◌, [], ◌∷◌, All, length, IfOk, OnOk};
+ghost use Rattle.q3_io.specs.Told.{LooksUp};
 ghost use Rattle.q3_profile.specs.Profile.{IsProfile};
 ghost use Rattle.q3_script.specs.Grammar.{IsEventOf, AreOrdered};
 ghost use Rattle.q3_script.specs.Script.{most_events};
 ghost use Rattle.q3net.specs.Faults.{ReadCause};
-ghost use Rattle.q3net.specs.Input.{ReadsFile, ReadsPieces, Finds, Gives, with_items};
+ghost use Rattle.q3net.specs.Input.{ReadsFile, ReadsPieces, Finds, Gives, as_told, with_items};
 ghost use Rattle.q3net.specs.Verdict.{GetsFrom, profile_in, events_in, with_events};
 
 use crate::fault::Fault;
@@ -57,6 +58,8 @@ pub fn load_events<F: Files>(
 /// The number of the file of this name. `Read` comes where the files' count of faults rose.
 pub fn find_file<F: Files>(name: &str, files: &mut F) -> Result<usize, Fault>
     ensures given { IfOk result (λ file. file < F.given files.new) }
+    ensures more { OnOk result (F.given files.old ≤ F.given files.new) }
+    ensures looks { LooksUp (F.told files.old) (F.told files.new) name.now (as_told result) }
     ensures finds { Finds name.now (F.told files.old) (F.told files.new) result }
     ensures gives { Gives result (name.now ∷ []) (F.told files.old) (F.told files.new) }
     ensures cause { ReadCause (F.faults files.old) (F.faults files.new) result }

@@ -8,7 +8,7 @@ ghost use Rattle.q3net.specs.Command.{command_of};
 ghost use Rattle.q3net.specs.Faults.{ReadCause, WriteCause, FileCause, WireCause};
 ghost use Rattle.q3net.specs.Lines.{fault_line, ending_line, ending_status};
 ghost use Rattle.q3net.specs.Verdict.{outside};
-ghost use Rattle.q3net.specs.Run.{PrintsAll, SeeksAsPlays, left_so, ExecutesWired, Took, Prints, Reports, FilesFail, IsDecided, IsComplete, HasLeft, Touched, LeavesFiles, MayBind, Settles};
+ghost use Rattle.q3net.specs.Run.{PrintsAll, SeeksAsPlays, EndsAsPlays, left_so, ExecutesWired, Took, Prints, Reports, FilesFail, IsDecided, IsComplete, HasLeft, Touched, LeavesFiles, MayBind, Settles};
 
 use crate::command::{Command, parse};
 use crate::demos::{index, play, seek};
@@ -100,6 +100,7 @@ fn execute<F: Files, W: Wire, C: Clock, O: Sink>(
 ) -> Result<(), Fault>
     requires unbound { W.bound wire.old ≡ false }
     ensures executes { ExecutesWired (command_of (map string_bytes words.now)) (outside (F.told files.old) (W.told wire.old) (C.readings clock.old)) (O.written out.old) (O.written out.new) (left_so (W.told wire.new) (F.told files.new)) result }
+    ensures sought { EndsAsPlays (command_of (map string_bytes words.now)) (outside (F.told files.old) (W.told wire.old) (C.readings clock.old)) (O.written out.old) (O.written out.new) result }
     ensures gives { LeavesFiles (command_of (map string_bytes words.now)) (outside (F.told files.old) (W.told wire.old) (C.readings clock.old)) (F.told files.new) result }
     ensures file_cause { FileCause (F.write_faults files.old) (F.write_faults files.new) result }
     ensures read_cause { ReadCause (F.faults files.old) (F.faults files.new) result }

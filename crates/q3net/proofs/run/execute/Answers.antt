@@ -1,12 +1,12 @@
 use Rattle.std.proofs.Common.{Some, None, [], refl}
 use Rattle.q3_make.specs.Printed.{script_text}
 use Rattle.q3_make.specs.Generated.{generated}
-use Rattle.q3net.specs.Command.{Help, Version, Replay, Make, Trial, Play}
+use Rattle.q3net.specs.Command.{Help, Version, Replay, Make, Trial, Play, Index, Seek}
 use Rattle.q3net.specs.Lines.{help_text, version_text}
 use Rattle.q3net.specs.Verdict.{outside, of_files, stops_nowhere, takes_memory}
 use Rattle.q3net.proofs.Ending.{none_executes, text_executes}
 use Rattle.q3net.proofs.Looking.{none_given, text_given}
-use Rattle.q3net.proofs.Outside.{no_file_fails, no_read_fails, no_wire_fails, wire_stays, make_makes_nothing, trial_makes_nothing, play_makes_nothing, play_wires_nothing, replay_wires_nothing, make_wires_nothing, trial_wires_nothing, make_reads_nothing}
+use Rattle.q3net.proofs.Outside.{no_file_fails, no_read_fails, no_wire_fails, wire_stays, make_makes_nothing, trial_makes_nothing, play_makes_nothing, play_wires_nothing, replay_wires_nothing, make_wires_nothing, trial_wires_nothing, make_reads_nothing, index_wires_nothing, seek_wires_nothing, seek_makes_nothing}
 use Rattle.q3net.proofs.run.execute.Goals as goal
 
 pub returns-in-None-clause-gives : goal.returns-in-None-clause-gives
@@ -104,3 +104,28 @@ pub returns-in-Some-Play-clause-executes : goal.returns-in-Some-Play-clause-exec
 returns-in-Some-Play-clause-executes g c =
     let e = rw c.in-Some-Play.field-0-is at c.in-Some-Play.ensures.value in
     rw (← e) (wire_stays (Some (Play c.in-Some-Play.profile.now c.in-Some-Play.demo.now)) (outside (g.F.Files.told c.args.files.now) (g.W.Wire.told c.args.wire.now) (g.C.Clock.readings c.args.clock.now)) (g.O.Sink.written c.args.out.now) (g.O.Sink.written c.play.new.out) c.play.result tt c.play.ensures.executes)
+
+pub returns-in-Some-Index-clause-wire_cause : goal.returns-in-Some-Index-clause-wire_cause
+returns-in-Some-Index-clause-wire_cause g c =
+    no_wire_fails (Some (Index c.in-Some-Index.profile.now c.in-Some-Index.demo.now c.in-Some-Index.name.now)) (of_files (g.F.Files.told c.args.files.now)) (g.O.Sink.written c.args.out.now) (g.O.Sink.written c.index.new.out) c.index.result (g.W.Wire.faults c.args.wire.now) (g.W.Wire.faults c.args.wire.now)
+    (index_wires_nothing (of_files (g.F.Files.told c.args.files.now)) c.in-Some-Index.profile.now c.in-Some-Index.demo.now c.in-Some-Index.name.now) c.index.ensures.executes refl
+
+pub returns-in-Some-Index-clause-executes : goal.returns-in-Some-Index-clause-executes
+returns-in-Some-Index-clause-executes g c =
+    let e = rw c.in-Some-Index.field-0-is at c.in-Some-Index.ensures.value in
+    rw (← e) (wire_stays (Some (Index c.in-Some-Index.profile.now c.in-Some-Index.demo.now c.in-Some-Index.name.now)) (outside (g.F.Files.told c.args.files.now) (g.W.Wire.told c.args.wire.now) (g.C.Clock.readings c.args.clock.now)) (g.O.Sink.written c.args.out.now) (g.O.Sink.written c.index.new.out) c.index.result tt c.index.ensures.executes)
+
+pub returns-in-Some-Seek-clause-file_cause : goal.returns-in-Some-Seek-clause-file_cause
+returns-in-Some-Seek-clause-file_cause g c =
+    no_file_fails (Some (Seek c.in-Some-Seek.profile.now c.in-Some-Seek.demo.now c.in-Some-Seek.name.now c.in-Some-Seek.records)) (of_files (g.F.Files.told c.args.files.now)) (g.O.Sink.written c.args.out.now) (g.O.Sink.written c.seek.new.out) c.seek.result
+    (g.F.Files.write_faults c.args.files.now) (g.F.Files.write_faults c.seek.new.files) (seek_makes_nothing (of_files (g.F.Files.told c.args.files.now)) c.in-Some-Seek.profile.now c.in-Some-Seek.demo.now c.in-Some-Seek.name.now c.in-Some-Seek.records) c.seek.ensures.executes c.seek.ensures.writes
+
+pub returns-in-Some-Seek-clause-wire_cause : goal.returns-in-Some-Seek-clause-wire_cause
+returns-in-Some-Seek-clause-wire_cause g c =
+    no_wire_fails (Some (Seek c.in-Some-Seek.profile.now c.in-Some-Seek.demo.now c.in-Some-Seek.name.now c.in-Some-Seek.records)) (of_files (g.F.Files.told c.args.files.now)) (g.O.Sink.written c.args.out.now) (g.O.Sink.written c.seek.new.out) c.seek.result (g.W.Wire.faults c.args.wire.now) (g.W.Wire.faults c.args.wire.now)
+    (seek_wires_nothing (of_files (g.F.Files.told c.args.files.now)) c.in-Some-Seek.profile.now c.in-Some-Seek.demo.now c.in-Some-Seek.name.now c.in-Some-Seek.records) c.seek.ensures.executes refl
+
+pub returns-in-Some-Seek-clause-executes : goal.returns-in-Some-Seek-clause-executes
+returns-in-Some-Seek-clause-executes g c =
+    let e = rw c.in-Some-Seek.field-0-is at c.in-Some-Seek.ensures.value in
+    rw (← e) (wire_stays (Some (Seek c.in-Some-Seek.profile.now c.in-Some-Seek.demo.now c.in-Some-Seek.name.now c.in-Some-Seek.records)) (outside (g.F.Files.told c.args.files.now) (g.W.Wire.told c.args.wire.now) (g.C.Clock.readings c.args.clock.now)) (g.O.Sink.written c.args.out.now) (g.O.Sink.written c.seek.new.out) c.seek.result tt c.seek.ensures.executes)

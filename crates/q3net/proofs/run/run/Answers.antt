@@ -7,6 +7,7 @@ use Rattle.q3net.specs.Verdict.{outside}
 use Rattle.q3net.proofs.Ending.{prints, reports}
 use Rattle.q3net.proofs.Looking.{touches, has_left}
 use Rattle.q3net.proofs.Outside.{executes_of, files_failed, usage_of_none, four_fails, completes, decides, no_command_so, nine_fails, no_wire_passed, statuses_in}
+use Rattle.q3net.proofs.SoughtPlays.{seeks_as}
 use Rattle.q3net.proofs.run.run.Goals as goal
 
 pub returns-clause-prints : goal.returns-clause-prints
@@ -33,6 +34,11 @@ pub returns-clause-writes : goal.returns-clause-writes
 returns-clause-writes g c =
     files_failed (command_of (map string_bytes c.args.words.now)) (outside (g.F.Files.told c.args.files.now) (g.W.Wire.told c.args.wire.now) (g.C.Clock.readings c.args.clock.now)) (g.O.Sink.written c.args.out.now) (g.O.Sink.written c.execute-ended.new.out) c.execute-ended.result
     (g.F.Files.write_faults c.args.files.now) (g.F.Files.write_faults c.execute-ended.new.files) (executes_of (command_of (map string_bytes c.args.words.now)) (outside (g.F.Files.told c.args.files.now) (g.W.Wire.told c.args.wire.now) (g.C.Clock.readings c.args.clock.now)) (g.O.Sink.written c.args.out.now) (g.O.Sink.written c.execute-ended.new.out) (left_so (g.W.Wire.told c.execute-ended.new.wire) (g.F.Files.told c.execute-ended.new.files)) c.execute-ended.result c.execute-ended.ensures.executes) c.execute-ended.ensures.file_cause
+
+pub returns-clause-sought : goal.returns-clause-sought
+returns-clause-sought g c =
+    seeks_as c.texts_follow.ensures (command_of (map string_bytes c.args.words.now)) (outside (g.F.Files.told c.args.files.now) (g.W.Wire.told c.args.wire.now) (g.C.Clock.readings c.args.clock.now)) (g.O.Sink.written c.args.out.now) (g.O.Sink.written c.execute-ended.new.out) (g.O.Sink.written c.end.new.out)
+    c.execute-ended.result c.end.result c.execute-ended.ensures.sought c.end.ensures.took
 
 pub returns-clause-usage : goal.returns-clause-usage
 returns-clause-usage g c =
