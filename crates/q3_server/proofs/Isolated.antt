@@ -41,7 +41,7 @@ by_senders host qport slots =
 same_sender : (one other : ServerState) (host qport : ℕ) → map sender one.slots ≡ map sender other.slots → hears.sender_of one host qport ≡ hears.sender_of other host qport
 same_sender one other host qport same =
     let place : position_or_len (is_of host qport) one.slots ≡ position_or_len (is_of host qport) other.slots =
-        sym (by_senders host qport one.slots) ∙ ap (position_or_len (sent_by host qport)) same ∙ by_senders host qport other.slots in
+    sym (by_senders host qport one.slots) ∙ ap (position_or_len (sent_by host qport)) same ∙ by_senders host qport other.slots in
     let long : length one.slots ≡ length other.slots = sym (length-map sender one.slots) ∙ ap length same ∙ length-map sender other.slots in
     rw (place, long) refl
 
