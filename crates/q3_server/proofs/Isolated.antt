@@ -42,7 +42,7 @@ same_sender : (one other : ServerState) (host qport : ℕ) → map sender one.sl
 same_sender one other host qport same =
     let place : position_or_len (is_of host qport) one.slots ≡ position_or_len (is_of host qport) other.slots =
     sym (by_senders host qport one.slots) ∙ ap (position_or_len (sent_by host qport)) same ∙ by_senders host qport other.slots in
-    let long : length one.slots ≡ length other.slots = sym (length-map sender one.slots) ∙ ap length same ∙ length-map sender other.slots in
+    let long : length one.slots ≡ length other.slots = sym (length-map one.slots sender) ∙ ap length same ∙ length-map other.slots sender in
     rw (place, long) refl
 
 found_headed : (one other : ServerState) (from : Address) (qport : Result ℕ NoQport) → map sender one.slots ≡ map sender other.slots → found_by one from qport ≡ found_by other from qport
