@@ -31,7 +31,7 @@ pub returns-in_err-records-clause-cause : goal.returns-in_err-records-clause-cau
 returns-in_err-records-clause-cause g c =
     let p = err_from_is_err_and c.from_residual.result c.from_residual.ensures.1 in
     rw (p.1, p.2)
-    (cause_so {S = ℕ} {T = Built} (g.F.Files.faults c.args.files.now) (g.F.Files.faults c.size.new.self) (g.F.Files.faults c.count_records.new.files) c.in_err-records.field-0.0
+    (cause_so ℕ Built (g.F.Files.faults c.args.files.now) (g.F.Files.faults c.size.new.self) (g.F.Files.faults c.count_records.new.files) c.in_err-records.field-0.0
     (c.in-Ok.ensures.cause.ok refl) c.in_err-records.ensures.cause)
 
 pub returns-in_err-write_head-clause-builds : goal.returns-in_err-write_head-clause-builds
@@ -70,14 +70,14 @@ pub returns-in_err-write_checkpoints-clause-cause : goal.returns-in_err-write_ch
 returns-in_err-write_checkpoints-clause-cause g c =
     let p = err_from_is_err_and c.from_residual-in_err-write_checkpoints.result c.from_residual-in_err-write_checkpoints.ensures.1 in
     rw (p.1, p.2)
-    (cause_so {S = Unit {0}} {T = Built} (g.F.Files.faults c.args.files.now) (g.F.Files.faults c.write_head.new.files) (g.F.Files.faults c.write_checkpoints.new.files) c.in_err-write_checkpoints.field-0.0
+    (cause_so (Unit {0}) Built (g.F.Files.faults c.args.files.now) (g.F.Files.faults c.write_head.new.files) (g.F.Files.faults c.write_checkpoints.new.files) c.in_err-write_checkpoints.field-0.0
     (c.in_ok-write_head.ensures.others ∙ c.in_ok-records.ensures.cause ∙ c.in-Ok.ensures.cause.ok refl) c.in_err-write_checkpoints.ensures.cause)
 
 pub returns-in_err-write_checkpoints-clause-writes : goal.returns-in_err-write_checkpoints-clause-writes
 returns-in_err-write_checkpoints-clause-writes g c =
     let p = err_from_is_err_and c.from_residual-in_err-write_checkpoints.result c.from_residual-in_err-write_checkpoints.ensures.1 in
     rw (p.1, p.2)
-    (writes_so {S = Unit {0}} {T = Built} (g.F.Files.write_faults c.args.files.now) (g.F.Files.write_faults c.write_head.new.files) (g.F.Files.write_faults c.write_checkpoints.new.files)
+    (writes_so (Unit {0}) Built (g.F.Files.write_faults c.args.files.now) (g.F.Files.write_faults c.write_head.new.files) (g.F.Files.write_faults c.write_checkpoints.new.files)
     c.in_err-write_checkpoints.field-0.0 (c.in_ok-write_head.ensures.count ∙ c.in_ok-records.ensures.others ∙ c.in-Ok.ensures.others) c.in_err-write_checkpoints.ensures.count)
 
 pub returns-clause-builds : goal.returns-clause-builds

@@ -48,14 +48,14 @@ pub returns-in_err-write_next-clause-cause : goal.returns-in_err-write_next-clau
 returns-in_err-write_next-clause-cause g c =
     let p = err_from_is_err_and c.from_residual-in_err-write_next.result c.from_residual-in_err-write_next.ensures.1 in
     rw (p.1, p.2)
-    (cause_so {S = Bool} {T = Unit {0}} (g.F.Files.faults c.args.files.now) (g.F.Files.faults c.loop.files) (g.F.Files.faults c.write_next.new.files) c.in_err-write_next.field-0.0 c.loop.invariant.reads
+    (cause_so Bool (Unit {0}) (g.F.Files.faults c.args.files.now) (g.F.Files.faults c.loop.files) (g.F.Files.faults c.write_next.new.files) c.in_err-write_next.field-0.0 c.loop.invariant.reads
     c.in_err-write_next.ensures.cause)
 
 pub returns-in_err-write_next-clause-count : goal.returns-in_err-write_next-clause-count
 returns-in_err-write_next-clause-count g c =
     let p = err_from_is_err_and c.from_residual-in_err-write_next.result c.from_residual-in_err-write_next.ensures.1 in
     rw (p.1, p.2)
-    (writes_so {S = Bool} {T = Unit {0}} (g.F.Files.write_faults c.args.files.now) (g.F.Files.write_faults c.loop.files) (g.F.Files.write_faults c.write_next.new.files) c.in_err-write_next.field-0.0
+    (writes_so Bool (Unit {0}) (g.F.Files.write_faults c.args.files.now) (g.F.Files.write_faults c.loop.files) (g.F.Files.write_faults c.write_next.new.files) c.in_err-write_next.field-0.0
     c.loop.invariant.fails c.in_err-write_next.ensures.count)
 
 pub returns-then-not-branch-clause-writes : goal.returns-then-not-branch-clause-writes
