@@ -120,10 +120,28 @@ leaves : (server : ServerState) (from : Address) (bytes : List ℕ) → (hears.t
 unfolding hears.take_at
 leaves server from bytes = headed_leaves server from bytes (qport_of bytes)
 
+by_frames : (server : ServerState) (c : ℕ) (from : Address) (bytes : List ℕ) (slot : Option SlotState) → (hears.take_by server c from bytes slot).server.frames ≡ server.frames
+by_frames server c from bytes None = refl
+by_frames server c from bytes (Some slot) = refl
+
+from_frames : (server : ServerState) (from : Address) (bytes : List ℕ) (place : Option ℕ) → (hears.take_from server from bytes place).server.frames ≡ server.frames
+from_frames server from bytes None = refl
+from_frames server from bytes (Some c) = by_frames server c from bytes (slot_at server c)
+
+headed_frames : (server : ServerState) (from : Address) (bytes : List ℕ) (qport : Result ℕ NoQport) → (hears.take_headed server from bytes qport).server.frames ≡ server.frames
+headed_frames server from bytes (Ok qport) = from_frames server from bytes (hears.sender_of server from.host qport)
+headed_frames server from bytes (Err no.Runt) = refl
+headed_frames server from bytes (Err no.Connectionless) = refl
+
+keeps_frames : (server : ServerState) (from : Address) (bytes : List ℕ) → (hears.take_at server from bytes).server.frames ≡ server.frames
+unfolding hears.take_at
+keeps_frames server from bytes = headed_frames server from bytes (qport_of bytes)
+
 pub slots_isolated : SlotsApart → SlotsIsolated
 slots_isolated apart = record {
   found = found;
   alike = alike;
   maps = leaves;
+  frames = keeps_frames;
   slots = λ server d from bytes other. (apart.takes server d from bytes other).slot;
 }

@@ -27,12 +27,13 @@ pub record TakeAlike (d : ℕ) (one other : Taken) : Type 0 where
   pub maps : one.server.map ≡ other.server.map
   pub slot : slot_at one.server d ≡ slot_at other.server d
 
--- a datagram finds the same slot at both, and where it is this one, both answer alike; any datagram leaves the map, and one that finds another
--- slot, or none, leaves this one
+-- a datagram finds the same slot at both, and where it is this one, both answer alike; any datagram leaves the map and the frames of every slot,
+-- and one that finds another slot, or none, leaves this one
 pub record SlotsIsolated : Type 0 where
   pub found : (one other : ServerState) (d : ℕ) (from : Address) (bytes : List ℕ) → Agree d one other → taker_of one from bytes ≡ taker_of other from bytes
   pub alike : (one other : ServerState) (d : ℕ) (from : Address) (bytes : List ℕ) → Agree d one other → taker_of one from bytes ≡ Some d
       → TakeAlike d (take_at one from bytes) (take_at other from bytes)
   pub maps : (server : ServerState) (from : Address) (bytes : List ℕ) → (take_at server from bytes).server.map ≡ server.map
+  pub frames : (server : ServerState) (from : Address) (bytes : List ℕ) → (take_at server from bytes).server.frames ≡ server.frames
   pub slots : (server : ServerState) (d : ℕ) (from : Address) (bytes : List ℕ) → taker_of server from bytes ≢ Some d
       → slot_at (take_at server from bytes).server d ≡ slot_at server d

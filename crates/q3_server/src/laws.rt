@@ -56,7 +56,7 @@ pub fn slots_apart()
 }
 
 /// What a datagram does to a client's slot, and what is answered, depends on the map, on the slot, and on who the clients are, and not on what the
-/// other slots hold; and a datagram for another slot, or for none, leaves the slot and the map.
+/// other slots hold; any datagram leaves the map and all frames, and one for another slot, or for none, leaves the slot.
 pub fn slots_isolated()
     ensures { SlotsIsolated }
 {

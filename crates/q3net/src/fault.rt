@@ -39,9 +39,9 @@ pub enum Fault {
     Wire,
     /// A node's turns are spent, and none of them did `end`.
     Turns,
-    /// The demo's first record that is refused, with its place, and why.
+    /// The demo's first record that is refused, with its place, and why; or the demo's end before as many records as are sought.
     Demo(DemoError),
-    /// The index is none, or of another demo.
+    /// The index is none, or keeps another length of the demo or another mark of the profile.
     Index(IndexError),
     /// The index counts fewer records, so many.
     PastEnd(u32),

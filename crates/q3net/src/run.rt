@@ -49,7 +49,7 @@ pub fn run<F: Files, W: Wire, C: Clock, O: Sink>(
     ensures prints { Prints (command_of (map string_bytes words.now)) (outside (F.told files.old) (W.told wire.old) (C.readings clock.old)) (F.write_faults files.old) (F.write_faults files.new) (O.written out.old) (O.written out.new) (left_so (W.told wire.new) (F.told files.new)) result }
 
     // The words that name files are given to `lookup`, once each and in the order in which they are read, and then the files
-    // that the verdict makes are created: those into which clients record. Its acts are done, one after the other, or the
+    // that the verdict makes are created: those into which clients record, or an index. Its acts are done, one after the other, or the
     // first of them where the run ends early, the last of these maybe with a front of its bytes; every other file stays. A write of
     // files fails only in a command whose verdict has such acts.
     ensures touches { Touched (command_of (map string_bytes words.now)) (outside (F.told files.old) (W.told wire.old) (C.readings clock.old)) (F.told files.new) }
