@@ -129,3 +129,8 @@ pub returns-in-Some-Seek-clause-executes : goal.returns-in-Some-Seek-clause-exec
 returns-in-Some-Seek-clause-executes g c =
     let e = rw c.in-Some-Seek.field-0-is at c.in-Some-Seek.ensures.value in
     rw (← e) (wire_stays (Some (Seek c.in-Some-Seek.profile.now c.in-Some-Seek.demo.now c.in-Some-Seek.name.now c.in-Some-Seek.records)) (outside (g.F.Files.told c.args.files.now) (g.W.Wire.told c.args.wire.now) (g.C.Clock.readings c.args.clock.now)) (g.O.Sink.written c.args.out.now) (g.O.Sink.written c.seek.new.out) c.seek.result tt c.seek.ensures.executes)
+
+pub returns-in-Some-Join-clause-binds : goal.returns-in-Some-Join-clause-binds
+returns-in-Some-Join-clause-binds g c =
+    let e = rw c.in-Some-Join.field-0-is at c.in-Some-Join.ensures.value in
+    rw (← e) c.join.ensures.binds
