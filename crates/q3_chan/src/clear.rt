@@ -5,6 +5,7 @@
 ghost use Rattle.std.specs.Prelude.{◌≡◌};
 ghost use Rattle.q3_chan.specs.Keys.{server_key, client_key, server_scrambled, client_scrambled, clear_bytes, is_unclear};
 
+use crate::form::is_checked;
 use crate::scrambling::scramble;
 use crate::side::Side;
 use crate::starts::{client_start, server_start};
@@ -20,27 +21,42 @@ fn clear_bytes(side: Side) -> usize
     }
 }
 
-/// Whether so many bits of leading longs are more than stay clear, so that scrambling would hide a part of them.
-pub fn is_unclear(side: Side, bits: usize) -> bool
-    ensures { result ≡ is_unclear side bits }
+/// Whether so many bits of leading longs are more than stay clear, so that scrambling would hide a part of them: never by a protocol
+/// that scrambles nothing.
+pub fn is_unclear(protocol: u32, side: Side, bits: usize) -> bool
+    ensures { result ≡ is_unclear protocol side bits }
 {
-    bits > 8 * clear_bytes(side)
+    !is_checked(protocol) && bits > 8 * clear_bytes(side)
 }
 
 /// Scrambles a server's message under a number to the client that joined with a challenge, or clears it, by the text of the
-/// last client command executed.
-pub fn scramble_server(bytes: &mut [u8], challenge: u32, number: u32, text: &Text)
-    ensures { bytes.new ≡ server_scrambled (server_key challenge number text.now) bytes.old }
+/// last client command executed. By a protocol that scrambles nothing it stays as it is.
+pub fn scramble_server(bytes: &mut [u8], protocol: u32, challenge: u32, number: u32, text: &Text)
+    ensures { bytes.new ≡ server_scrambled (server_key protocol challenge number text.now) bytes.old }
 {
+    if is_checked(protocol) {
+        return;
+    }
     let start = server_start(challenge, number);
     scramble(bytes, clear_bytes(Side::Server), start, text);
 }
 
 /// Scrambles a message of the client that joined with a challenge, or clears it, by its server id, the number of the newest
-/// server message that it acknowledges, and the text of the server command that it acknowledges.
-pub fn scramble_client(bytes: &mut [u8], challenge: u32, id: u32, acknowledged: u32, text: &Text)
-    ensures { bytes.new ≡ client_scrambled (client_key challenge id acknowledged text.now) bytes.old }
+/// server message that it acknowledges, and the text of the server command that it acknowledges. By a protocol that scrambles
+/// nothing it stays as it is.
+pub fn scramble_client(
+    bytes: &mut [u8],
+    protocol: u32,
+    challenge: u32,
+    id: u32,
+    acknowledged: u32,
+    text: &Text,
+)
+    ensures { bytes.new ≡ client_scrambled (client_key protocol challenge id acknowledged text.now) bytes.old }
 {
+    if is_checked(protocol) {
+        return;
+    }
     let start = client_start(challenge, id, acknowledged);
     scramble(bytes, clear_bytes(Side::Client), start, text);
 }
