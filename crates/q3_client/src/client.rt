@@ -20,7 +20,9 @@ use crate::saying::{is_unclear, write_scrambled};
 use arrayvec::ArrayVec;
 use circular_buffer::HeapCircularBuffer;
 use q3_bits::NoMemory;
-use q3_chan::{Datagram, Gathered, Gatherer, LONGEST_MESSAGE, SEQUENCE_END, Sender, Side};
+use q3_chan::{
+    Datagram, Gathered, Gatherer, LONGEST_MESSAGE, SEQUENCE_END, Sender, Side, check_for,
+};
 use q3_clmsg::Move;
 use q3_clstate::{Applied, ClState, Log, SnapOutcome};
 use q3_profile::Profile;
@@ -48,6 +50,8 @@ pub enum ClientTook {
     OutOfOrder,
     /// A piece, or a message, that is longer than may be, or than is there.
     BadFragment,
+    /// By protocol 71, a datagram whose check isn't that of its number and of the client's challenge.
+    BadCheck,
     /// A piece that isn't the last of its message.
     Partial,
     /// The message isn't legible. The client is dropped.
@@ -156,8 +160,11 @@ impl Client {
     {
         let state = ClState::new(alloc, profile)?;
         let (message, whole, buffer) = buffers(alloc)?;
-        let gatherer = Gatherer::new(alloc, Side::Server)?;
-        let sender = Sender::new(alloc, Side::Client, qport)?;
+        let check = check_for(profile.protocol, challenge);
+        let mut gatherer = Gatherer::new(alloc, Side::Server)?;
+        gatherer.set_check(check);
+        let mut sender = Sender::new(alloc, Side::Client, qport)?;
+        sender.set_check(check);
         let outgoing = Outgoing::new(alloc)?;
         let moves = HeapCircularBuffer::with_capacity(alloc, MOST_MOVES)?;
         Ok(Client {
@@ -200,6 +207,7 @@ impl Client {
             Gathered::Old => return ClientTook::Old,
             Gathered::OutOfOrder => return ClientTook::OutOfOrder,
             Gathered::BadFragment => return ClientTook::BadFragment,
+            Gathered::BadCheck => return ClientTook::BadCheck,
             Gathered::Runt => return ClientTook::Runt,
             Gathered::Connectionless => return ClientTook::Connectionless,
         };

@@ -15,7 +15,7 @@ use Rattle.q3_clstate.specs.declared.applied.Applied.{Applied as AppliedSo}
 use Rattle.q3_clstate.specs.declared.applied.SnapOutcome.{SnapOutcome}
 use Rattle.q3_clstate.specs.declared.applied.SnapOutcome.TheVariants.{NoSnap, Accepted, Skipped, Stale}
 use Rattle.q3_client.specs.declared.client.ClientTook.{ClientTook}
-use Rattle.q3_client.specs.declared.client.ClientTook.TheVariants.{Runt, Connectionless, BadFragment, Illegible, Dropped, Applied}
+use Rattle.q3_client.specs.declared.client.ClientTook.TheVariants.{Runt, Connectionless, BadCheck, BadFragment, Illegible, Dropped, Applied}
 use Rattle.q3_client.specs.declared.client.Sent.TheVariants as sent
 use Rattle.q3_slot.specs.declared.taking.ServerTook.{ServerTook}
 use Rattle.q3_slot.specs.declared.taking.ServerTook.TheVariants as took
@@ -89,6 +89,7 @@ abbrev pub IsReadByClient : ClientTook → Type 0
 IsReadByClient Runt = ⊥
 IsReadByClient Connectionless = ⊥
 IsReadByClient BadFragment = ⊥
+IsReadByClient BadCheck = ⊥
 IsReadByClient (Illegible cause) = ⊥
 IsReadByClient (Dropped cause) = ⊥
 IsReadByClient (Applied applied) = MayBecome applied.snap
@@ -99,6 +100,7 @@ IsReadByServer took.Runt = ⊥
 IsReadByServer took.Connectionless = ⊥
 IsReadByServer took.Stranger = ⊥
 IsReadByServer (took.BadFragment slot) = ⊥
+IsReadByServer (took.BadCheck slot) = ⊥
 IsReadByServer (took.Illegible slot cause) = ⊥
 IsReadByServer (took.Gap slot number) = ⊥
 IsReadByServer other = Unit {0}
@@ -369,7 +371,7 @@ serve_and_deliver c first count = replicate count (events.Serve c) ++ deliveries
 
 -- the message that a server begins next for a client
 abbrev pub built_next : ServerState → ℕ → SlotState → Built
-built_next server c slot = begun_next server.map server.frames c slot
+built_next server c slot = begun_next server.profile server.map server.frames c slot
 
 -- how many datagrams it takes
 abbrev pub datagrams_of : Profile → ServerState → ℕ → SlotState → ℕ

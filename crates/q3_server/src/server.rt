@@ -18,7 +18,7 @@ ghost use Rattle.q3_server.specs.Taking.{take_at};
 use crate::laws::below;
 use crate::slots::{begin_map, first_without_room, is_kept, tell_all};
 use q3_bits::NoMemory;
-use q3_chan::{Datagram, LONGEST_MESSAGE, NoQport, qport_of};
+use q3_chan::{Datagram, LONGEST_MESSAGE, NoQport, is_checked, qport_of};
 use q3_clmsg::ClientMessage;
 use q3_config::{ConfigError, Configs};
 use q3_entity::EntityState;
@@ -151,7 +151,8 @@ impl Server {
         if let Some(twin) = slot_of(&self.slots, from.host, qport) {
             return Err(SlotError::Twin(twin));
         }
-        self.slots[slot as usize].join(challenge, qport, from);
+        let protocol = self.profile.protocol;
+        self.slots[slot as usize].join(protocol, challenge, qport, from);
         Ok(())
     }
 
@@ -339,7 +340,7 @@ impl Server {
         ensures owed { heard.new.owed ≡ (take_at self.old from datagram.now).owed }
     {
         heard.clear();
-        let qport = match qport_of(datagram) {
+        let qport = match qport_of(is_checked(self.profile.protocol), datagram) {
             Ok(qport) => qport,
             Err(NoQport::Runt) => return ServerTook::Runt,
             Err(NoQport::Connectionless) => return ServerTook::Connectionless,

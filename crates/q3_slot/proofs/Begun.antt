@@ -27,10 +27,10 @@ emits_snapshot profile map frames c slot idle open_ clear whole =
     ∙ cond-false (is_unclear profile slot.executed.executed) _ _ clear ∙ cond-false slot.owed _ _ whole
 
 -- the message with the next snapshot, by what is kept of a slot
-pub is_begun : (map : MapState) (frames built : FramesState) (c : ℕ) (sending : Sending) (gathering : Gathering) (issued : OutgoingState) (client : Joined)
+pub is_begun : (profile : Profile) (map : MapState) (frames built : FramesState) (c : ℕ) (sending : Sending) (gathering : Gathering) (issued : OutgoingState) (client : Joined)
     (number : ℕ) (snapshot : Snapshot) (lines : Lines) → number ≡ sending.number + 1 → snapshot ≡ next_snapshot map (slot_of sending gathering issued client)
     → built ≡ build_at frames c snapshot → lines ≡ map.lines
-    → built_of (told_under issued client number) lines (base_of built c number (asked_by client)) snapshot
-    ≡ begun_next map frames c (slot_of sending gathering issued client)
-is_begun map frames built c sending gathering issued client number snapshot lines number_is snapshot_is built_is lines_are =
+    → built_of (told_under profile issued client number) lines (base_of built c number (asked_by client)) snapshot
+    ≡ begun_next profile map frames c (slot_of sending gathering issued client)
+is_begun profile map frames built c sending gathering issued client number snapshot lines number_is snapshot_is built_is lines_are =
     rw (number_is, built_is, lines_are, snapshot_is) refl

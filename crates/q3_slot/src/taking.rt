@@ -39,6 +39,8 @@ pub enum ServerTook {
     OutOfOrder(u8),
     /// A piece, or a message, that is longer than may be, or than is there.
     BadFragment(u8),
+    /// By protocol 71, a datagram whose check isn't that of its number and of the client's challenge.
+    BadCheck(u8),
     /// A piece that isn't the last of its message.
     Partial(u8),
     /// A message that came whole and isn't legible: its slot, and the first fault in reading order.
@@ -164,7 +166,15 @@ fn read_under(
 ) -> Result<(), ClientIllegible>
     ensures { holding (said_of into.new) result ≡ said_under profile.now feed challenge heads text.now bytes.old }
 {
-    scramble_client(bytes, challenge, heads.id, heads.acknowledged, text);
+    let protocol = profile.protocol;
+    scramble_client(
+        bytes,
+        protocol,
+        challenge,
+        heads.id,
+        heads.acknowledged,
+        text,
+    );
     let key = message_key(feed, heads.acknowledged, text);
     read_client_message(&profile.code, bytes, key, into)?;
     put_heads(into, heads);

@@ -73,15 +73,16 @@ abbrev pub noting : Whole → ℕ → EndsStep → (Answered → History) → Wh
 noting whole c step note = (with_noted whole (with_history whole.histories c (note step.answer)) step).whole
 
 pub holds_join : (profile : Profile) (whole : Whole) (c challenge qport dup : ℕ) (address : Address) → Cited profile → c < places → qport < 2 ^ 16 → Holds profile whole
-    → Holds profile (noting whole c (join profile whole.ends c challenge qport dup address) (with_joined (history_at whole.histories c) qport address))
+    → Holds profile (noting whole c (join profile whole.ends c challenge qport dup address) (with_joined (history_at whole.histories c) challenge qport address))
 holds_join profile whole c challenge qport dup address cited lt fits holds =
     let slots = whole.ends.server.slots in
     let within : nat_le (length slots) c ≡ false = lt-leb (length slots) c (omega (arith, lt, holds.facts.slots)) in
     rw within (elim (found_or (slot_at whole.ends.server c)) [
       | inl none ↦ rw none (elim (found_or (position (is_of address.host qport) slots)) [
         | inl alone ↦
-            rw alone (Holds-new cited.rings cited.windows profile whole c challenge qport dup address cited.ring cited.sends cited.gathers cited.first cited.zero lt fits none alone
-            (AreMapped-new profile challenge qport address whole.ends.server.map) holds)
+            rw alone (subst (λ (p : Profile). Holds profile (with_new whole c challenge qport address (new_slot p.protocol challenge qport address) (new_client profile challenge qport dup))) (sym holds.facts.by)
+            (Holds-new cited.rings cited.windows profile whole c challenge qport dup address cited.ring cited.sends cited.gathers cited.first cited.zero lt fits none alone
+            (AreMapped-new profile challenge qport address whole.ends.server.map) holds))
         | inr twin ↦ rw twin.1 (unnoted profile whole c holds)
       ])
       | inr found ↦ rw found.1 (unnoted profile whole c holds)
@@ -193,6 +194,7 @@ holds_new_map profile whole id feed cited least short holds =
                   of_slot = slot_on_map profile slot history.qport history.host history.built history.run history.server_commands cited.zero keeps.of_slot;
                   of_client = keeps.of_client;
                   challenge = keeps.challenge;
+                  joined = keeps.joined;
                   host = keeps.host;
                 };
             joins = λ c slot place lt had. joined_on_map profile map slot place.client (history_at whole.histories c) id feed (leb-false id map.id later) had.joined;
@@ -252,7 +254,7 @@ told_grows server texts histories count c =
     elim (cases_lt c places) [
       | inl lt ↦
           subst (HistoryGrows (history_at histories c)) (sym (told_at server texts histories c lt))
-          (HistoryGrows-beside (history_at histories c) (told_history texts (slot_at server c) (history_at histories c)) refl refl refl refl)
+          (HistoryGrows-beside (history_at histories c) (told_history texts (slot_at server c) (history_at histories c)) refl refl refl refl refl)
       | inr past ↦
           let many = told_count server texts histories in
           let before : history_at histories c ≡ no_history = get_or_past histories c no_history (omega (arith, past, count)) in
@@ -286,6 +288,7 @@ module _ (laws : WindowLaws) (profile : Profile) (slot : SlotState) (client : Cl
                   (laws.stays.tells slot.issued texts keeps.of_slot.window (has_room_of texts slot begun lacks) are) are own keeps.of_slot;
               of_client = keeps.of_client;
               challenge = keeps.challenge;
+              joined = keeps.joined;
               host = keeps.host;
             })
       ]
