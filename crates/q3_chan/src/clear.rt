@@ -3,7 +3,7 @@
 //! `CL_Netchan_Decode` (cl_net_chan.c). That the leading longs must fit into the bytes that stay clear is this project's own.
 
 ghost use Rattle.std.specs.Prelude.{◌≡◌};
-ghost use Rattle.q3_chan.specs.Keys.{server_key, client_key, server_scrambled, client_scrambled, clear_bytes, is_unclear};
+ghost use Rattle.q3_chan.specs.Keys.{server_key, client_key, side_scrambled, server_scrambled, client_scrambled, clear_bytes, is_unclear, start_by};
 
 use crate::form::is_checked;
 use crate::scrambling::scramble;
@@ -34,11 +34,8 @@ pub fn is_unclear(protocol: u32, side: Side, bits: usize) -> bool
 pub fn scramble_server(bytes: &mut [u8], protocol: u32, challenge: u32, number: u32, text: &Text)
     ensures { bytes.new ≡ server_scrambled (server_key protocol challenge number text.now) bytes.old }
 {
-    if is_checked(protocol) {
-        return;
-    }
     let start = server_start(challenge, number);
-    scramble(bytes, clear_bytes(Side::Server), start, text);
+    scramble_side(Side::Server, bytes, protocol, start, text);
 }
 
 /// Scrambles a message of the client that joined with a challenge, or clears it, by its server id, the number of the newest
@@ -54,9 +51,15 @@ pub fn scramble_client(
 )
     ensures { bytes.new ≡ client_scrambled (client_key protocol challenge id acknowledged text.now) bytes.old }
 {
-    if is_checked(protocol) {
-        return;
-    }
     let start = client_start(challenge, id, acknowledged);
-    scramble(bytes, clear_bytes(Side::Client), start, text);
+    scramble_side(Side::Client, bytes, protocol, start, text);
+}
+
+/// Scrambles a message of an end behind its leading longs, by a protocol that scrambles.
+fn scramble_side(side: Side, bytes: &mut [u8], protocol: u32, start: u8, text: &Text)
+    ensures { bytes.new ≡ side_scrambled side (record { start = start_by protocol start; text = text.now }) bytes.old }
+{
+    if !is_checked(protocol) {
+        scramble(bytes, clear_bytes(side), start, text);
+    }
 }

@@ -6,8 +6,9 @@
 ghost use Rattle.std.specs.Prelude.{◌≡◌, ◌≤◌, [], length, None, IfOk, IfSome, option_map};
 ghost use Rattle.q3_window.specs.Outgoing.{issued_of};
 ghost use Rattle.q3_entity.specs.Entities.{Rises, run_of};
-ghost use Rattle.q3_chan.specs.Datagrams.{longest_message};
-ghost use Rattle.q3_chan.specs.Sending.{HandsOut};
+ghost use Rattle.q3_chan.specs.Datagrams.{client_form, longest_message, server_form};
+ghost use Rattle.q3_chan.specs.Gathering.{new_gathering};
+ghost use Rattle.q3_chan.specs.Sending.{HandsOut, new_sending};
 ghost use Rattle.q3_rings.specs.Loans.{snapshot_of};
 ghost use Rattle.q3_rings.specs.Rings.{view_at};
 ghost use Rattle.q3_client.specs.Client.{new_client, type_at, take_at, is_accepted, moves_behind};
@@ -161,10 +162,7 @@ impl Client {
         let state = ClState::new(alloc, profile)?;
         let (message, whole, buffer) = buffers(alloc)?;
         let check = check_for(profile.protocol, challenge);
-        let mut gatherer = Gatherer::new(alloc, Side::Server)?;
-        gatherer.set_check(check);
-        let mut sender = Sender::new(alloc, Side::Client, qport)?;
-        sender.set_check(check);
+        let (gatherer, sender) = netchan(alloc, check, qport)?;
         let outgoing = Outgoing::new(alloc)?;
         let moves = HeapCircularBuffer::with_capacity(alloc, MOST_MOVES)?;
         Ok(Client {
@@ -386,6 +384,21 @@ fn is_accepted(outcome: SnapOutcome) -> bool
     ensures { result ≡ is_accepted outcome }
 {
     matches!(outcome, SnapOutcome::Accepted { .. })
+}
+
+/// What receives and what sends, with a check of this challenge or none.
+fn netchan(
+    alloc: Global,
+    check: Option<u32>,
+    qport: u16,
+) -> Result<(Gatherer, Sender), NoMemory>
+    ensures { IfOk result (λ made. (made.0 ≡ new_gathering (server_form check)) × (made.1 ≡ new_sending (client_form check) qport)) }
+{
+    let mut gatherer = Gatherer::new(alloc, Side::Server)?;
+    gatherer.set_check(check);
+    let mut sender = Sender::new(alloc, Side::Client, qport)?;
+    sender.set_check(check);
+    Ok((gatherer, sender))
 }
 
 /// Room for the last message that was applied, for one that came whole and for one that is written.
