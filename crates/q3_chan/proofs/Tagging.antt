@@ -1,5 +1,5 @@
 -- What a datagram that an end sent does to an end that receives.
-use Rattle.std.proofs.Common.{◌≡◌, ◌+◌, ◌-◌, ◌*◌, ◌<◌, ◌≤◌, ◌∙◌, ℕ, ltb, leb, eqb, List, ◌++◌, length, take, drop, min, sym, ap, subst, inl, inr, arith}
+use Rattle.std.proofs.Common.{false, ◌≡◌, ◌+◌, ◌-◌, ◌*◌, ◌<◌, ◌≤◌, ◌∙◌, ℕ, ltb, leb, eqb, List, ◌++◌, length, take, drop, min, sym, ap, subst, inl, inr, arith}
 use Rattle.std.proofs.Math.Seq.{take-add, take-length}
 use Rattle.std.proofs.lemmas.Bool.{cases_Bool, cases_lt, cond-true, cond-false, or_from, eqb-true, lt-ltb, le-ltb, le-leb, lt-leb}
 use Rattle.std.proofs.lemmas.List.{length-take, length-drop, length-take-le, take_all}
@@ -124,7 +124,7 @@ datagram_is_tagged messages g qport number index h end sendable below =
     elim (cases_lt (length message) fragment_size) [
       | inl small ↦
           subst Q (sym (cond-true (ltb (length message) fragment_size) _ _ (lt-ltb _ _ small)))
-          (whole_is_tagged g (header_bytes header number number ++ message) number message index (whole_is header number message end) small)
+          (whole_is_tagged g (header_bytes header false number ++ message) number message index (whole_is header number message end) small)
       | inr long ↦
           let most = sendable.most in
           subst Q (sym (cond-false (ltb (length message) fragment_size) _ _ (le-ltb _ _ long)))

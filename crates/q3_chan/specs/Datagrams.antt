@@ -1,12 +1,12 @@
 -- Datagrams: the number of a message, from a client its qport, by protocol 71 a check, and a piece of the message; a short one goes
 -- whole.
-use Rattle.std.specs.Prelude.{[], ℕ, ◌+◌, ◌-◌, ◌*◌, ◌/◌, ◌%◌, ◌^◌, nat_lt, nat_le, ◌==◌, not, if◌then◌else◌, Bool, true, false, Option, Some, None, List, ◌++◌, length, map, take, drop}
+use Rattle.std.specs.Prelude.{[], ℕ, ◌+◌, ◌-◌, ◌*◌, ◌/◌, ◌%◌, ◌^◌, nat_lt, nat_le, ◌==◌, not, if◌then◌else◌, Bool, true, false, Option, Some, None, is_some, List, ◌++◌, length, map, take, drop}
 use Rattle.std.specs.List.{range_with_len}
 use Rattle.byteorder.specs.Endian.{little_bytes, little_number}
 use Rattle.q3_chan.specs.declared.side.Side.{Side}
 use Rattle.q3_chan.specs.declared.side.Side.TheVariants.{Server, Client}
 use Rattle.q3_chan.specs.declared.form.Form.{Form}
-use Rattle.q3_chan.specs.Checks.{has_check, check_of}
+use Rattle.q3_chan.specs.Checks.{check_of}
 
 -- a message below this length goes whole, and no piece is longer
 abbrev pub fragment_size : ℕ
@@ -56,6 +56,10 @@ server_form check = record { side = Server; check = check }
 abbrev pub client_form : Option ℕ → Form
 client_form check = record { side = Client; check = check }
 
+-- a form with this check, or none
+abbrev pub with_check : Form → Option ℕ → Form
+with_check form check = record form { check = check }
+
 -- that of a server, with what it sends no qport goes, and that of a client
 abbrev pub server_header : Option ℕ → Header
 server_header check = record { form = server_form check; qport = 0 }
@@ -73,19 +77,25 @@ abbrev pub check_bytes : Option ℕ → ℕ → List ℕ
 check_bytes None number = []
 check_bytes (Some challenge) number = little_bytes 4 (check_of challenge number)
 
--- what a datagram of the message under a number begins with: a first number in four bytes, from a client its qport, and the check
-abbrev pub header_bytes : Header → ℕ → ℕ → List ℕ
-header_bytes header first number = little_bytes 4 first ++ qport_bytes header.form.side header.qport ++ check_bytes header.form.check number
+-- the number of a message in a datagram, which has the mark in a fragment
+abbrev pub marked : Bool → ℕ → ℕ
+marked fragment number = if fragment then number + fragment_mark else number
 
--- a fragment: the number with its mark first, where the piece starts and how long it is, in two bytes each, and the piece
+-- what a datagram of the message under a number begins with, a fragment or not: the number in four bytes, from a client its qport, and
+-- the check
+abbrev pub header_bytes : Header → Bool → ℕ → List ℕ
+header_bytes header fragment number =
+    little_bytes 4 (marked fragment number) ++ qport_bytes header.form.side header.qport ++ check_bytes header.form.check number
+
+-- a fragment: its header, where the piece starts and how long it is, in two bytes each, and the piece
 abbrev pub fragment : Header → ℕ → ℕ → List ℕ → List ℕ
 fragment header number start bytes =
-    header_bytes header (number + fragment_mark) number ++ little_bytes 2 start ++ little_bytes 2 (length bytes) ++ bytes
+    header_bytes header true number ++ little_bytes 2 start ++ little_bytes 2 (length bytes) ++ bytes
 
 -- the datagram with the piece of a message at an index; a message that goes whole has one, which isn't a fragment
 unfoldable pub datagram : Header → ℕ → List ℕ → ℕ → List ℕ
 datagram header number message index =
-    if nat_lt (length message) fragment_size then header_bytes header number number ++ message
+    if nat_lt (length message) fragment_size then header_bytes header false number ++ message
     else fragment header number (fragment_size * index) (piece message index)
 
 -- the datagrams of a message, in order
@@ -121,15 +131,19 @@ header_length side checked fragment = if fragment then short_header side checked
 
 -- the same of a form
 abbrev pub short_of : Form → ℕ
-short_of form = short_header form.side (has_check form.check)
+short_of form = short_header form.side (is_some form.check)
 
 abbrev pub length_of : Form → Bool → ℕ
-length_of form fragment = header_length form.side (has_check form.check) fragment
+length_of form fragment = header_length form.side (is_some form.check) fragment
 
--- whether the check that a datagram has is another than that of its number
+-- the check that a datagram has
+abbrev pub check_in : Side → List ℕ → ℕ
+check_in side bytes = little_number 4 (drop (before_check side) bytes)
+
+-- whether it is another than that of its number
 abbrev pub has_bad_check : Side → Option ℕ → List ℕ → Bool
 has_bad_check side None bytes = false
-has_bad_check side (Some challenge) bytes = not (little_number 4 (drop (before_check side) bytes) == check_of challenge (number_in bytes))
+has_bad_check side (Some challenge) bytes = not (check_in side bytes == check_of challenge (number_in bytes))
 
 -- where a fragment's piece starts, how long it is said to be, and the bytes that stand behind the header
 abbrev pub start_in : Form → List ℕ → ℕ

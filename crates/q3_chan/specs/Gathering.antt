@@ -1,5 +1,5 @@
 -- What an end that receives keeps, and what a datagram does to it.
-use Rattle.std.specs.Prelude.{◌≡◌, ◌≤◌, ℕ, ◌+◌, ◌==◌, nat_lt, nat_le, ◌||◌, if◌then◌else◌, Bool, List, [], ◌∷◌, ◌++◌, length, take, Option}
+use Rattle.std.specs.Prelude.{◌≡◌, ◌≤◌, ℕ, ◌+◌, ◌==◌, nat_lt, nat_le, ◌||◌, if◌then◌else◌, Bool, List, [], ◌∷◌, ◌++◌, length, take}
 use Rattle.std.specs.Str.{bytes_eq}
 use Rattle.q3_chan.specs.declared.form.Form.{Form}
 use Rattle.q3_chan.specs.declared.gatherer.Gathered.{Gathered}
@@ -21,10 +21,6 @@ header_heard g qport = record { form = g.form; qport = qport }
 -- an end that has taken nothing
 abbrev pub new_gathering : Form → Gathering
 new_gathering form = record { form = form; taken = 0; number = 0; bytes = [] }
-
--- an end that asks for a check of this challenge, or for none
-abbrev pub checks_by : Gathering → Option ℕ → Gathering
-checks_by g check = record g { form = record g.form { check = check } }
 
 -- an end after a datagram, the answer, and the message that came whole, if one did
 pub record Took : Type 0 where

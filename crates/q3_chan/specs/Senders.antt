@@ -1,10 +1,9 @@
 -- Which client a datagram came from.
-use Rattle.std.specs.Prelude.{◌≡◌, ℕ, ◌^◌, ◌<◌, nat_lt, if◌then◌else◌, Bool, List, length, drop, Result, Ok, Err}
+use Rattle.std.specs.Prelude.{◌≡◌, ℕ, ◌^◌, ◌<◌, nat_lt, if◌then◌else◌, Bool, is_some, List, length, drop, Result, Ok, Err}
 use Rattle.byteorder.specs.Endian.{little_number}
 use Rattle.q3_chan.specs.declared.qport.NoQport.{NoQport}
 use Rattle.q3_chan.specs.declared.qport.NoQport.TheVariants.{Runt, Connectionless}
 use Rattle.q3_chan.specs.declared.side.Side.TheVariants.{Client}
-use Rattle.q3_chan.specs.Checks.{has_check}
 use Rattle.q3_chan.specs.Datagrams.{Header, sequence_end, piece_count, is_fragment, header_length, datagram}
 use Rattle.q3_chan.specs.Gathering.{is_connectionless}
 use Rattle.q3_chan.specs.Laws.{IsSendable}
@@ -23,4 +22,4 @@ qport_of checked bytes =
 -- a client's datagram tells its qport
 abbrev pub QportIsTold : Type 0
 QportIsTold = (header : Header) (number index : ℕ) (message : List ℕ) → header.form.side ≡ Client → header.qport < 2 ^ 16 → number < sequence_end → IsSendable message
-    → index < piece_count (length message) → qport_of (has_check header.form.check) (datagram header number message index) ≡ Ok header.qport
+    → index < piece_count (length message) → qport_of (is_some header.form.check) (datagram header number message index) ≡ Ok header.qport

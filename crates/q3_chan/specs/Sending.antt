@@ -18,10 +18,6 @@ pub record Sending : Type 0 where
 abbrev pub new_sending : Form → ℕ → Sending
 new_sending form qport = record { header = record { form = form; qport = qport }; number = 0; under_way = None }
 
--- an end whose datagrams have a check of this challenge, or none
-abbrev pub checked_by : Sending → Option ℕ → Sending
-checked_by s check = record s { header = record s.header { form = record s.header.form { check = check } } }
-
 -- nothing is left to be handed out
 abbrev pub IsIdle : Sending → Type 0
 IsIdle s = s.under_way ≡ None

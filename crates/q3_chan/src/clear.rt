@@ -1,6 +1,7 @@
 //! Which bytes of either end's messages stay clear, and the others scrambled. Keeps the rules "scrambling" and "unclear
 //! messages": the engine's `SV_Netchan_Encode`, `SV_Netchan_Decode` (sv_net_chan.c), `CL_Netchan_Encode` and
-//! `CL_Netchan_Decode` (cl_net_chan.c). That the leading longs must fit into the bytes that stay clear is this project's own.
+//! `CL_Netchan_Decode` (cl_net_chan.c). That the leading longs must fit into the bytes that stay clear is this project's own,
+//! and so is protocol 71, by which nothing is scrambled.
 
 ghost use Rattle.std.specs.Prelude.{◌≡◌};
 ghost use Rattle.q3_chan.specs.Keys.{server_key, client_key, side_scrambled, server_scrambled, client_scrambled, clear_bytes, is_unclear, start_by};

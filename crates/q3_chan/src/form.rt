@@ -1,5 +1,5 @@
-//! What stands in front of each datagram of an end beside the number of its message. Keeps the rules "datagram header" and "the
-//! check of protocol 71": ioquake3's `NETCHAN_GENCHECKSUM` (qcommon.h) and `Netchan_Process` (net_chan.c).
+//! What each datagram of an end has in its header beside the number of its message. Keeps the rule "the check of protocol 71", which
+//! is this project's own, after ioquake3's `NETCHAN_GENCHECKSUM` (qcommon.h) and `Netchan_Process` (net_chan.c).
 
 ghost use Rattle.std.specs.Prelude.{◌≡◌};
 ghost use Rattle.q3_chan.specs.Checks.{is_checked, check_for, check_of};

@@ -2,8 +2,8 @@
 //! in net_chan.c.
 
 ghost use Rattle.std.specs.Prelude.{◌≡◌, ◌+◌, ◌≤◌, ◌++◌, ℕ, nat_le, length, take, IfOk, None};
-ghost use Rattle.q3_chan.specs.Datagrams.{longest_message, is_fragment, length_of};
-ghost use Rattle.q3_chan.specs.Gathering.{new_gathering, checks_by, gathered, gathering_of, arrives, emptied, take_newer, take_whole, take_fragment, take_piece, add_piece, Delivers};
+ghost use Rattle.q3_chan.specs.Datagrams.{with_check, longest_message, is_fragment, length_of};
+ghost use Rattle.q3_chan.specs.Gathering.{new_gathering, gathered, gathering_of, arrives, emptied, take_newer, take_whole, take_fragment, take_piece, add_piece, Delivers};
 
 use crate::buffer::{new_buffer, put_at};
 use crate::form::Form;
@@ -29,7 +29,7 @@ pub enum Gathered {
     OutOfOrder,
     /// The message or the piece is too long, or longer than the bytes there.
     BadFragment,
-    /// The check isn't that of the number, by protocol 71: the datagram isn't of this connection.
+    /// By protocol 71, the check isn't that of the number and the challenge.
     BadCheck,
     /// The datagram is shorter than its header.
     Runt,
@@ -75,8 +75,8 @@ impl Gatherer {
 
     /// From now on each datagram must have a check of this challenge, as by protocol 71, or none. Nothing was taken.
     pub fn set_check(&mut self, check: Option<u32>)
-        requires taken { self.old ≡ new_gathering self.old.form }
-        ensures { self.new ≡ checks_by self.old check }
+        requires none_taken { self.old.taken ≡ 0 }
+        ensures { self.new ≡ record self.old { form = with_check self.old.form check } }
     {
         self.form.check = check;
     }

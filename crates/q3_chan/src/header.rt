@@ -1,10 +1,9 @@
-//! What a datagram begins with, written and read. Keeps the rule "datagram header", the engine's
+//! What a datagram begins with, written and read. Keeps the rules "datagram header" and "the check of protocol 71": the engine's
 //! `Netchan_TransmitNextFragment`, `Netchan_Transmit` and `Netchan_Process` in net_chan.c.
 
-ghost use Rattle.std.specs.Prelude.{◌≡◌, ◌<◌, ◌+◌, ◌≤◌, ◌++◌, nat_lt, length, drop};
-ghost use Rattle.byteorder.specs.Endian.{little_bytes, little_number};
-ghost use Rattle.q3_chan.specs.Datagrams.{header_bytes, check_bytes, is_fragment, number_in, short_header, header_length, before_check, check_length, short_of, length_of, has_bad_check, start_in, count_in, behind_header};
-ghost use Rattle.q3_chan.specs.Checks.{has_check};
+ghost use Rattle.std.specs.Prelude.{◌≡◌, ◌<◌, ◌+◌, ◌≤◌, ◌++◌, nat_lt, length, is_some};
+ghost use Rattle.byteorder.specs.Endian.{little_bytes};
+ghost use Rattle.q3_chan.specs.Datagrams.{sequence_end, header_bytes, check_bytes, check_in, marked, is_fragment, number_in, short_header, header_length, before_check, check_length, short_of, length_of, has_bad_check, start_in, count_in, behind_header};
 ghost use Rattle.q3_chan.specs.Gathering.{is_connectionless};
 
 use crate::form::{Form, check_of};
@@ -15,7 +14,7 @@ use byteorder::{ByteOrder, LittleEndian};
 use std::marker::Model;
 
 /// What is added to the number of a message in its fragments: the top bit, the engine's `FRAGMENT_BIT`.
-pub(crate) const FRAGMENT_MARK: u32 = 0x8000_0000;
+const FRAGMENT_MARK: u32 = 0x8000_0000;
 
 /// Puts bytes behind those of a datagram.
 pub(crate) fn put_bytes(out: &mut Datagram, bytes: &[u8])
@@ -64,18 +63,31 @@ impl Model for Header {
     ghost inverse = { λ value. record { form = value.form; qport = value.qport } };
 }
 
-/// Puts what begins each datagram of the message under a number: a first number, with or without the mark, from a client its qport,
-/// and the check, where there is one.
-pub(crate) fn put_header(out: &mut Datagram, header: Header, first: u32, number: u32)
-    requires { length out.old.items + 10 ≤ DATAGRAM_ROOM }
-    ensures bytes { out.new.items ≡ out.old.items ++ header_bytes header first number }
+/// Puts what begins each datagram of the message under a number, a fragment or not: the number, which has the mark in a fragment, from a
+/// client its qport, and the check, where there is one.
+pub(crate) fn put_header(out: &mut Datagram, header: Header, fragment: bool, number: u32)
+    requires room { length out.old.items + 10 ≤ DATAGRAM_ROOM }
+    requires number { number < sequence_end }
+    ensures bytes { out.new.items ≡ out.old.items ++ header_bytes header fragment number }
     ensures some { 0 < length out.new.items }
 {
-    put_long(out, first);
+    put_long(out, marked(fragment, number));
     if header.form.side == Side::Client {
         put_short(out, header.qport);
     }
     put_check(out, header.form.check, number);
+}
+
+/// The number of a message in a datagram.
+fn marked(fragment: bool, number: u32) -> u32
+    requires { number < sequence_end }
+    ensures { result ≡ marked fragment number }
+{
+    if fragment {
+        number + FRAGMENT_MARK
+    } else {
+        number
+    }
 }
 
 /// Puts the check of a number, where there is one.
@@ -157,7 +169,7 @@ pub(crate) fn lacks_header(side: Side, checked: bool, datagram: &[u8]) -> bool
 
 /// Whether a datagram of a form has a check.
 pub(crate) fn is_form_checked(form: Form) -> bool
-    ensures { result ≡ has_check form.check }
+    ensures { result ≡ is_some form.check }
 {
     form.check.is_some()
 }
@@ -186,7 +198,7 @@ pub(crate) fn has_bad_check(form: Form, datagram: &[u8]) -> bool
 /// The check that a datagram has.
 fn check_in(side: Side, datagram: &[u8]) -> u32
     requires { before_check side + 4 ≤ length datagram.now }
-    ensures { result ≡ little_number 4 (drop (before_check side) datagram.now) }
+    ensures { result ≡ check_in side datagram.now }
 {
     LittleEndian::read_u32(&datagram[before_check(side)..])
 }

@@ -3,12 +3,12 @@
 
 ghost use Rattle.std.specs.Prelude.{◌≡◌, ◌+◌, ◌*◌, ◌<◌, ◌≤◌, ◌↔◌, ◌++◌, nat_lt, if◌then◌else◌, length, IfOk, IsSome, IsTrue, None};
 ghost use Rattle.byteorder.specs.Endian.{little_bytes};
-ghost use Rattle.q3_chan.specs.Datagrams.{fragment_size, longest_message, sequence_end, piece_count, datagram, piece};
-ghost use Rattle.q3_chan.specs.Sending.{IsIdle, new_sending, checked_by, started, next_of};
+ghost use Rattle.q3_chan.specs.Datagrams.{with_check, fragment_size, longest_message, sequence_end, piece_count, datagram, piece};
+ghost use Rattle.q3_chan.specs.Sending.{IsIdle, new_sending, started, next_of};
 
 use crate::buffer::{new_buffer, put_at};
 use crate::form::Form;
-use crate::header::{FRAGMENT_MARK, Header, put_bytes, put_header, put_short};
+use crate::header::{Header, put_bytes, put_header, put_short};
 use crate::limits::{DATAGRAM_ROOM, FRAGMENT_SIZE};
 use crate::side::Side;
 use arrayvec::ArrayVec;
@@ -60,8 +60,8 @@ impl Sender {
 
     /// From now on each datagram has a check of this challenge, as by protocol 71, or none. No message was begun.
     pub fn set_check(&mut self, check: Option<u32>)
-        requires begun { self.old.number ≡ 0 }
-        ensures { self.new ≡ checked_by self.old check }
+        requires none_begun { self.old.number ≡ 0 }
+        ensures { self.new ≡ record self.old { header = record self.old.header { form = with_check self.old.header.form check } } }
     {
         self.header.form.check = check;
     }
@@ -120,10 +120,10 @@ fn write_datagram(out: &mut Datagram, header: Header, number: u32, message: &[u8
 {
     out.clear();
     if message.len() < FRAGMENT_SIZE {
-        put_header(out, header, number, number);
+        put_header(out, header, false, number);
         put_bytes(out, message);
     } else {
-        put_header(out, header, number + FRAGMENT_MARK, number);
+        put_header(out, header, true, number);
         put_piece(out, message, index);
     }
 }

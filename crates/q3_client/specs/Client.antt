@@ -114,7 +114,7 @@ abbrev pub ack_taken : ℕ → Result (Unit {0}) BadAck → Result (Unit {0}) ca
 ack_taken ack (Ok x) = Ok x
 ack_taken ack (Err e) = Err (causes.Ack ack)
 
--- a message of a number cleared, by the text of the command that it acknowledges
+-- a message of a number cleared, by the text of the command that it acknowledges, or as it is, by protocol 71
 abbrev pub cleared : ℕ → ℕ → ℕ → List ℕ → List ℕ → List ℕ
 cleared protocol challenge number text bytes = server_scrambled (server_key protocol challenge number text) bytes
 

@@ -45,14 +45,14 @@ pub enum ClientTook {
     Runt,
     /// It begins with four bytes of 255.
     Connectionless,
+    /// By protocol 71, the check isn't that of the number and of the client's challenge.
+    BadCheck,
     /// The message's number isn't above the newest taken.
     Old,
     /// A piece that doesn't start where what was gathered ends.
     OutOfOrder,
     /// A piece, or a message, that is longer than may be, or than is there.
     BadFragment,
-    /// By protocol 71, a datagram whose check isn't that of its number and of the client's challenge.
-    BadCheck,
     /// A piece that isn't the last of its message.
     Partial,
     /// The message isn't legible. The client is dropped.
@@ -81,8 +81,8 @@ pub enum Sent {
     Fragment { number: u32 },
     /// Message numbers have ended.
     SequenceEnd,
-    /// The message's leading longs take more bits than stay clear, so that scrambling would hide a part of them; its number
-    /// is used again.
+    /// By protocol 68, the message's leading longs take more bits than stay clear, so that scrambling would hide a part of them; its
+    /// number is used again.
     Unclear,
     /// The message has more than 16,384 bytes; its number is used again.
     Overlong,

@@ -9,7 +9,7 @@ use Rattle.std.proofs.lemmas.List.Quantifiers.{position-Some}
 use Rattle.q3_profile.specs.declared.profile.Profile.{Profile}
 use Rattle.q3_io.specs.declared.address.Address.{Address}
 use Rattle.q3_chan.specs.declared.form.Form.{Form}
-use Rattle.q3_chan.specs.Checks.{is_checked, has_check, check_for}
+use Rattle.q3_chan.specs.Checks.{is_checked, check_for}
 use Rattle.q3_chan.specs.declared.gatherer.Gathered.{Gathered}
 use Rattle.q3_chan.specs.declared.gatherer.Gathered.TheVariants as gathered
 use Rattle.q3_chan.specs.declared.qport.NoQport.{NoQport}
@@ -241,7 +241,7 @@ abbrev AllTell : Bool → Header → ℕ → List ℕ → Type 0
 AllTell checked header number message = (index : ℕ) → index ≤ last_index message → qport_of checked (datagram header number message index) ≡ Ok header.qport
 
 -- whether each has a check is what the protocol says
-pub checked_so : (checked : Bool) (challenge : ℕ) → has_check (if checked then Some challenge else None) ≡ checked
+pub checked_so : (checked : Bool) (challenge : ℕ) → is_some (if checked then Some challenge else None) ≡ checked
 checked_so true challenge = refl
 checked_so false challenge = refl
 

@@ -321,10 +321,10 @@ impl Server {
     }
 
     /// Takes a datagram from an address, any bytes, and tells what it ran. Its client is found by host and qport, and takes
-    /// over the port, also where the datagram proves old.
+    /// over the port, also where the datagram proves old or its check bad.
     ///
     /// In this order: `Runt` and `Connectionless` where the datagram has no qport; `Stranger` exactly where no client has
-    /// that host and qport; `Old`, `OutOfOrder`, `BadFragment` and `Partial` as the gathering of the client's slot answers;
+    /// that host and qport; `BadCheck`, `Old`, `OutOfOrder`, `BadFragment` and `Partial` as the gathering of the client's slot answers;
     /// `Illegible` where the leading longs of a message that came whole don't read, or acknowledge a command that the client's
     /// window doesn't take; `Ignored` where it is of another map: the acknowledgement is taken, and a gamestate may be owed to the
     /// client from then on; `Illegible` again where the rest isn't legible; `Gap` where one of its commands leaves a gap; with
@@ -362,8 +362,8 @@ impl Server {
 
     /// Makes the next datagram for a client: it is empty where nothing is handed out. In this order: `NoClient` exactly
     /// where no client was added in the slot; `Fragment` where pieces of a message are left; `SequenceEnd` where message
-    /// numbers have ended or more than 2^62 entities were placed; `Unclear` where the next message's leading long takes more than
-    /// 32 bits; `Overlong` where the next message has more than 16,384 bytes: nothing changes then, but that the frames keep the one
+    /// numbers have ended or more than 2^62 entities were placed; `Unclear` where, by protocol 68, the next message's leading long takes more
+    /// than 32 bits; `Overlong` where the next message has more than 16,384 bytes: nothing changes then, but that the frames keep the one
     /// of a snapshot; else `Game` where a gamestate is owed to the client, and `Snapshot` where none is. A message that it begins is
     /// well formed, whatever the server took before.
     #[tactic(auto, unfolding(crate::specs::Server::emit_at), using(crate::proofs::Begins::begins, crate::proofs::Begins::begins_nothing))]

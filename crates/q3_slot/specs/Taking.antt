@@ -204,7 +204,7 @@ abbrev pub ack_taken : ℕ → Result (Unit {0}) BadAck → Result (Unit {0}) Cl
 ack_taken ack (Ok x) = Ok x
 ack_taken ack (Err e) = Err (causes.Ack ack)
 
--- a message cleared, by its leading longs and the text of the server command that it acknowledges
+-- a message cleared, by its leading longs and the text of the server command that it acknowledges, or as it is, by protocol 71
 abbrev pub cleared : ℕ → ℕ → Heads → List ℕ → List ℕ → List ℕ
 cleared protocol challenge heads text bytes = client_scrambled (client_key protocol challenge heads.id heads.acknowledged text) bytes
 

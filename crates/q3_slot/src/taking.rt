@@ -33,14 +33,14 @@ pub enum ServerTook {
     Connectionless,
     /// No client has the datagram's host and qport.
     Stranger,
+    /// By protocol 71, the check isn't that of the number and of the challenge of the client in this slot.
+    BadCheck(u8),
     /// The message's number isn't above the newest taken from the client in this slot.
     Old(u8),
     /// A piece that doesn't start where what was gathered ends.
     OutOfOrder(u8),
     /// A piece, or a message, that is longer than may be, or than is there.
     BadFragment(u8),
-    /// By protocol 71, a datagram whose check isn't that of its number and of the client's challenge.
-    BadCheck(u8),
     /// A piece that isn't the last of its message.
     Partial(u8),
     /// A message that came whole and isn't legible: its slot, and the first fault in reading order.

@@ -19,7 +19,7 @@ use Rattle.q3_ring.specs.Snapshot.{Snapshot}
 use Rattle.q3_rings.specs.Rings.{accept_at}
 use Rattle.q3_clstate.specs.State.{Application, apply_message, AppliedState, accepts, after_gamestate, applies_game, heard_with, hearing, passes}
 use Rattle.q3_chan.specs.declared.form.Form.{Form}
-use Rattle.q3_chan.specs.Checks.{is_checked, has_check, check_for}
+use Rattle.q3_chan.specs.Checks.{is_checked, check_for}
 use Rattle.q3_chan.specs.declared.gatherer.Gathered.{Gathered}
 use Rattle.q3_chan.specs.declared.gatherer.Gathered.TheVariants as gathered
 use Rattle.q3_chan.specs.declared.qport.NoQport.{NoQport}
@@ -471,11 +471,11 @@ heard_by_bytes profile whole tag from slot cited is at holds =
     let begun = is.2.begun in
     let short = keeps.of_client.sending.short in
     let header = client_header (check_for profile.protocol history.challenge) history.qport in
-    let checked : has_check header.form.check ≡ is_checked server.profile.protocol =
+    let checked : is_some header.form.check ≡ is_checked server.profile.protocol =
     checked_so (is_checked profile.protocol) history.challenge ∙ ap (λ (p : Profile). is_checked p.protocol) (sym holds.facts.by) in
     let told : qport_of (is_checked server.profile.protocol) tag.bytes ≡ Ok history.qport =
     ap (λ (b : Bool). qport_of b tag.bytes) (sym checked)
-    ∙ ap (qport_of (has_check header.form.check)) is.2.bytes
+    ∙ ap (qport_of (is_some header.form.check)) is.2.bytes
     ∙ cited.qport header tag.number tag.index (messages tag.number) refl keeps.of_client.fits (omega (arith, begun, short))
     (keeps.of_client.sending.sendable tag.number is.2.some is.2.begun) is.2.piece in
     let found : sender_of server from.host history.qport ≡ Some c =
