@@ -114,8 +114,8 @@ received_with client ack plain applied =
 abbrev received_behind : ClientState → ℕ → List ℕ → ℕ × ℕ → Result Reception Illegible
 received_behind client n bytes ack =
     ack_taken ack.0 (acknowledge_at client.issued ack.0).answer >>= λ taken.
-    received_with client ack.0 (cleared client.challenge n (text_at client.issued ack.0) bytes)
-    (apply_at client.state n (cleared client.challenge n (text_at client.issued ack.0) bytes))
+    received_with client ack.0 (cleared client.state.profile.protocol client.challenge n (text_at client.issued ack.0) bytes)
+    (apply_at client.state n (cleared client.state.profile.protocol client.challenge n (text_at client.issued ack.0) bytes))
 
 abbrev received_as : Reception → Result Reception Illegible
 received_as reception = Ok reception
@@ -134,7 +134,7 @@ was_received : (client : ClientState) (n : ℕ) (bytes : List ℕ) (received : R
 was_received client n bytes received e =
     let long = bind_ok (fault_as Bits (ack_at client.state.profile.code (bits_of bytes))) (received_behind client n bytes) received e in
     let ack = long.0.0 in
-    let plain = cleared client.challenge n (text_at client.issued ack) bytes in
+    let plain = cleared client.state.profile.protocol client.challenge n (text_at client.issued ack) bytes in
     let taken = bind_ok (ack_taken ack (acknowledge_at client.issued ack).answer) (λ (taken : Unit {0}). received_with client ack plain (apply_at client.state n plain)) received long.2 in
     with_was client n ack plain (apply_at client.state n plain) received refl taken.2
 

@@ -273,7 +273,7 @@ said_text profile whole c place cited lt found fits clear holds =
     let is : IsClient place.client = record { applied = keeps.applied; taken = taken_fits profile whole c place lt found holds; window = keeps.window; few = keeps.moves.few; moves = record { each = keeps.moves.each } } in
     let said_is : IsSaid profile place.client.challenge next = subst (λ (p : Profile). IsSaid p place.client.challenge next) keeps.by
     (cited.says.next place.client is (subst (λ (p : Profile). is_said_unclear p (next_message place.client) ≡ false) (sym keeps.by) clear)) in
-    let may = sendable cited.scrambles bits Client next.key cited.bytes (low_byte profile.protocol (bit_xor (bit_xor place.client.challenge place.client.state.id) place.client.gathering.taken)) keeps.applied.last in
+    let may = sendable cited.scrambles bits Client next.key cited.bytes (low_byte place.client.state.profile.protocol (bit_xor (bit_xor place.client.challenge place.client.state.id) place.client.gathering.taken)) keeps.applied.last in
     elim (cases_Bool (nat_lt longest_message (message_length (length bits)))) [
       | inl long ↦ rw long (silent profile whole c place answered_sent.Overlong found holds)
       | inr short ↦
