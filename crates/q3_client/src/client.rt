@@ -387,11 +387,7 @@ fn is_accepted(outcome: SnapOutcome) -> bool
 }
 
 /// What receives and what sends, with a check of this challenge or none.
-fn netchan(
-    alloc: Global,
-    check: Option<u32>,
-    qport: u16,
-) -> Result<(Gatherer, Sender), NoMemory>
+fn netchan(alloc: Global, check: Option<u32>, qport: u16) -> Result<(Gatherer, Sender), NoMemory>
     ensures { IfOk result (λ made. (made.0 ≡ new_gathering (server_form check)) × (made.1 ≡ new_sending (client_form check) qport)) }
 {
     let mut gatherer = Gatherer::new(alloc, Side::Server)?;

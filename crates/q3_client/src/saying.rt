@@ -28,7 +28,11 @@ pub(crate) fn is_unclear(state: &ClState, acknowledged: u32) -> bool
 {
     let longs = [(state.id(), 32), (acknowledged, 32), (state.executed(), 32)];
     let profile = state.profile();
-    q3_chan::is_unclear(profile.protocol, Side::Client, profile.code.row_length(&longs))
+    q3_chan::is_unclear(
+        profile.protocol,
+        Side::Client,
+        profile.code.row_length(&longs),
+    )
 }
 
 /// Writes the message that goes to the server next, with these moves, to the front of a buffer, and answers how many bytes it

@@ -1,5 +1,5 @@
 -- Lists of bytes that share a front share its bits, so what begins the bits of one begins those of the other.
-use Rattle.std.proofs.Common.{◌≡◌, zero, suc, ◌+◌, ◌*◌, ◌≤◌, Bool, List, [], ◌∷◌, ◌++◌, length, take, drop, refl, sym, ap, ◌∙◌, arith, ℕ}
+use Rattle.std.proofs.Common.{false, None, Some, not, ◌&&◌, ltb, subst, inl, inr, Option, ◌≡◌, zero, suc, ◌+◌, ◌*◌, ◌≤◌, Bool, List, [], ◌∷◌, ◌++◌, length, take, drop, refl, sym, ap, ◌∙◌, arith, ℕ}
 use Rattle.std.proofs.lemmas.List.{take-append-drop}
 use Rattle.std.proofs.Math.Seq.{take-append_seam}
 use Rattle.q3_bits.specs.Bits.{low_bits, bits_of}

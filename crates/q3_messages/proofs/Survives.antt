@@ -1,6 +1,6 @@
 -- A message survives the network: its datagrams, taken one after the other, bring it whole.
-use Rattle.std.proofs.Common.{◌≡◌, Bool, set, zero, suc, ◌^◌, ◌<◌, ◌≤◌, ◌==◌, true, false, List, [], ◌∷◌, ◌++◌, length, get_or, Option, Some, None, Result, Ok, refl, sym, ap, subst, ◌∙◌, add-one, arith, ℕ}
-use Rattle.std.specs.Prelude.{position, if◌then◌else◌}
+use Rattle.std.proofs.Common.{◌≡◌, is_some, cond, Bool, set, zero, suc, ◌^◌, ◌<◌, ◌≤◌, ◌==◌, true, false, List, [], ◌∷◌, ◌++◌, length, get_or, Option, Some, None, Result, Ok, refl, sym, ap, subst, ◌∙◌, add-one, arith, ℕ}
+use Rattle.std.specs.Prelude.{position}
 use Rattle.std.proofs.lemmas.Bool.{and_parts, eqb-true, eq-eqb}
 use Rattle.std.proofs.lemmas.List.{length-set, set-set, get_or-set_same}
 use Rattle.std.proofs.lemmas.List.Folds.{position_or_len-set}
@@ -241,7 +241,7 @@ abbrev AllTell : Bool → Header → ℕ → List ℕ → Type 0
 AllTell checked header number message = (index : ℕ) → index ≤ last_index message → qport_of checked (datagram header number message index) ≡ Ok header.qport
 
 -- whether each has a check is what the protocol says
-pub checked_so : (checked : Bool) (challenge : ℕ) → is_some (if checked then Some challenge else None) ≡ checked
+pub checked_so : (checked : Bool) (challenge : ℕ) → is_some (cond checked (Some challenge) None) ≡ checked
 checked_so true challenge = refl
 checked_so false challenge = refl
 
