@@ -1,5 +1,5 @@
 -- A datagram that either end hands out keeps what holds.
-use Rattle.std.proofs.Common.{◌≡◌, ℕ, ◌+◌, ◌<◌, List, [], ◌∷◌, ◌++◌, length, Bool, true, false, ◌&&◌, Option, Some, refl, arith}
+use Rattle.std.proofs.Common.{◌∙◌, sym, subst, ◌≡◌, ℕ, ◌+◌, ◌<◌, List, [], ◌∷◌, ◌++◌, length, Bool, true, false, ◌&&◌, Option, Some, refl, arith}
 use Rattle.std.specs.Prelude.{IfSome, not}
 use Rattle.q3_profile.specs.declared.profile.Profile.{Profile}
 use Rattle.q3_io.specs.declared.address.Address.{Address}
@@ -24,7 +24,7 @@ use Rattle.q3_world.specs.declared.places.Place.{Place}
 use Rattle.q3_world.specs.Ends.{place_at}
 use Rattle.q3_world.specs.World.{Tag, History, Whole, history_at, with_history, with_built, with_said}
 use Rattle.q3_server.specs.Standing.{IsMap}
-use Rattle.q3_world.specs.StandsFor.{messages_of, messages_said, KeepsClient, KeepsFrames, WasBuilt, acks_built, carried_said, AreCommanded, IsJoined}
+use Rattle.q3_world.specs.StandsFor.{IsPiece, messages_of, messages_said, KeepsClient, KeepsFrames, WasBuilt, acks_built, carried_said, AreCommanded, IsJoined}
 use Rattle.q3_world.proofs.Growth.{HistoryGrows-same, HistoryGrows-built, HistoryGrows-said}
 use Rattle.q3_world.proofs.Bases.{KeepsFrames-built, frames_too_long, since_accepted}
 use Rattle.q3_messages.proofs.Options.{if_some_then}

@@ -23,14 +23,14 @@ use Rattle.q3_config.specs.Laws.{piece_texts}
 use Rattle.q3_window.specs.Outgoing.{IsOutgoing, fits as has_room, total_of, with_texts}
 use Rattle.q3_clmsg.specs.declared.moves.Move.{Move}
 use Rattle.q3_clmsg.specs.Moves.{IsHeldMove}
-use Rattle.q3_client.specs.Client.{ClientState}
+use Rattle.q3_client.specs.Client.{new_client, ClientState}
 use Rattle.q3_client.specs.declared.client.MoveError.{MoveError}
 use Rattle.q3_client.specs.declared.client.MoveError.TheVariants.{NoGame, NotLater, Range}
 use Rattle.q3_client.specs.Moves.{Handed as HandedMove, is_issuable, issue}
 use Rattle.q3_map.specs.declared.map.Late.{Late}
 use Rattle.q3_map.specs.Map.{MapState, Handed as HandedMap, after_new_map, set_baseline_at, with_config, with_entity, without_entity}
 use Rattle.q3_built.specs.Built.{Built, IsHeld, IsArea}
-use Rattle.q3_slot.specs.Slot.{SlotState, is_connected, is_of, on_new_map, with_player}
+use Rattle.q3_slot.specs.Slot.{new_slot, SlotState, is_connected, is_of, on_new_map, with_player}
 use Rattle.q3_slot.specs.Slots.{changes_own, lacks_room, tells}
 use Rattle.q3_server.specs.declared.server.ConfigRefused.{ConfigRefused}
 use Rattle.q3_server.specs.declared.server.ConfigRefused.TheVariants.{Own}
@@ -51,7 +51,7 @@ use Rattle.q3_world.proofs.MoveLists.{is_move}
 use Rattle.q3_world.proofs.Growth.{Grow, HistoryGrows, HistoryGrows-same, HistoryGrows-beside}
 use Rattle.q3_world.proofs.Clients.{no_area, KeepsSlot-told}
 use Rattle.q3_world.proofs.Joined.{TakesSaid-same}
-use Rattle.q3_world.proofs.Holding.{Holds, has_client, Holds-new, same_server}
+use Rattle.q3_world.proofs.Holding.{with_new, Holds, has_client, Holds-new, same_server}
 use Rattle.q3_world.proofs.Given.{with_new_slot, Holds-player, Holds-area, with_map, Holds-map, joined_stays, Holds-issued}
 use Rattle.q3_world.proofs.EverySlot.{LeavesClient, Holds-every}
 use Rattle.q3_world.proofs.Maps.{MayGoOut, may_go_out, pieces_own}

@@ -1,5 +1,5 @@
 -- Both ends make datagrams by bytes as by tags.
-use Rattle.std.proofs.Common.{◌≡◌, ℕ, ◌+◌, ◌^◌, ◌<◌, Bool, false, List, length, Option, Some, None, Ok, refl, sym, subst, ◌∙◌, inl, inr, arith}
+use Rattle.std.proofs.Common.{IfSome, ◌≡◌, ℕ, ◌+◌, ◌^◌, ◌<◌, Bool, false, List, length, Option, Some, None, Ok, refl, sym, subst, ◌∙◌, inl, inr, arith}
 use Rattle.std.specs.Prelude.{map, nat_le, nat_lt, ◌%◌, ◌≤◌, bit_xor, true}
 use Rattle.std.proofs.lemmas.List.{length-map, map_push, set-set}
 use Rattle.std.proofs.lemmas.Bool.{cases_Bool, cond_both, leb-false, ltb-false}
@@ -13,7 +13,7 @@ use Rattle.q3_chan.specs.Laws.{IsSendable}
 use Rattle.q3_chan.specs.Checks.{is_checked}
 use Rattle.q3_chan.specs.declared.side.Side.{Side}
 use Rattle.q3_chan.specs.declared.side.Side.TheVariants.{Server, Client}
-use Rattle.q3_chan.specs.Keys.{Key, side_scrambled}
+use Rattle.q3_chan.specs.Keys.{start_by, Key, side_scrambled}
 use Rattle.q3_text.specs.Texts.{IsText}
 use Rattle.q3_slot.specs.declared.answer.Emitted.{Emitted}
 use Rattle.q3_slot.specs.declared.answer.Emitted.TheVariants as emitted
