@@ -63,9 +63,10 @@ abbrev pub game_built_of : Telling → Lines → Gamestate → Built
 game_built_of telling lines game =
     record { message = game_message_of telling game; last = telling.last; under = telling.under; base = None; lines = lines; key = telling.key }
 
--- whether the leading long of a message takes more bits than stay clear, so that scrambled bytes would hide a part of it
+-- whether the leading long of a message takes more bits than stay clear, so that scrambled bytes would hide a part of it: never by a
+-- protocol that scrambles nothing
 abbrev pub is_unclear : Profile → ℕ → Bool
-is_unclear profile ack = chan.is_unclear Server (length (row_bits profile.code ((ack, 32) ∷ [])))
+is_unclear profile ack = chan.is_unclear profile.protocol Server (length (row_bits profile.code ((ack, 32) ∷ [])))
 
 -- the bits of a message
 abbrev pub built_bits : Profile → Built → List Bool
@@ -111,7 +112,7 @@ pub record IsTelling (profile : Profile) (challenge n : ℕ) (telling : Telling)
   pub text : IsText telling.key.text
   pub few : length telling.commands ≤ 64
   pub commands : All IsCommand telling.commands
-  pub key : telling.key ≡ server_key challenge n telling.key.text
+  pub key : telling.key ≡ server_key profile.protocol challenge n telling.key.text
   pub clear : is_unclear profile telling.ack ≡ false
 
 -- a message with a snapshot as it is built under a number

@@ -25,7 +25,8 @@ use q3_svmsg::{GameParts, SnapParts, write_game_parts, write_parts};
 pub fn is_unclear(profile: &Profile, ack: u32) -> bool
     ensures { result ≡ is_unclear profile.now ack }
 {
-    q3_chan::is_unclear(Side::Server, profile.code.row_length(&[(ack, 32)]))
+    let bits = profile.code.row_length(&[(ack, 32)]);
+    q3_chan::is_unclear(profile.protocol, Side::Server, bits)
 }
 
 /// Writes a message with a snapshot, whose entities lie in the map, against its base, if it names one, with the commands that
@@ -41,11 +42,11 @@ pub fn write_snapshot(
     requires against { IsList profile.now.entity (base_entities (option_map base_viewed snapshot.against)) }
     requires listed { IsList profile.now.entity snapshot.entities.now }
     requires buffer { length buffer.old ≡ longest_message }
-    ensures { HoldsScrambled snapshot.entry.base (server_key telling.entry.challenge telling.entry.number telling.entry.executed.now.last)
+    ensures { HoldsScrambled snapshot.entry.base (server_key profile.now.protocol telling.entry.challenge telling.entry.number telling.entry.executed.now.last)
         (message_text profile.now map.now.lines (option_map base_viewed snapshot.entry.against) (snapshot_in telling.entry snapshot.entry)) buffer.new result }
 {
     let bytes = write_clear(profile, map, telling, snapshot, buffer)?;
-    scramble_front(buffer, bytes, telling);
+    scramble_front(profile.protocol, buffer, bytes, telling);
     Ok(Written {
         base: snapshot.base,
         bytes,
@@ -86,11 +87,11 @@ pub fn write_game(
     buffer: &mut [u8],
 ) -> Result<Written, Overflow>
     requires { length buffer.old ≡ longest_message }
-    ensures { HoldsScrambled 0 (server_key telling.entry.challenge telling.entry.number telling.entry.executed.now.last)
+    ensures { HoldsScrambled 0 (server_key profile.now.protocol telling.entry.challenge telling.entry.number telling.entry.executed.now.last)
         (message_text profile.now map.now.lines None (game_message_in telling.entry map.now slot)) buffer.new result }
 {
     let bytes = write_clear_game(profile, map, telling, slot, buffer)?;
-    scramble_front(buffer, bytes, telling);
+    scramble_front(profile.protocol, buffer, bytes, telling);
     Ok(Written { base: 0, bytes })
 }
 
@@ -119,14 +120,14 @@ fn write_clear_game(
     write_game_parts(profile, parts, buffer)
 }
 
-/// Scrambles the message that stands in the first bytes of a buffer, by what it tells.
-fn scramble_front(buffer: &mut [u8], bytes: usize, telling: TellingParts)
+/// Scrambles the message that stands in the first bytes of a buffer, by what it tells, where the protocol scrambles.
+fn scramble_front(protocol: u32, buffer: &mut [u8], bytes: usize, telling: TellingParts)
     requires { bytes ≤ length buffer.old }
     ensures scrambled { take bytes buffer.new
-        ≡ server_scrambled (server_key telling.entry.challenge telling.entry.number telling.entry.executed.now.last) (take bytes buffer.old) }
+        ≡ server_scrambled (server_key protocol telling.entry.challenge telling.entry.number telling.entry.executed.now.last) (take bytes buffer.old) }
     ensures long { length buffer.new ≡ length buffer.old }
 {
     let text = telling.executed.last();
     let front = &mut buffer[..bytes];
-    scramble_server(front, telling.challenge, telling.number, text);
+    scramble_server(front, protocol, telling.challenge, telling.number, text);
 }

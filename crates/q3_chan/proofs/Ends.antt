@@ -39,7 +39,7 @@ Gathers-more messages messages' last last' g h more agree =
 pub ends_gather : EndsGather
 ends_gather =
     record {
-      begin = λ messages last side. record { taken = omega arith; number = omega arith; front = record { count = 0; not_all = omega arith; front = refl } };
+      begin = λ messages last form. record { taken = omega arith; number = omega arith; front = record { count = 0; not_all = omega arith; front = refl } };
       piece = Gathers-piece;
       more = Gathers-more;
     }
@@ -84,7 +84,7 @@ HandsOut-piece messages s way h e =
 pub ends_send : EndsSend
 ends_send =
     record {
-      begin = λ messages side qport. record { under_way = tt };
+      begin = λ messages form qport. record { under_way = tt };
       start = λ messages s message is. record { under_way = record { some = omega arith; message = sym is; left = omega arith } };
       next = Sends-next;
       stays = next_of-same;

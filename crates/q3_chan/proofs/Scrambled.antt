@@ -1,5 +1,5 @@
 -- Laws of scrambling.
-use Rattle.std.proofs.Common.{◌≡◌, ◌∙◌, ℕ, zero, suc, ◌+◌, ◌<◌, ◌≤◌, ◌*◌, ◌-◌, ◌%◌, ◌^◌, List, [], ◌∷◌, ◌++◌, length, take, drop, map, get_or, refl, ap, lit<, arith}
+use Rattle.std.proofs.Common.{◌≡◌, ◌∙◌, ℕ, zero, suc, ◌+◌, ◌<◌, ◌≤◌, ◌*◌, ◌-◌, ◌%◌, ◌^◌, List, [], ◌∷◌, ◌++◌, length, take, drop, map, get_or, Option, Some, None, refl, ap, lit<, arith}
 use Rattle.std.specs.List.{All, fold, range_with_len}
 use Rattle.std.specs.Int.Bits.{bit_xor, xor_assoc, xor_self, xor_zero_r}
 use Rattle.std.proofs.lemmas.Nat.{xor_of_8}
@@ -7,7 +7,8 @@ use Rattle.std.proofs.lemmas.List.Elements.{All-nil, All-cons, All-tail, All-tak
 use Rattle.q3_text.specs.Texts.{IsText}
 use Rattle.q3_chan.specs.Scrambling.{shifted_at, key_at, keyed}
 use Rattle.q3_chan.specs.Laws.{TwiceIsNone, FrontStays, BytesStayBytes, SideTwiceIsNone, SideFrontStays, SideBytesStay}
-use Rattle.q3_chan.specs.Keys.{clear_bytes}
+use Rattle.q3_chan.specs.Keys.{clear_bytes, scrambled_by}
+use Rattle.std.specs.Option.{IfSome}
 
 keyed_twice : (key : ℕ → ℕ) (place : ℕ) (bytes : List ℕ) → keyed key place (keyed key place bytes) ≡ bytes
 unfolding keyed
@@ -94,11 +95,24 @@ bytes_stay_bytes from start text bytes small is all =
 
 -- ---- behind the leading longs
 
+twice_by : (from : ℕ) (start : Option ℕ) (text bytes : List ℕ) → scrambled_by from start text (scrambled_by from start text bytes) ≡ bytes
+twice_by from None text bytes = refl
+twice_by from (Some start) text bytes = twice_is_none from start text bytes
+
 pub side_twice_is_none : SideTwiceIsNone
-side_twice_is_none side key bytes = twice_is_none (clear_bytes side) key.start key.text bytes
+side_twice_is_none side key bytes = twice_by (clear_bytes side) key.start key.text bytes
+
+front_by : (from : ℕ) (start : Option ℕ) (text bytes : List ℕ) → (length (scrambled_by from start text bytes) ≡ length bytes)
+    × ((k : ℕ) → k ≤ from → take k (scrambled_by from start text bytes) ≡ take k bytes)
+front_by from None text bytes = (refl, λ k few. refl)
+front_by from (Some start) text bytes = front_stays from start text bytes
 
 pub side_front_stays : SideFrontStays
-side_front_stays side key bytes = front_stays (clear_bytes side) key.start key.text bytes
+side_front_stays side key bytes = front_by (clear_bytes side) key.start key.text bytes
+
+bytes_by : (from : ℕ) (start : Option ℕ) (text bytes : List ℕ) → IfSome start (λ start. start < 2 ^ 8) → IsText text → AreBytes bytes → AreBytes (scrambled_by from start text bytes)
+bytes_by from None text bytes small is all = all
+bytes_by from (Some start) text bytes small is all = bytes_stay_bytes from start text bytes small is all
 
 pub side_bytes_stay : SideBytesStay
-side_bytes_stay side key bytes = bytes_stay_bytes (clear_bytes side) key.start key.text bytes
+side_bytes_stay side key bytes = bytes_by (clear_bytes side) key.start key.text bytes

@@ -1,5 +1,5 @@
 -- What a datagram that an end sent does to an end that receives.
-use Rattle.std.proofs.Common.{◌≡◌, ◌+◌, ◌-◌, ◌*◌, ◌<◌, ◌≤◌, ◌∙◌, ℕ, ltb, leb, eqb, List, ◌++◌, length, take, drop, min, sym, ap, subst, inl, inr, arith}
+use Rattle.std.proofs.Common.{false, ◌≡◌, ◌+◌, ◌-◌, ◌*◌, ◌<◌, ◌≤◌, ◌∙◌, ℕ, ltb, leb, eqb, List, ◌++◌, length, take, drop, min, sym, ap, subst, inl, inr, arith}
 use Rattle.std.proofs.Math.Seq.{take-add, take-length}
 use Rattle.std.proofs.lemmas.Bool.{cases_Bool, cases_lt, cond-true, cond-false, or_from, eqb-true, lt-ltb, le-ltb, le-leb, lt-leb}
 use Rattle.std.proofs.lemmas.List.{length-take, length-drop, length-take-le, take_all}
@@ -71,11 +71,11 @@ take_fragment-tagged messages g index h below most =
 
 -- ---- a datagram
 
-old_is_tagged : (g : Gathering) (bytes : List ℕ) (number : ℕ) (message : List ℕ) (index : ℕ) → IsHeaded g.side bytes number → number ≤ g.taken → gathered g bytes ≡ tagged g number message index
+old_is_tagged : (g : Gathering) (bytes : List ℕ) (number : ℕ) (message : List ℕ) (index : ℕ) → IsHeaded g.form bytes number → number ≤ g.taken → gathered g bytes ≡ tagged g number message index
 unfolding tagged
 old_is_tagged g bytes number message index headed old = gathered-old g bytes number headed old ∙ sym (cond-true (leb number g.taken) _ _ (le-leb _ _ old))
 
-whole_is_tagged : (g : Gathering) (bytes : List ℕ) (number : ℕ) (message : List ℕ) (index : ℕ) → IsWhole g.side bytes number message → length message < fragment_size
+whole_is_tagged : (g : Gathering) (bytes : List ℕ) (number : ℕ) (message : List ℕ) (index : ℕ) → IsWhole g.form bytes number message → length message < fragment_size
     → gathered g bytes ≡ tagged g number message index
 unfolding tagged
 whole_is_tagged g bytes number message index whole short =
@@ -94,7 +94,7 @@ tagged-cut g number message index newer long =
     cond-false (leb number g.taken) _ _ (lt-leb _ _ newer) ∙ cond-false (ltb (length message) fragment_size) _ _ (le-ltb _ _ long)
 
 fragment_is_tagged : (messages : ℕ → List ℕ) (g : Gathering) (bytes : List ℕ) (number index : ℕ) → HoldsFront messages (gathering_of g number)
-    → IsFragment g.side bytes number (fragment_size * index) (piece (messages number) index)
+    → IsFragment g.form bytes number (fragment_size * index) (piece (messages number) index)
     → fragment_size ≤ length (messages number) → length (messages number) ≤ longest_message → index < piece_count (length (messages number))
     → gathered g bytes ≡ tagged g number (messages number) index
 fragment_is_tagged messages g bytes number index h fragment long most below =
@@ -124,7 +124,7 @@ datagram_is_tagged messages g qport number index h end sendable below =
     elim (cases_lt (length message) fragment_size) [
       | inl small ↦
           subst Q (sym (cond-true (ltb (length message) fragment_size) _ _ (lt-ltb _ _ small)))
-          (whole_is_tagged g (header_bytes header number ++ message) number message index (whole_is header number message end) small)
+          (whole_is_tagged g (header_bytes header false number ++ message) number message index (whole_is header number message end) small)
       | inr long ↦
           let most = sendable.most in
           subst Q (sym (cond-false (ltb (length message) fragment_size) _ _ (le-ltb _ _ long)))

@@ -17,8 +17,8 @@ pub gathering_of-number : (g : Gathering) (number : ℕ) → (gathering_of g num
 gathering_of-number g number =
     cond_both (eqb number g.number) g (record g { number = number; bytes = [] }) (λ k. k.number ≡ number) (λ e. sym (eqb-true _ _ e)) (λ _. refl)
 
-gathering_of-side : (g : Gathering) (number : ℕ) → (gathering_of g number).side ≡ g.side
-gathering_of-side g number = gathering_of-any (λ k. k.side ≡ g.side) g number refl refl
+gathering_of-form : (g : Gathering) (number : ℕ) → (gathering_of g number).form ≡ g.form
+gathering_of-form g number = gathering_of-any (λ k. k.form ≡ g.form) g number refl refl
 
 pub gathering_of-taken : (g : Gathering) (number : ℕ) → (gathering_of g number).taken ≡ g.taken
 gathering_of-taken g number = gathering_of-any (λ k. k.taken ≡ g.taken) g number refl refl
@@ -49,15 +49,15 @@ tagged-each P g number message index each =
 
 pub tagged_does : TaggedDoes
 tagged_does g number message index =
-    let side = gathering_of-side g number in
+    let form = gathering_of-form g number in
     let taken = gathering_of-taken g number in
     let same = gathering_of-number g number in
     tagged-each (PieceDoes g number message) g number message index (record {
-      old = record { side = refl; below = λ limit few fits. few; either = inl (record { quiet = tt; taken = refl }) };
-      whole = λ newer. record { side = refl; below = λ limit few fits. few; either = inr (record { newer = newer; answer = refl; message_is = refl; taken = refl }) };
-      order = record { side = side; below = λ limit few fits. omega arith; either = inl (record { quiet = tt; taken = taken }) };
-      more = λ _. record { side = side; below = λ limit few fits. omega arith; either = inl (record { quiet = tt; taken = taken }) };
-      last = λ newer. record { side = side; below = λ limit few fits. omega arith; either = inr (record { newer = newer; answer = refl; message_is = refl; taken = refl }) };
+      old = record { form = refl; below = λ limit few fits. few; either = inl (record { quiet = tt; taken = refl }) };
+      whole = λ newer. record { form = refl; below = λ limit few fits. few; either = inr (record { newer = newer; answer = refl; message_is = refl; taken = refl }) };
+      order = record { form = form; below = λ limit few fits. omega arith; either = inl (record { quiet = tt; taken = taken }) };
+      more = λ _. record { form = form; below = λ limit few fits. omega arith; either = inl (record { quiet = tt; taken = taken }) };
+      last = λ newer. record { form = form; below = λ limit few fits. omega arith; either = inr (record { newer = newer; answer = refl; message_is = refl; taken = refl }) };
     })
 
 -- what is gathered behind a piece is a front again

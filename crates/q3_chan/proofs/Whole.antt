@@ -3,7 +3,7 @@ use Rattle.std.proofs.Common.{◌≡◌, ◌+◌, ◌*◌, ◌<◌, ◌≤◌, �
 use Rattle.std.specs.List.{range_with_len}
 use Rattle.std.proofs.lemmas.Bool.{cases_lt, cond-true, cond-false, cond_both, eqb-true, eqb-false, eq-eqb, lt-ltb, le-ltb, lt-leb}
 use Rattle.std.proofs.lemmas.List.FromFn.{map-range_with_len_more}
-use Rattle.q3_chan.specs.declared.side.Side.{Side}
+use Rattle.q3_chan.specs.declared.form.Form.{Form}
 use Rattle.q3_chan.specs.declared.gatherer.Gathered.TheVariants.{Partial, OutOfOrder}
 use Rattle.q3_chan.specs.Datagrams.{fragment_size, sequence_end, piece_count, last_index, datagram}
 use Rattle.q3_chan.specs.Gathering.{Gathering, header_heard, Took, answers, arrives, emptied, gathering_of, gathered, gathered_all}
@@ -140,7 +140,7 @@ gathered_all-push g (one ∷ others) last = gathered_all-push (gathered g one).g
 -- what the first datagrams do is what their tags do
 record FollowsTags (messages : ℕ → List ℕ) (g : Gathering) (qport number count : ℕ) : Type 0 where
   is : gathered_first g qport number (messages number) count ≡ tagged_all g number (messages number) count
-  side : (tagged_all g number (messages number) count).side ≡ g.side
+  form : (tagged_all g number (messages number) count).form ≡ g.form
   front : HoldsFront messages (gathering_of (tagged_all g number (messages number) count) number)
 
 -- the datagram behind them does what its tag does
@@ -149,13 +149,13 @@ FollowsTags-next : (messages : ℕ → List ℕ) (g : Gathering) (qport number c
     → gathered (tagged_all g number (messages number) count) (datagram (header_heard g qport) number (messages number) count) ≡ tagged (tagged_all g number (messages number) count) number (messages number) count
 FollowsTags-next messages g qport number count f end sendable few =
     let t = tagged_all g number (messages number) count in
-    ap (λ (s : Side). gathered t (datagram (record { side = s; qport = qport }) number (messages number) count)) (sym f.side)
+    ap (λ (s : Form). gathered t (datagram (record { form = s; qport = qport }) number (messages number) count)) (sym f.form)
     ∙ datagram_is_tagged messages t qport number count f.front end sendable few
 
 FollowsTags-all : (messages : ℕ → List ℕ) (g : Gathering) (qport number count : ℕ) → HoldsFront messages (gathering_of g number) → number < sequence_end → IsSendable (messages number)
     → count < piece_count (length (messages number)) → FollowsTags messages g qport number count
 unfolding gathered_all tagged_all
-FollowsTags-all messages g qport number zero h end sendable few = record { is = refl; side = refl; front = h }
+FollowsTags-all messages g qport number zero h end sendable few = record { is = refl; form = refl; front = h }
 FollowsTags-all messages g qport number (suc count) h end sendable few =
     let message = messages number in
     let bytes : ℕ → List ℕ = datagram (header_heard g qport) number message in
@@ -167,7 +167,7 @@ FollowsTags-all messages g qport number (suc count) h end sendable few =
           ∙ gathered_all-push g (map bytes (range_with_len 0 count)) (bytes count)
           ∙ ap (λ (k : Gathering). (gathered k (bytes count)).gathering) f.is
           ∙ ap (λ (took : Took). took.gathering) (FollowsTags-next messages g qport number count f end sendable (omega arith));
-      side = (tagged_does t number message count).side ∙ f.side;
+      form = (tagged_does t number message count).form ∙ f.form;
       front = tagged-front_of messages t number count f.front;
     }
 

@@ -24,7 +24,7 @@ pub record IsSending (s : SenderInside) : Type 0 where
 
 -- what was gathered is the front of the buffer
 abbrev pub gathering_in : GathererInside → Gathering
-gathering_in g = record { side = g.side; taken = g.taken; number = g.number; bytes = take g.count g.buffer.items }
+gathering_in g = record { form = g.form; taken = g.taken; number = g.number; bytes = take g.count g.buffer.items }
 
 -- the buffer has room for the longest message
 pub record IsGathering (g : GathererInside) : Type 0 where

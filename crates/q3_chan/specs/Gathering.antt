@@ -1,26 +1,26 @@
 -- What an end that receives keeps, and what a datagram does to it.
 use Rattle.std.specs.Prelude.{◌≡◌, ◌≤◌, ℕ, ◌+◌, ◌==◌, nat_lt, nat_le, ◌||◌, if◌then◌else◌, Bool, List, [], ◌∷◌, ◌++◌, length, take}
 use Rattle.std.specs.Str.{bytes_eq}
-use Rattle.q3_chan.specs.declared.side.Side.{Side}
+use Rattle.q3_chan.specs.declared.form.Form.{Form}
 use Rattle.q3_chan.specs.declared.gatherer.Gathered.{Gathered}
-use Rattle.q3_chan.specs.declared.gatherer.Gathered.TheVariants.{Whole, Partial, Old, OutOfOrder, BadFragment, Runt, Connectionless}
-use Rattle.q3_chan.specs.Datagrams.{Header, fragment_size, longest_message, is_fragment, number_in, header_length, start_in, count_in, behind_header}
+use Rattle.q3_chan.specs.declared.gatherer.Gathered.TheVariants.{Whole, Partial, Old, OutOfOrder, BadFragment, BadCheck, Runt, Connectionless}
+use Rattle.q3_chan.specs.Datagrams.{Header, fragment_size, longest_message, is_fragment, number_in, length_of, has_bad_check, start_in, count_in, behind_header}
 
--- which end sends, the newest number taken, 0 for none, and what was gathered: the number of its message, 0 for none, and
--- its bytes so far
+-- which end sends and by what its datagrams are checked, the newest number taken, 0 for none, and what was gathered: the number of its
+-- message, 0 for none, and its bytes so far
 pub record Gathering : Type 0 where
-  pub side : Side
+  pub form : Form
   pub taken : ℕ
   pub number : ℕ
   pub bytes : List ℕ
 
 -- what stands in front of the datagrams that an end hears, by their qport
 abbrev pub header_heard : Gathering → ℕ → Header
-header_heard g qport = record { side = g.side; qport = qport }
+header_heard g qport = record { form = g.form; qport = qport }
 
 -- an end that has taken nothing
-abbrev pub new_gathering : Side → Gathering
-new_gathering side = record { side = side; taken = 0; number = 0; bytes = [] }
+abbrev pub new_gathering : Form → Gathering
+new_gathering form = record { form = form; taken = 0; number = 0; bytes = [] }
 
 -- an end after a datagram, the answer, and the message that came whole, if one did
 pub record Took : Type 0 where
@@ -69,8 +69,8 @@ take_fragment g start count there = if start == length g.bytes then take_piece g
 abbrev pub take_newer : Gathering → List ℕ → Took
 take_newer g datagram =
     if is_fragment datagram
-    then take_fragment (gathering_of g (number_in datagram)) (start_in g.side datagram) (count_in g.side datagram) (behind_header g.side datagram)
-    else take_whole g (number_in datagram) (behind_header g.side datagram)
+    then take_fragment (gathering_of g (number_in datagram)) (start_in g.form datagram) (count_in g.form datagram) (behind_header g.form datagram)
+    else take_whole g (number_in datagram) (behind_header g.form datagram)
 
 -- a datagram that begins with four bytes of 255
 abbrev pub is_connectionless : List ℕ → Bool
@@ -81,7 +81,8 @@ unfoldable pub gathered : Gathering → List ℕ → Took
 gathered g datagram =
     if nat_lt (length datagram) 4 then answers g Runt else
     if is_connectionless datagram then answers g Connectionless else
-    if nat_lt (length datagram) (header_length g.side (is_fragment datagram)) then answers g Runt else
+    if nat_lt (length datagram) (length_of g.form (is_fragment datagram)) then answers g Runt else
+    if has_bad_check g.form.side g.form.check datagram then answers g BadCheck else
     if nat_le (number_in datagram) g.taken then answers g Old else take_newer g datagram
 
 -- a message that came whole stands at the front of a buffer

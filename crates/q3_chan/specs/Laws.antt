@@ -3,6 +3,7 @@ use Rattle.std.specs.Prelude.{◌≡◌, ◌⊎◌, ℕ, ◌+◌, ◌*◌, ◌^�
 use Rattle.std.specs.List.{concat, range_with_len}
 use Rattle.q3_text.specs.Texts.{IsText}
 use Rattle.q3_chan.specs.declared.side.Side.{Side}
+use Rattle.q3_chan.specs.declared.form.Form.{Form}
 use Rattle.q3_chan.specs.declared.gatherer.Gathered.TheVariants.{Whole, Partial}
 use Rattle.q3_chan.specs.Datagrams.{Header, fragment_size, longest_message, sequence_end, piece_count, last_index, pieces, datagram, datagrams, is_fragment, number_in, start_in, count_in, behind_header}
 use Rattle.q3_chan.specs.Sending.{Sending, UnderWay, IsIdle, new_sending, started, next_of, handed_out, behind}
@@ -85,16 +86,16 @@ FirstComePartial = (g : Gathering) (qport number index : ℕ) (message : List �
 abbrev pub GatheredIsOne : Type 0
 GatheredIsOne = (header : Header) (messages : ℕ → List ℕ) (came : List (List ℕ)) (last : List ℕ) (number count : ℕ) → header.qport < 2 ^ 16
     → All (IsOneOf header messages) came → IsOneOf header messages last
-    → (gathered (gathered_all (new_gathering header.side) came) last).answer ≡ Whole number count
-    → (gathered (gathered_all (new_gathering header.side) came) last).message ≡ messages number
+    → (gathered (gathered_all (new_gathering header.form) came) last).answer ≡ Whole number count
+    → (gathered (gathered_all (new_gathering header.form) came) last).message ≡ messages number
 
 -- datagrams with pieces of the message under a number, each of which starts where those before it end
-abbrev pub ArePieces : Side → ℕ → ℕ → List (List ℕ) → List ℕ → Type 0
-ArePieces side number start [] bytes = bytes ≡ []
-ArePieces side number start (datagram ∷ others) bytes =
-    (is_fragment datagram ≡ true) × (number_in datagram ≡ number) × (start_in side datagram ≡ start)
-    × (count_in side datagram ≤ length (behind_header side datagram)) × (rest : List ℕ)
-    × (bytes ≡ take (count_in side datagram) (behind_header side datagram) ++ rest) × ArePieces side number (start + count_in side datagram) others rest
+abbrev pub ArePieces : Form → ℕ → ℕ → List (List ℕ) → List ℕ → Type 0
+ArePieces form number start [] bytes = bytes ≡ []
+ArePieces form number start (datagram ∷ others) bytes =
+    (is_fragment datagram ≡ true) × (number_in datagram ≡ number) × (start_in form datagram ≡ start)
+    × (count_in form datagram ≤ length (behind_header form datagram)) × (rest : List ℕ)
+    × (bytes ≡ take (count_in form datagram) (behind_header form datagram) ++ rest) × ArePieces form number (start + count_in form datagram) others rest
 
 -- these stand among the others, in this order
 abbrev pub StandIn : List (List ℕ) → List (List ℕ) → Type 0
@@ -105,11 +106,11 @@ StandIn (one ∷ ones) others = (before : List (List ℕ)) × (behind : List (Li
 -- came in their order, of which the last is that of the last datagram; each before it has as many bytes as go into one, and it
 -- has fewer
 abbrev pub WholeArePieces : Type 0
-WholeArePieces = (side : Side) (came : List (List ℕ)) (last : List ℕ) (number count : ℕ)
-    → (gathered (gathered_all (new_gathering side) came) last).answer ≡ Whole number count
-    → ((is_fragment last ≡ false) × (number_in last ≡ number) × ((gathered (gathered_all (new_gathering side) came) last).message ≡ behind_header side last))
-    ⊎ ((parts : List (List ℕ)) × StandIn parts came × All (λ part. count_in side part ≡ fragment_size) parts × (count_in side last < fragment_size)
-    × ArePieces side number 0 (parts ++ last ∷ []) (gathered (gathered_all (new_gathering side) came) last).message)
+WholeArePieces = (form : Form) (came : List (List ℕ)) (last : List ℕ) (number count : ℕ)
+    → (gathered (gathered_all (new_gathering form) came) last).answer ≡ Whole number count
+    → ((is_fragment last ≡ false) × (number_in last ≡ number) × ((gathered (gathered_all (new_gathering form) came) last).message ≡ behind_header form last))
+    ⊎ ((parts : List (List ℕ)) × StandIn parts came × All (λ part. count_in form part ≡ fragment_size) parts × (count_in form last < fragment_size)
+    × ArePieces form number 0 (parts ++ last ∷ []) (gathered (gathered_all (new_gathering form) came) last).message)
 
 -- ---- the two ends
 
@@ -122,7 +123,7 @@ pub record Gathers (messages : ℕ → List ℕ) (last : ℕ) (g : Gathering) : 
 -- where an end that receives is so
 pub record EndsGather : Type 0 where
   -- an end that has taken nothing
-  pub begin : (messages : ℕ → List ℕ) (last : ℕ) (side : Side) → Gathers messages last (new_gathering side)
+  pub begin : (messages : ℕ → List ℕ) (last : ℕ) (form : Form) → Gathers messages last (new_gathering form)
   -- a piece of a message that was begun
   pub piece : (messages : ℕ → List ℕ) (last : ℕ) (g : Gathering) (number index : ℕ) → Gathers messages last g → number ≤ last
       → Gathers messages last (tagged g number (messages number) index).gathering
@@ -149,7 +150,7 @@ pub record HandsOut (messages : ℕ → List ℕ) (s : Sending) (index : ℕ) : 
 -- where an end that sends is so, and what it hands out
 pub record EndsSend : Type 0 where
   -- an end that has sent nothing
-  pub begin : (messages : ℕ → List ℕ) (side : Side) (qport : ℕ) → Sends messages (new_sending side qport)
+  pub begin : (messages : ℕ → List ℕ) (form : Form) (qport : ℕ) → Sends messages (new_sending form qport)
   -- a message is begun
   pub start : (messages : ℕ → List ℕ) (s : Sending) (message : List ℕ) → messages (s.number + 1) ≡ message → Sends messages (started s message)
   -- a piece is handed out
@@ -187,5 +188,5 @@ SideFrontStays = (side : Side) (key : Key) (bytes : List ℕ) → (length (side_
     × ((k : ℕ) → k ≤ clear_bytes side → take k (side_scrambled side key bytes) ≡ take k bytes)
 
 abbrev pub SideBytesStay : Type 0
-SideBytesStay = (side : Side) (key : Key) (bytes : List ℕ) → key.start < 2 ^ 8 → IsText key.text → All (λ byte. byte < 2 ^ 8) bytes
+SideBytesStay = (side : Side) (key : Key) (bytes : List ℕ) → IfSome key.start (λ start. start < 2 ^ 8) → IsText key.text → All (λ byte. byte < 2 ^ 8) bytes
     → All (λ byte. byte < 2 ^ 8) (side_scrambled side key bytes)

@@ -1,3 +1,4 @@
+pub mod Checks
 pub mod Datagrams
 pub mod Sending
 pub mod Gathering

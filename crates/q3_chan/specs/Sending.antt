@@ -1,6 +1,6 @@
 -- What an end that sends keeps: the message under way, and which of its pieces goes next.
 use Rattle.std.specs.Prelude.{◌≡◌, ℕ, zero, suc, ◌+◌, ◌<◌, nat_lt, if◌then◌else◌, List, [], ◌∷◌, length, Option, Some, None}
-use Rattle.q3_chan.specs.declared.side.Side.{Side}
+use Rattle.q3_chan.specs.declared.form.Form.{Form}
 use Rattle.q3_chan.specs.Datagrams.{Header, piece_count, datagram}
 
 -- a message whose pieces from an index on are still to be handed out
@@ -15,8 +15,8 @@ pub record Sending : Type 0 where
   pub under_way : Option UnderWay
 
 -- an end that has sent nothing
-abbrev pub new_sending : Side → ℕ → Sending
-new_sending side qport = record { header = record { side = side; qport = qport }; number = 0; under_way = None }
+abbrev pub new_sending : Form → ℕ → Sending
+new_sending form qport = record { header = record { form = form; qport = qport }; number = 0; under_way = None }
 
 -- nothing is left to be handed out
 abbrev pub IsIdle : Sending → Type 0

@@ -50,9 +50,9 @@ pub record Came (g : Gathering) (number : ℕ) (message : List ℕ) (took : Took
   pub message_is : took.message ≡ message
   pub taken : took.gathering.taken ≡ number
 
--- what a piece of a message does: the side stays, the number gathered stays within any limit that it and the piece's were
+-- what a piece of a message does: the form stays, the number gathered stays within any limit that it and the piece's were
 -- within, and no message comes whole or the piece's does
 pub record PieceDoes (g : Gathering) (number : ℕ) (message : List ℕ) (took : Took) : Type 0 where
-  pub side : took.gathering.side ≡ g.side
+  pub form : took.gathering.form ≡ g.form
   pub below : (limit : ℕ) → g.number ≤ limit → number ≤ limit → took.gathering.number ≤ limit
   pub either : Waits g took ⊎ Came g number message took

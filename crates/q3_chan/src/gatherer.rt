@@ -1,13 +1,15 @@
 //! An end that receives. Keeps the rules "fragmentation" and "what a receiver answers", the engine's `Netchan_Process`
 //! in net_chan.c.
 
-ghost use Rattle.std.specs.Prelude.{◌≡◌, ◌+◌, ◌≤◌, ◌++◌, ℕ, nat_le, length, take, IfOk};
-ghost use Rattle.q3_chan.specs.Datagrams.{longest_message, is_fragment, header_length};
+ghost use Rattle.std.specs.Prelude.{◌≡◌, ◌+◌, ◌≤◌, ◌++◌, ℕ, nat_le, length, take, IfOk, None};
+ghost use Rattle.q3_chan.specs.Datagrams.{with_check, longest_message, is_fragment, length_of};
 ghost use Rattle.q3_chan.specs.Gathering.{new_gathering, gathered, gathering_of, arrives, emptied, take_newer, take_whole, take_fragment, take_piece, add_piece, Delivers};
 
 use crate::buffer::{new_buffer, put_at};
+use crate::form::Form;
 use crate::header::{
-    behind_header, count_in, is_connectionless, is_fragment, lacks_header, number_in, start_in,
+    behind_header, count_in, has_bad_check, is_connectionless, is_form_checked, is_fragment,
+    lacks_header, number_in, start_in,
 };
 use crate::limits::{FRAGMENT_SIZE, LONGEST_MESSAGE};
 use crate::side::Side;
@@ -27,6 +29,8 @@ pub enum Gathered {
     OutOfOrder,
     /// The message or the piece is too long, or longer than the bytes there.
     BadFragment,
+    /// By protocol 71, the check isn't that of the number and the challenge.
+    BadCheck,
     /// The datagram is shorter than its header.
     Runt,
     /// The datagram begins with four bytes of 255: it belongs to no connection.
@@ -36,7 +40,7 @@ pub enum Gathered {
 /// Gathers datagrams into messages. It has memory of its own, which `new` takes and no other call does.
 #[derive(Drop)]
 pub struct Gatherer {
-    side: Side,
+    form: Form,
     taken: u32,
     number: u32,
     buffer: Vec<u8>,
@@ -56,17 +60,25 @@ impl Model for Gatherer {
 }
 
 impl Gatherer {
-    /// An end that has taken nothing of what the other side sends. `Err` is want of memory.
+    /// An end that has taken nothing of what the other side sends, and asks for no check. `Err` is want of memory.
     pub fn new(alloc: Global, side: Side) -> Result<Gatherer, NoMemory>
-        ensures { IfOk result (λ gatherer. gatherer ≡ new_gathering side) }
+        ensures { IfOk result (λ gatherer. gatherer ≡ new_gathering (record { side = side; check = None })) }
     {
         Ok(Gatherer {
-            side,
+            form: Form { side, check: None },
             taken: 0,
             number: 0,
             buffer: new_buffer(alloc)?,
             count: 0,
         })
+    }
+
+    /// From now on each datagram must have a check of this challenge, as by protocol 71, or none. Nothing was taken.
+    pub fn set_check(&mut self, check: Option<u32>)
+        requires none_taken { self.old.taken ≡ 0 }
+        ensures { self.new ≡ record self.old { form = with_check self.old.form check } }
+    {
+        self.form.check = check;
     }
 
     /// The number of the newest message taken, and 0 at first.
@@ -91,8 +103,11 @@ impl Gatherer {
         if is_connectionless(datagram) {
             return Gathered::Connectionless;
         }
-        if lacks_header(self.side, datagram) {
+        if lacks_header(self.form.side, is_form_checked(self.form), datagram) {
             return Gathered::Runt;
+        }
+        if has_bad_check(self.form, datagram) {
+            return Gathered::BadCheck;
         }
         if self.is_old(number_in(datagram)) {
             return Gathered::Old;
@@ -111,18 +126,18 @@ impl Gatherer {
     fn take_newer(&mut self, datagram: &[u8], into: &mut [u8]) -> Gathered
         requires room { length into.old ≡ longest_message }
         requires number { 4 ≤ length datagram.now }
-        requires header { header_length self.old.side (is_fragment datagram.now) ≤ length datagram.now }
+        requires header { length_of self.old.form (is_fragment datagram.now) ≤ length datagram.now }
         ensures gathering { self.new ≡ (take_newer self.old datagram.now).gathering }
         ensures answer { result ≡ (take_newer self.old datagram.now).answer }
         ensures message { Delivers result into.new (take_newer self.old datagram.now).message }
     {
         let number = number_in(datagram);
-        let there = behind_header(self.side, datagram);
+        let there = behind_header(self.form, datagram);
         if !is_fragment(datagram) {
             return self.take_whole(number, there, into);
         }
-        let start = start_in(self.side, datagram);
-        let count = count_in(self.side, datagram);
+        let start = start_in(self.form, datagram);
+        let count = count_in(self.form, datagram);
         self.gather(number);
         self.take_fragment(start, count, there, into)
     }

@@ -1,11 +1,12 @@
-//! What a datagram begins with, written and read. Keeps the rule "datagram header", the engine's
+//! What a datagram begins with, written and read. Keeps the rules "datagram header" and "the check of protocol 71": the engine's
 //! `Netchan_TransmitNextFragment`, `Netchan_Transmit` and `Netchan_Process` in net_chan.c.
 
-ghost use Rattle.std.specs.Prelude.{◌≡◌, ◌<◌, ◌+◌, ◌≤◌, ◌++◌, nat_lt, length};
+ghost use Rattle.std.specs.Prelude.{◌≡◌, ◌<◌, ◌+◌, ◌≤◌, ◌++◌, nat_lt, length, is_some};
 ghost use Rattle.byteorder.specs.Endian.{little_bytes};
-ghost use Rattle.q3_chan.specs.Datagrams.{header_bytes, is_fragment, number_in, short_header, header_length, start_in, count_in, behind_header};
+ghost use Rattle.q3_chan.specs.Datagrams.{sequence_end, header_bytes, check_bytes, check_in, marked, is_fragment, number_in, short_header, header_length, before_check, check_length, short_of, length_of, has_bad_check, start_in, count_in, behind_header};
 ghost use Rattle.q3_chan.specs.Gathering.{is_connectionless};
 
+use crate::form::{Form, check_of};
 use crate::limits::DATAGRAM_ROOM;
 use crate::sender::Datagram;
 use crate::side::Side;
@@ -13,7 +14,7 @@ use byteorder::{ByteOrder, LittleEndian};
 use std::marker::Model;
 
 /// What is added to the number of a message in its fragments: the top bit, the engine's `FRAGMENT_BIT`.
-pub(crate) const FRAGMENT_MARK: u32 = 0x8000_0000;
+const FRAGMENT_MARK: u32 = 0x8000_0000;
 
 /// Puts bytes behind those of a datagram.
 pub(crate) fn put_bytes(out: &mut Datagram, bytes: &[u8])
@@ -47,7 +48,7 @@ pub(crate) fn put_short(out: &mut Datagram, number: u16)
 /// What stands in front of each datagram of an end beside the number of its message.
 #[derive(Clone, Copy, Drop)]
 pub(crate) struct Header {
-    pub side: Side,
+    pub form: Form,
     /// With what a server sends no qport goes.
     pub qport: u16,
 }
@@ -57,20 +58,45 @@ impl Model for Header {
 
     ghost Value = { Header };
 
-    ghost view = { λ h. record { side = h.side; qport = h.qport } };
+    ghost view = { λ h. record { form = h.form; qport = h.qport } };
 
-    ghost inverse = { λ value. record { side = value.side; qport = value.qport } };
+    ghost inverse = { λ value. record { form = value.form; qport = value.qport } };
 }
 
-/// Puts what begins each datagram: the number of its message, with or without the mark, and from a client its qport.
-pub(crate) fn put_header(out: &mut Datagram, header: Header, number: u32)
-    requires { length out.old.items + 6 ≤ DATAGRAM_ROOM }
-    ensures bytes { out.new.items ≡ out.old.items ++ header_bytes header number }
+/// Puts what begins each datagram of the message under a number, a fragment or not: the number, which has the mark in a fragment, from a
+/// client its qport, and the check, where there is one.
+pub(crate) fn put_header(out: &mut Datagram, header: Header, fragment: bool, number: u32)
+    requires room { length out.old.items + 10 ≤ DATAGRAM_ROOM }
+    requires number { number < sequence_end }
+    ensures bytes { out.new.items ≡ out.old.items ++ header_bytes header fragment number }
     ensures some { 0 < length out.new.items }
 {
-    put_long(out, number);
-    if header.side == Side::Client {
+    put_long(out, marked(fragment, number));
+    if header.form.side == Side::Client {
         put_short(out, header.qport);
+    }
+    put_check(out, header.form.check, number);
+}
+
+/// The number of a message in a datagram.
+fn marked(fragment: bool, number: u32) -> u32
+    requires { number < sequence_end }
+    ensures { result ≡ marked fragment number }
+{
+    if fragment {
+        number + FRAGMENT_MARK
+    } else {
+        number
+    }
+}
+
+/// Puts the check of a number, where there is one.
+fn put_check(out: &mut Datagram, check: Option<u32>, number: u32)
+    requires { length out.old.items + 4 ≤ DATAGRAM_ROOM }
+    ensures { out.new.items ≡ out.old.items ++ check_bytes check number }
+{
+    if let Some(challenge) = check {
+        put_long(out, check_of(challenge, number));
     }
 }
 
@@ -98,9 +124,9 @@ pub(crate) fn number_in(datagram: &[u8]) -> u32
     LittleEndian::read_u32(datagram) % FRAGMENT_MARK
 }
 
-/// How many bytes stand before a message that goes whole: those of its number, and of the qport that a client sends.
-fn short_header(side: Side) -> usize
-    ensures { result ≡ short_header side }
+/// How many bytes stand before the check: those of the number, and of the qport that a client sends.
+fn before_check(side: Side) -> usize
+    ensures { result ≡ before_check side }
 {
     match side {
         Side::Server => 4,
@@ -108,46 +134,97 @@ fn short_header(side: Side) -> usize
     }
 }
 
+/// How many bytes the check has, where there is one.
+fn check_length(checked: bool) -> usize
+    ensures { result ≡ check_length checked }
+{
+    if checked { 4 } else { 0 }
+}
+
+/// How many bytes stand before a message that goes whole.
+fn short_header(side: Side, checked: bool) -> usize
+    ensures { result ≡ short_header side checked }
+{
+    before_check(side) + check_length(checked)
+}
+
 /// How many bytes stand before the message or its piece.
-fn header_length(side: Side, fragment: bool) -> usize
-    ensures { result ≡ header_length side fragment }
+fn header_length(side: Side, checked: bool, fragment: bool) -> usize
+    ensures { result ≡ header_length side checked fragment }
 {
     if fragment {
-        short_header(side) + 4
+        short_header(side, checked) + 4
     } else {
-        short_header(side)
+        short_header(side, checked)
     }
 }
 
-/// Whether a datagram is shorter than its header.
-pub(crate) fn lacks_header(side: Side, datagram: &[u8]) -> bool
+/// Whether a datagram is shorter than its header, which has a check or none.
+pub(crate) fn lacks_header(side: Side, checked: bool, datagram: &[u8]) -> bool
     requires { 4 ≤ length datagram.now }
-    ensures { result ≡ nat_lt (length datagram.now) (header_length side (is_fragment datagram.now)) }
+    ensures { result ≡ nat_lt (length datagram.now) (header_length side checked (is_fragment datagram.now)) }
 {
-    datagram.len() < header_length(side, is_fragment(datagram))
+    datagram.len() < header_length(side, checked, is_fragment(datagram))
+}
+
+/// Whether a datagram of a form has a check.
+pub(crate) fn is_form_checked(form: Form) -> bool
+    ensures { result ≡ is_some form.check }
+{
+    form.check.is_some()
+}
+
+/// How many bytes stand before a message of a form that goes whole.
+fn short_of(form: Form) -> usize
+    ensures { result ≡ short_of form }
+{
+    short_header(form.side, is_form_checked(form))
+}
+
+/// Whether the check of a datagram, where it has one, is another than that of its number.
+pub(crate) fn has_bad_check(form: Form, datagram: &[u8]) -> bool
+    requires number { 4 ≤ length datagram.now }
+    requires header { length_of form (is_fragment datagram.now) ≤ length datagram.now }
+    ensures { result ≡ has_bad_check form.side form.check datagram.now }
+{
+    match form.check {
+        None => false,
+        Some(challenge) => {
+            check_in(form.side, datagram) != check_of(challenge, number_in(datagram))
+        }
+    }
+}
+
+/// The check that a datagram has.
+fn check_in(side: Side, datagram: &[u8]) -> u32
+    requires { before_check side + 4 ≤ length datagram.now }
+    ensures { result ≡ check_in side datagram.now }
+{
+    LittleEndian::read_u32(&datagram[before_check(side)..])
 }
 
 /// The bytes behind the header.
-pub(crate) fn behind_header(side: Side, datagram: &[u8]) -> &[u8]
+pub(crate) fn behind_header(form: Form, datagram: &[u8]) -> &[u8]
     requires number { 4 ≤ length datagram.now }
-    requires header { header_length side (is_fragment datagram.now) ≤ length datagram.now }
-    ensures { result.now ≡ behind_header side datagram.now }
+    requires header { length_of form (is_fragment datagram.now) ≤ length datagram.now }
+    ensures { result.now ≡ behind_header form datagram.now }
 {
-    &datagram[header_length(side, is_fragment(datagram))..]
+    let length = header_length(form.side, is_form_checked(form), is_fragment(datagram));
+    &datagram[length..]
 }
 
 /// Where a fragment's piece starts in its message.
-pub(crate) fn start_in(side: Side, datagram: &[u8]) -> usize
-    requires { short_header side + 4 ≤ length datagram.now }
-    ensures { result ≡ start_in side datagram.now }
+pub(crate) fn start_in(form: Form, datagram: &[u8]) -> usize
+    requires { short_of form + 4 ≤ length datagram.now }
+    ensures { result ≡ start_in form datagram.now }
 {
-    usize::from(LittleEndian::read_u16(&datagram[short_header(side)..]))
+    usize::from(LittleEndian::read_u16(&datagram[short_of(form)..]))
 }
 
 /// How many bytes a fragment's piece is said to have.
-pub(crate) fn count_in(side: Side, datagram: &[u8]) -> usize
-    requires { short_header side + 4 ≤ length datagram.now }
-    ensures { result ≡ count_in side datagram.now }
+pub(crate) fn count_in(form: Form, datagram: &[u8]) -> usize
+    requires { short_of form + 4 ≤ length datagram.now }
+    ensures { result ≡ count_in form datagram.now }
 {
-    usize::from(LittleEndian::read_u16(&datagram[short_header(side) + 2..]))
+    usize::from(LittleEndian::read_u16(&datagram[short_of(form) + 2..]))
 }

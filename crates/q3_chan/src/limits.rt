@@ -9,6 +9,6 @@ pub const LONGEST_MESSAGE: usize = 16_384;
 /// The numbers of messages stay below this. The engine has no such end: this project's own.
 pub const SEQUENCE_END: u32 = 1 << 30;
 
-/// The bytes that a `Datagram` has room for: a piece and what stands before it, which is at most 10. The engine's packets
+/// The bytes that a `Datagram` has room for: a piece and what stands before it, which is at most 14. The engine's packets
 /// have room for 1,400, its `MAX_PACKETLEN`.
 pub const DATAGRAM_ROOM: usize = 1_320;

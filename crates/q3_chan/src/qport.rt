@@ -17,11 +17,11 @@ pub enum NoQport {
     Connectionless,
 }
 
-/// The qport of a datagram that came from a client. `Err` is the first of: `Runt` below 4 bytes; `Connectionless`;
+/// The qport of a datagram that came from a client, with a check or without. `Err` is the first of: `Runt` below 4 bytes; `Connectionless`;
 /// `Runt` where it has fewer bytes than its header.
 #[tactic(auto, unfolding(crate::specs::Senders::qport_of))]
-pub fn qport_of(datagram: &[u8]) -> Result<u16, NoQport>
-    ensures { result ≡ qport_of datagram.now }
+pub fn qport_of(checked: bool, datagram: &[u8]) -> Result<u16, NoQport>
+    ensures { result ≡ qport_of checked datagram.now }
 {
     if datagram.len() < 4 {
         return Err(NoQport::Runt);
@@ -29,7 +29,7 @@ pub fn qport_of(datagram: &[u8]) -> Result<u16, NoQport>
     if is_connectionless(datagram) {
         return Err(NoQport::Connectionless);
     }
-    if lacks_header(Side::Client, datagram) {
+    if lacks_header(Side::Client, checked, datagram) {
         return Err(NoQport::Runt);
     }
     Ok(qport_in(datagram))

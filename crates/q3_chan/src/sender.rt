@@ -1,13 +1,14 @@
 //! An end that sends. Keeps the rules "datagram header" and "fragmentation", the engine's `Netchan_Transmit` and
 //! `Netchan_TransmitNextFragment` in net_chan.c.
 
-ghost use Rattle.std.specs.Prelude.{◌≡◌, ◌+◌, ◌*◌, ◌<◌, ◌≤◌, ◌↔◌, ◌++◌, nat_lt, if◌then◌else◌, length, IfOk, IsSome, IsTrue};
+ghost use Rattle.std.specs.Prelude.{◌≡◌, ◌+◌, ◌*◌, ◌<◌, ◌≤◌, ◌↔◌, ◌++◌, nat_lt, if◌then◌else◌, length, IfOk, IsSome, IsTrue, None};
 ghost use Rattle.byteorder.specs.Endian.{little_bytes};
-ghost use Rattle.q3_chan.specs.Datagrams.{fragment_size, longest_message, sequence_end, piece_count, datagram, piece};
+ghost use Rattle.q3_chan.specs.Datagrams.{with_check, fragment_size, longest_message, sequence_end, piece_count, datagram, piece};
 ghost use Rattle.q3_chan.specs.Sending.{IsIdle, new_sending, started, next_of};
 
 use crate::buffer::{new_buffer, put_at};
-use crate::header::{FRAGMENT_MARK, Header, put_bytes, put_header, put_short};
+use crate::form::Form;
+use crate::header::{Header, put_bytes, put_header, put_short};
 use crate::limits::{DATAGRAM_ROOM, FRAGMENT_SIZE};
 use crate::side::Side;
 use arrayvec::ArrayVec;
@@ -40,18 +41,29 @@ impl Model for Sender {
 }
 
 impl Sender {
-    /// An end that has sent nothing. A server hands in any qport, since none goes with what it sends. `Err` is want of
-    /// memory.
+    /// An end that has sent nothing, and sends no check. A server hands in any qport, since none goes with what it sends. `Err` is want
+    /// of memory.
     pub fn new(alloc: Global, side: Side, qport: u16) -> Result<Sender, NoMemory>
-        ensures { IfOk result (λ sender. sender ≡ new_sending side qport) }
+        ensures { IfOk result (λ sender. sender ≡ new_sending (record { side = side; check = None }) qport) }
     {
         Ok(Sender {
-            header: Header { side, qport },
+            header: Header {
+                form: Form { side, check: None },
+                qport,
+            },
             number: 0,
             buffer: new_buffer(alloc)?,
             count: 0,
             index: None,
         })
+    }
+
+    /// From now on each datagram has a check of this challenge, as by protocol 71, or none. No message was begun.
+    pub fn set_check(&mut self, check: Option<u32>)
+        requires none_begun { self.old.number ≡ 0 }
+        ensures { self.new ≡ record self.old { header = record self.old.header { form = with_check self.old.header.form check } } }
+    {
+        self.header.form.check = check;
     }
 
     /// Begins a message of 1 to 16,384 bytes under the next number, which is 1 at first and stays below `SEQUENCE_END`.
@@ -108,17 +120,17 @@ fn write_datagram(out: &mut Datagram, header: Header, number: u32, message: &[u8
 {
     out.clear();
     if message.len() < FRAGMENT_SIZE {
-        put_header(out, header, number);
+        put_header(out, header, false, number);
         put_bytes(out, message);
     } else {
-        put_header(out, header, number + FRAGMENT_MARK);
+        put_header(out, header, true, number);
         put_piece(out, message, index);
     }
 }
 
 /// Puts the piece of a message at an index behind the bytes of a datagram: where it starts, how long it is, and its bytes.
 fn put_piece(out: &mut Datagram, message: &[u8], index: usize)
-    requires room { length out.old.items ≤ 6 }
+    requires room { length out.old.items ≤ 10 }
     requires most { length message.now ≤ longest_message }
     requires within { fragment_size * index ≤ length message.now }
     ensures { out.new.items ≡ out.old.items ++ little_bytes 2 (fragment_size * index)

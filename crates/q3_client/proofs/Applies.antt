@@ -7,7 +7,7 @@ use Rattle.q3_bits.specs.ResultBind.{◌>>=◌, bind_ok, fault_as}
 use Rattle.q3_window.specs.Outgoing.{acknowledge_at, text_at}
 use Rattle.q3_chan.specs.declared.gatherer.Gathered.{Gathered}
 use Rattle.q3_chan.specs.declared.gatherer.Gathered.TheVariants as gathered
-use Rattle.q3_chan.specs.Datagrams.{fragment_size, longest_message, is_fragment, number_in, header_length, start_in, count_in, behind_header}
+use Rattle.q3_chan.specs.Datagrams.{fragment_size, longest_message, is_fragment, number_in, length_of, has_bad_check, start_in, count_in, behind_header}
 use Rattle.q3_chan.specs.Gathering.{Gathering, Took, answers as gathers, arrives, emptied, gathering_of, take_whole, add_piece, take_piece, take_fragment, take_newer, is_connectionless, gathered as gathered_of}
 use Rattle.q3_svmsg.specs.declared.error.Illegible.{Illegible}
 use Rattle.q3_svmsg.specs.declared.error.Illegible.TheVariants.{Bits}
@@ -53,27 +53,29 @@ newer_above : (last : ℕ) (g : Gathering) (datagram : List ℕ) → last < numb
 newer_above last g datagram newer =
     let n = number_in datagram in
     let fits : n < 2 ^ 32 = omega arith in
-    let message = behind_header g.side datagram in
+    let message = behind_header g.form datagram in
     let now = gathering_of g n in
     let above : AreAbove last now.number = cond_both (n == g.number) g (record g { number = n; bytes = [] }) (λ (g : Gathering). AreAbove last g.number)
     (λ same. subst (λ (m : ℕ). AreAbove last m) (eqb-true n g.number same) (record { newer = newer; fits = fits })) (λ other. record { newer = newer; fits = fits }) in
     let Above = λ (took : Took). IsAbove last took.answer in
-    cond_both (is_fragment datagram) (take_fragment now (start_in g.side datagram) (count_in g.side datagram) message) (take_whole g n message) Above
-    (λ e. fragment_above last now (start_in g.side datagram) (count_in g.side datagram) message above)
+    cond_both (is_fragment datagram) (take_fragment now (start_in g.form datagram) (count_in g.form datagram) message) (take_whole g n message) Above
+    (λ e. fragment_above last now (start_in g.form datagram) (count_in g.form datagram) message above)
     (λ e. cond_both (nat_lt longest_message (length message)) (gathers g gathered.BadFragment) (arrives g n message) Above (λ long. tt) (λ short. (newer, fits)))
 
 gathered_above : (g : Gathering) (datagram : List ℕ) → IsAbove g.taken (gathered_of g datagram).answer
 unfolding gathered_of
 gathered_above g datagram =
     let newer : Took = if nat_le (number_in datagram) g.taken then gathers g gathered.Old else take_newer g datagram in
-    let headed : Took = if nat_lt (length datagram) (header_length g.side (is_fragment datagram)) then gathers g gathered.Runt else newer in
+    let checked : Took = if has_bad_check g.form.side g.form.check datagram then gathers g gathered.BadCheck else newer in
+    let headed : Took = if nat_lt (length datagram) (length_of g.form (is_fragment datagram)) then gathers g gathered.Runt else checked in
     let bare : Took = if is_connectionless datagram then gathers g gathered.Connectionless else headed in
     let Above = λ (took : Took). IsAbove g.taken took.answer in
     cond_both (nat_lt (length datagram) 4) (gathers g gathered.Runt) bare Above (λ e. tt)
     (λ e. cond_both (is_connectionless datagram) (gathers g gathered.Connectionless) headed Above (λ e. tt)
-    (λ e. cond_both (nat_lt (length datagram) (header_length g.side (is_fragment datagram))) (gathers g gathered.Runt) newer Above (λ e. tt)
+    (λ e. cond_both (nat_lt (length datagram) (length_of g.form (is_fragment datagram))) (gathers g gathered.Runt) checked Above (λ e. tt)
+    (λ e. cond_both (has_bad_check g.form.side g.form.check datagram) (gathers g gathered.BadCheck) newer Above (λ e. tt)
     (λ e. cond_both (nat_le (number_in datagram) g.taken) (gathers g gathered.Old) (take_newer g datagram) Above (λ e. tt)
-    (λ new. newer_above g.taken g datagram (leb-false _ _ new)))))
+    (λ new. newer_above g.taken g datagram (leb-false _ _ new))))))
 
 -- ---- what bytes do has their message's number
 
@@ -112,8 +114,8 @@ received_with client ack plain applied =
 abbrev received_behind : ClientState → ℕ → List ℕ → ℕ × ℕ → Result Reception Illegible
 received_behind client n bytes ack =
     ack_taken ack.0 (acknowledge_at client.issued ack.0).answer >>= λ taken.
-    received_with client ack.0 (cleared client.challenge n (text_at client.issued ack.0) bytes)
-    (apply_at client.state n (cleared client.challenge n (text_at client.issued ack.0) bytes))
+    received_with client ack.0 (cleared client.state.profile.protocol client.challenge n (text_at client.issued ack.0) bytes)
+    (apply_at client.state n (cleared client.state.profile.protocol client.challenge n (text_at client.issued ack.0) bytes))
 
 abbrev received_as : Reception → Result Reception Illegible
 received_as reception = Ok reception
@@ -132,7 +134,7 @@ was_received : (client : ClientState) (n : ℕ) (bytes : List ℕ) (received : R
 was_received client n bytes received e =
     let long = bind_ok (fault_as Bits (ack_at client.state.profile.code (bits_of bytes))) (received_behind client n bytes) received e in
     let ack = long.0.0 in
-    let plain = cleared client.challenge n (text_at client.issued ack) bytes in
+    let plain = cleared client.state.profile.protocol client.challenge n (text_at client.issued ack) bytes in
     let taken = bind_ok (ack_taken ack (acknowledge_at client.issued ack).answer) (λ (taken : Unit {0}). received_with client ack plain (apply_at client.state n plain)) received long.2 in
     with_was client n ack plain (apply_at client.state n plain) received refl taken.2
 
@@ -169,6 +171,7 @@ answer_was client last gathered.Partial receive applied above were e = absurd cc
 answer_was client last gathered.Old receive applied above were e = absurd cc
 answer_was client last gathered.OutOfOrder receive applied above were e = absurd cc
 answer_was client last gathered.BadFragment receive applied above were e = absurd cc
+answer_was client last gathered.BadCheck receive applied above were e = absurd cc
 answer_was client last gathered.Runt receive applied above were e = absurd cc
 answer_was client last gathered.Connectionless receive applied above were e = absurd cc
 

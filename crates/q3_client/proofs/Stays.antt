@@ -11,7 +11,7 @@ use Rattle.q3_profile.specs.declared.profile.Profile.{Profile}
 use Rattle.q3_profile.specs.Profile.{IsCodec}
 use Rattle.q3_chan.specs.declared.gatherer.Gathered.{Gathered}
 use Rattle.q3_chan.specs.declared.gatherer.Gathered.TheVariants as gathered
-use Rattle.q3_chan.specs.Datagrams.{fragment_size, longest_message, is_fragment, number_in, header_length, start_in, count_in, behind_header}
+use Rattle.q3_chan.specs.Datagrams.{fragment_size, longest_message, is_fragment, number_in, length_of, has_bad_check, start_in, count_in, behind_header}
 use Rattle.q3_chan.specs.Gathering.{Gathering, Took, answers as gathers, arrives, emptied, gathering_of, take_whole, add_piece, take_piece, take_fragment, take_newer, is_connectionless, gathered as gathered_of}
 use Rattle.q3_chan.specs.Datagrams.{sequence_end}
 use Rattle.q3_chan.specs.Sending.{Sending, UnderWay, started, next_of}
@@ -71,12 +71,12 @@ newer_fits : (g : Gathering) (datagram : List ℕ) → g.taken < 2 ^ 32 → Fits
 newer_fits g datagram few =
     let n = number_in datagram in
     let short : n < 2 ^ 32 = omega arith in
-    let message = behind_header g.side datagram in
+    let message = behind_header g.form datagram in
     let now = gathering_of g n in
     let are : AreShort now = cond_both (n == g.number) g (record g { number = n; bytes = [] }) AreShort
     (λ same. record { taken = few; number = let e = eqb-true n g.number same in omega (arith, e, short) }) (λ other. record { taken = few; number = short }) in
-    cond_both (is_fragment datagram) (take_fragment now (start_in g.side datagram) (count_in g.side datagram) message) (take_whole g n message) Fits
-    (λ e. fragment_fits now (start_in g.side datagram) (count_in g.side datagram) message are)
+    cond_both (is_fragment datagram) (take_fragment now (start_in g.form datagram) (count_in g.form datagram) message) (take_whole g n message) Fits
+    (λ e. fragment_fits now (start_in g.form datagram) (count_in g.form datagram) message are)
     (λ e. cond_both (nat_lt longest_message (length message)) (gathers g gathered.BadFragment) (arrives g n message) Fits
     (λ long. record { taken = few; number = omega arith }) (λ fits. record { taken = short; number = short }))
 
@@ -84,13 +84,15 @@ gathered_fits : (g : Gathering) (datagram : List ℕ) → g.taken < 2 ^ 32 → F
 unfolding gathered_of
 gathered_fits g datagram few =
     let newer : Took = if nat_le (number_in datagram) g.taken then gathers g gathered.Old else take_newer g datagram in
-    let headed : Took = if nat_lt (length datagram) (header_length g.side (is_fragment datagram)) then gathers g gathered.Runt else newer in
+    let checked : Took = if has_bad_check g.form.side g.form.check datagram then gathers g gathered.BadCheck else newer in
+    let headed : Took = if nat_lt (length datagram) (length_of g.form (is_fragment datagram)) then gathers g gathered.Runt else checked in
     let bare : Took = if is_connectionless datagram then gathers g gathered.Connectionless else headed in
     cond_both (nat_lt (length datagram) 4) (gathers g gathered.Runt) bare Fits (λ e. record { taken = few; number = omega arith })
     (λ e. cond_both (is_connectionless datagram) (gathers g gathered.Connectionless) headed Fits (λ e. record { taken = few; number = omega arith })
-    (λ e. cond_both (nat_lt (length datagram) (header_length g.side (is_fragment datagram))) (gathers g gathered.Runt) newer Fits (λ e. record { taken = few; number = omega arith })
+    (λ e. cond_both (nat_lt (length datagram) (length_of g.form (is_fragment datagram))) (gathers g gathered.Runt) checked Fits (λ e. record { taken = few; number = omega arith })
+    (λ e. cond_both (has_bad_check g.form.side g.form.check datagram) (gathers g gathered.BadCheck) newer Fits (λ e. record { taken = few; number = omega arith })
     (λ e. cond_both (nat_le (number_in datagram) g.taken) (gathers g gathered.Old) (take_newer g datagram) Fits (λ e. record { taken = few; number = omega arith })
-    (λ e. newer_fits g datagram few))))
+    (λ e. newer_fits g datagram few)))))
 
 -- ---- what is received
 
@@ -106,8 +108,8 @@ received_with client ack plain applied =
 abbrev received_behind : ClientState → ℕ → List ℕ → ℕ × ℕ → Result Reception Illegible
 received_behind client n bytes ack =
     ack_taken ack.0 (acknowledge_at client.issued ack.0).answer >>= λ taken.
-    received_with client ack.0 (cleared client.challenge n (text_at client.issued ack.0) bytes)
-    (apply_at client.state n (cleared client.challenge n (text_at client.issued ack.0) bytes))
+    received_with client ack.0 (cleared client.state.profile.protocol client.challenge n (text_at client.issued ack.0) bytes)
+    (apply_at client.state n (cleared client.state.profile.protocol client.challenge n (text_at client.issued ack.0) bytes))
 
 abbrev received_as : Reception → Result Reception Illegible
 received_as reception = Ok reception
@@ -127,7 +129,7 @@ pub are_received : ApplyStays → StaysOutgoing → (client : ClientState) (n : 
 are_received applies stays client n bytes received fits is window e =
     let long = bind_ok (fault_as Bits (ack_at client.state.profile.code (bits_of bytes))) (received_behind client n bytes) received e in
     let ack = long.0.0 in
-    let plain = cleared client.challenge n (text_at client.issued ack) bytes in
+    let plain = cleared client.state.profile.protocol client.challenge n (text_at client.issued ack) bytes in
     let taken = bind_ok (ack_taken ack (acknowledge_at client.issued ack).answer) (λ (taken : Unit {0}). received_with client ack plain (apply_at client.state n plain)) received long.2 in
     were_received stays client ack plain (apply_at client.state n plain) received window (applies.apply client.state n plain fits is) taken.2
 
@@ -155,6 +157,7 @@ answer_stays client gathered.Partial receive fits are is = is
 answer_stays client gathered.Old receive fits are is = is
 answer_stays client gathered.OutOfOrder receive fits are is = is
 answer_stays client gathered.BadFragment receive fits are is = is
+answer_stays client gathered.BadCheck receive fits are is = is
 answer_stays client gathered.Runt receive fits are is = is
 answer_stays client gathered.Connectionless receive fits are is = is
 

@@ -7,7 +7,8 @@ use Rattle.q3_window.specs.declared.outgoing.BadAck.{BadAck}
 use Rattle.q3_window.specs.declared.outgoing.WindowFull.{WindowFull}
 use Rattle.q3_window.specs.Outgoing.{OutgoingState, new_outgoing, issue_at, acknowledge_at, text_at}
 use Rattle.q3_profile.specs.declared.profile.Profile.{Profile}
-use Rattle.q3_chan.specs.declared.side.Side.TheVariants.{Server, Client}
+use Rattle.q3_chan.specs.Checks.{check_for}
+use Rattle.q3_chan.specs.Datagrams.{server_form, client_form}
 use Rattle.q3_chan.specs.declared.gatherer.Gathered.{Gathered}
 use Rattle.q3_chan.specs.declared.gatherer.Gathered.TheVariants as gathered
 use Rattle.q3_chan.specs.Gathering.{Gathering, Took, new_gathering, gathered as gathered_of}
@@ -22,7 +23,7 @@ use Rattle.q3_clstate.specs.declared.applied.SnapOutcome.{SnapOutcome}
 use Rattle.q3_clstate.specs.declared.applied.SnapOutcome.TheVariants as outcomes
 use Rattle.q3_clstate.specs.State.{AppliedState, Application, new_state, apply_at, apply_message}
 use Rattle.q3_client.specs.declared.client.ClientTook.{ClientTook}
-use Rattle.q3_client.specs.declared.client.ClientTook.TheVariants.{Dropped, Runt, Connectionless, Old, OutOfOrder, BadFragment, Partial, Illegible, Applied}
+use Rattle.q3_client.specs.declared.client.ClientTook.TheVariants.{Dropped, Runt, Connectionless, Old, OutOfOrder, BadCheck, BadFragment, Partial, Illegible, Applied}
 use Rattle.q3_client.specs.declared.moves.Issued.{Issued}
 
 -- a client: what the messages that were applied left, and the bytes of the last of them, cleared, none before the first; how it
@@ -53,11 +54,11 @@ new_client profile challenge qport dup =
       challenge = challenge;
       qport = qport;
       dup = dup;
-      gathering = new_gathering Server;
+      gathering = new_gathering (server_form (check_for profile.protocol challenge));
       delta = false;
       asks_whole = false;
       dropped = None;
-      sending = new_sending Client qport;
+      sending = new_sending (client_form (check_for profile.protocol challenge)) qport;
       issued = new_outgoing;
       moves = [];
       last_time = 0;
@@ -113,9 +114,9 @@ abbrev pub ack_taken : ℕ → Result (Unit {0}) BadAck → Result (Unit {0}) ca
 ack_taken ack (Ok x) = Ok x
 ack_taken ack (Err e) = Err (causes.Ack ack)
 
--- a message of a number cleared, by the text of the command that it acknowledges
-abbrev pub cleared : ℕ → ℕ → List ℕ → List ℕ → List ℕ
-cleared challenge number text bytes = server_scrambled (server_key challenge number text) bytes
+-- a message of a number cleared, by the text of the command that it acknowledges, or as it is, by protocol 71
+abbrev pub cleared : ℕ → ℕ → ℕ → List ℕ → List ℕ → List ℕ
+cleared protocol challenge number text bytes = server_scrambled (server_key protocol challenge number text) bytes
 
 -- what bytes are as a message of a number, by what was applied, the commands that were issued, and the challenge: the leading long
 -- counts as it is read before the message is cleared
@@ -123,7 +124,7 @@ abbrev pub receive_by : AppliedState → OutgoingState → ℕ → ℕ → List 
 receive_by state issued challenge number bytes = do
   ack ← fault_as causes.Bits (ack_at state.profile.code (bits_of bytes))
   taken ← ack_taken ack.0 (acknowledge_at issued ack.0).answer
-  let plain = cleared challenge number (text_at issued ack.0) bytes in do
+  let plain = cleared state.profile.protocol challenge number (text_at issued ack.0) bytes in do
     application ← apply_at state number plain
     Ok (record { message = plain; issued = (acknowledge_at issued ack.0).window; application = application })
 
@@ -160,6 +161,7 @@ take_answer client gathered.Partial receive = answers client Partial
 take_answer client gathered.Old receive = answers client Old
 take_answer client gathered.OutOfOrder receive = answers client OutOfOrder
 take_answer client gathered.BadFragment receive = answers client BadFragment
+take_answer client gathered.BadCheck receive = answers client BadCheck
 take_answer client gathered.Runt receive = answers client Runt
 take_answer client gathered.Connectionless receive = answers client Connectionless
 

@@ -51,7 +51,7 @@ next_said client = record {
   message = next_message client;
   last = issued_of client.issued;
   feed = client.state.feed;
-  key = client_key client.challenge client.state.id client.gathering.taken client.state.executed.last;
+  key = client_key client.state.profile.protocol client.challenge client.state.id client.gathering.taken client.state.executed.last;
 }
 
 -- the bits of a message
@@ -62,16 +62,17 @@ said_bits profile said = client_text profile.code (message_key said.feed said.me
 abbrev pub said_bytes : Profile → Said → List ℕ
 said_bytes profile said = client_scrambled said.key (message_bytes (said_bits profile said))
 
--- whether the leading longs of a message take more bits than stay clear, so that scrambled bytes would hide a part of them
+-- whether the leading longs of a message take more bits than stay clear, so that scrambled bytes would hide a part of them: never by a
+-- protocol that scrambles nothing
 abbrev pub is_unclear : Profile → Message → Bool
 is_unclear profile message =
-    chan.is_unclear Client (length (row_bits profile.code ((message.id, 32) ∷ (message.acknowledged, 32) ∷ (message.command, 32) ∷ [])))
+    chan.is_unclear profile.protocol Client (length (row_bits profile.code ((message.id, 32) ∷ (message.acknowledged, 32) ∷ (message.command, 32) ∷ [])))
 
 -- a message as a client begins it that joined with a challenge
 pub record IsSaid (profile : Profile) (challenge : ℕ) (said : Said) : Type 0 where
   pub message : IsMessage said.message
   pub feed : said.feed < 2 ^ 32
-  pub key : said.key ≡ client_key challenge said.message.id said.message.acknowledged said.key.text
+  pub key : said.key ≡ client_key profile.protocol challenge said.message.id said.message.acknowledged said.key.text
   pub text : IsText said.key.text
   pub clear : is_unclear profile said.message ≡ false
 

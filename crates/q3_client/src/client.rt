@@ -6,8 +6,9 @@
 ghost use Rattle.std.specs.Prelude.{◌≡◌, ◌≤◌, [], length, None, IfOk, IfSome, option_map};
 ghost use Rattle.q3_window.specs.Outgoing.{issued_of};
 ghost use Rattle.q3_entity.specs.Entities.{Rises, run_of};
-ghost use Rattle.q3_chan.specs.Datagrams.{longest_message};
-ghost use Rattle.q3_chan.specs.Sending.{HandsOut};
+ghost use Rattle.q3_chan.specs.Datagrams.{client_form, longest_message, server_form};
+ghost use Rattle.q3_chan.specs.Gathering.{new_gathering};
+ghost use Rattle.q3_chan.specs.Sending.{HandsOut, new_sending};
 ghost use Rattle.q3_rings.specs.Loans.{snapshot_of};
 ghost use Rattle.q3_rings.specs.Rings.{view_at};
 ghost use Rattle.q3_client.specs.Client.{new_client, type_at, take_at, is_accepted, moves_behind};
@@ -20,7 +21,9 @@ use crate::saying::{is_unclear, write_scrambled};
 use arrayvec::ArrayVec;
 use circular_buffer::HeapCircularBuffer;
 use q3_bits::NoMemory;
-use q3_chan::{Datagram, Gathered, Gatherer, LONGEST_MESSAGE, SEQUENCE_END, Sender, Side};
+use q3_chan::{
+    Datagram, Gathered, Gatherer, LONGEST_MESSAGE, SEQUENCE_END, Sender, Side, check_for,
+};
 use q3_clmsg::Move;
 use q3_clstate::{Applied, ClState, Log, SnapOutcome};
 use q3_profile::Profile;
@@ -42,6 +45,8 @@ pub enum ClientTook {
     Runt,
     /// It begins with four bytes of 255.
     Connectionless,
+    /// By protocol 71, the check isn't that of the number and of the client's challenge.
+    BadCheck,
     /// The message's number isn't above the newest taken.
     Old,
     /// A piece that doesn't start where what was gathered ends.
@@ -76,8 +81,8 @@ pub enum Sent {
     Fragment { number: u32 },
     /// Message numbers have ended.
     SequenceEnd,
-    /// The message's leading longs take more bits than stay clear, so that scrambling would hide a part of them; its number
-    /// is used again.
+    /// By protocol 68, the message's leading longs take more bits than stay clear, so that scrambling would hide a part of them; its
+    /// number is used again.
     Unclear,
     /// The message has more than 16,384 bytes; its number is used again.
     Overlong,
@@ -156,8 +161,8 @@ impl Client {
     {
         let state = ClState::new(alloc, profile)?;
         let (message, whole, buffer) = buffers(alloc)?;
-        let gatherer = Gatherer::new(alloc, Side::Server)?;
-        let sender = Sender::new(alloc, Side::Client, qport)?;
+        let check = check_for(profile.protocol, challenge);
+        let (gatherer, sender) = netchan(alloc, check, qport)?;
         let outgoing = Outgoing::new(alloc)?;
         let moves = HeapCircularBuffer::with_capacity(alloc, MOST_MOVES)?;
         Ok(Client {
@@ -200,6 +205,7 @@ impl Client {
             Gathered::Old => return ClientTook::Old,
             Gathered::OutOfOrder => return ClientTook::OutOfOrder,
             Gathered::BadFragment => return ClientTook::BadFragment,
+            Gathered::BadCheck => return ClientTook::BadCheck,
             Gathered::Runt => return ClientTook::Runt,
             Gathered::Connectionless => return ClientTook::Connectionless,
         };
@@ -378,6 +384,17 @@ fn is_accepted(outcome: SnapOutcome) -> bool
     ensures { result ≡ is_accepted outcome }
 {
     matches!(outcome, SnapOutcome::Accepted { .. })
+}
+
+/// What receives and what sends, with a check of this challenge or none.
+fn netchan(alloc: Global, check: Option<u32>, qport: u16) -> Result<(Gatherer, Sender), NoMemory>
+    ensures { IfOk result (λ made. (made.0 ≡ new_gathering (server_form check)) × (made.1 ≡ new_sending (client_form check) qport)) }
+{
+    let mut gatherer = Gatherer::new(alloc, Side::Server)?;
+    gatherer.set_check(check);
+    let mut sender = Sender::new(alloc, Side::Client, qport)?;
+    sender.set_check(check);
+    Ok((gatherer, sender))
 }
 
 /// Room for the last message that was applied, for one that came whole and for one that is written.

@@ -49,9 +49,11 @@ pub(crate) fn receive(
     ensures room { length whole.new.items ≡ length whole.old.items }
 {
     let ack = acknowledged_by(&state.profile().code, outgoing, &whole[..count])?;
+    let protocol = state.profile().protocol;
     clear_front(
         whole.as_mut_slice(),
         count,
+        protocol,
         challenge,
         number,
         outgoing.text(ack),
@@ -63,12 +65,19 @@ pub(crate) fn receive(
 
 /// Clears the message that stands in the first of these bytes, so many. It is apart since its `cleared` tells the caller of the front
 /// what a slice that the caller itself lends for the call leaves unknown.
-fn clear_front(bytes: &mut [u8], count: usize, challenge: u32, number: u32, text: &Text)
+fn clear_front(
+    bytes: &mut [u8],
+    count: usize,
+    protocol: u32,
+    challenge: u32,
+    number: u32,
+    text: &Text,
+)
     requires { count ≤ length bytes.old }
-    ensures cleared { take count bytes.new ≡ cleared challenge number text.now (take count bytes.old) }
+    ensures cleared { take count bytes.new ≡ cleared protocol challenge number text.now (take count bytes.old) }
     ensures long { length bytes.new ≡ length bytes.old }
 {
-    scramble_server(&mut bytes[..count], challenge, number, text);
+    scramble_server(&mut bytes[..count], protocol, challenge, number, text);
 }
 
 /// The number of the command that a message acknowledges. `Err` where its bits don't read, or with `Ack` where the window

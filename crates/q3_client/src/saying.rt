@@ -24,14 +24,19 @@ use q3_window::Outgoing;
 
 /// Whether the leading longs of the message that goes to the server next take more bits than stay clear.
 pub(crate) fn is_unclear(state: &ClState, acknowledged: u32) -> bool
-    ensures { result ≡ is_unclear Client (length (row_bits state.now.profile.code ((state.now.id, 32) ∷ (acknowledged, 32) ∷ (state.now.executed.executed, 32) ∷ []))) }
+    ensures { result ≡ is_unclear state.now.profile.protocol Client (length (row_bits state.now.profile.code ((state.now.id, 32) ∷ (acknowledged, 32) ∷ (state.now.executed.executed, 32) ∷ []))) }
 {
     let longs = [(state.id(), 32), (acknowledged, 32), (state.executed(), 32)];
-    q3_chan::is_unclear(Side::Client, state.profile().code.row_length(&longs))
+    let profile = state.profile();
+    q3_chan::is_unclear(
+        profile.protocol,
+        Side::Client,
+        profile.code.row_length(&longs),
+    )
 }
 
 /// Writes the message that goes to the server next, with these moves, to the front of a buffer, and answers how many bytes it
-/// has. It has the map's id, by which the keys of its scrambling start too, and its moves are hidden by the checksum feed.
+/// has, scrambled where the protocol scrambles. It has the map's id, by which the keys start too, and its moves are hidden by the checksum feed.
 /// `Overflow` comes exactly where the message is longer than 16,384 bytes.
 pub(crate) fn write_scrambled(
     state: &ClState,
@@ -46,7 +51,7 @@ pub(crate) fn write_scrambled(
     requires few { length moves.now ≤ most_moves }
     ensures stands { IsApplied state.now }
     ensures window { IsOutgoing outgoing.now }
-    ensures fills { FillsScrambled (client_key challenge state.now.id acknowledged state.now.executed.last)
+    ensures fills { FillsScrambled (client_key state.now.profile.protocol challenge state.now.id acknowledged state.now.executed.last)
         (client_text state.now.profile.code (message_key state.now.feed acknowledged state.now.executed.last)
         (message_with state.now.id acknowledged state.now.executed.executed (waiting_of outgoing.now) delta moves.now)) into.new result }
 {
@@ -55,7 +60,9 @@ pub(crate) fn write_scrambled(
     let parts = parts_of(state, outgoing, acknowledged, delta, moves);
     let bytes = write_said(&state.profile().code, parts, key, into)?;
     let id = state.id();
-    scramble_client(&mut into[..bytes], challenge, id, acknowledged, text);
+    let protocol = state.profile().protocol;
+    let front = &mut into[..bytes];
+    scramble_client(front, protocol, challenge, id, acknowledged, text);
     Ok(bytes)
 }
 

@@ -4,6 +4,7 @@ pub mod Pieces
 pub mod Finding
 pub mod Going
 pub mod Asking
+pub mod Refusals
 pub mod PlayingOn
 pub mod EndingAll
 pub mod Taking

@@ -1,28 +1,25 @@
 -- A step is taken: what was played, and what was printed of it.
-use Rattle.std.proofs.Common.{◌≡◌, ℕ, ◌+◌, ◌≤◌, Bool, true, false, List, [], ◌∷◌, ◌++◌, drop, codes, decimal, Option, Some, None, Result, Ok, Err, refl, sym, ap, subst, ◌∙◌, inl, inr, arith}
-use Rattle.std.specs.Prelude.{IfErr, is_ok, if◌then◌else◌}
+use Rattle.std.proofs.Common.{◌≡◌, ℕ, ◌+◌, ◌≤◌, Bool, List, [], ◌∷◌, ◌++◌, drop, codes, decimal, Option, Some, None, Result, Ok, Err, refl, sym, ap, subst, ◌∙◌, arith}
+use Rattle.std.specs.Prelude.{IfErr, is_ok}
 use Rattle.std.specs.List.{concat}
 use Rattle.std.proofs.Math.ListN.{replicate}
 use Rattle.std.proofs.lemmas.List.{drop_at, length-replicate}
-use Rattle.q3_bits.specs.ResultBind.{◌>>=◌, fault_as, bind_err}
 use Rattle.q3_io.specs.Written.{Written, Wrote}
 use Rattle.q3_io.specs.Laws.{TextsFollow}
 use Rattle.q3_text.specs.declared.text.Command.{Command}
-use Rattle.q3_svmsg.specs.declared.error.Illegible.{Illegible}
 use Rattle.q3_clstate.specs.declared.applied.Applied.{Applied}
-use Rattle.q3_clstate.specs.State.{AppliedState, Application, apply_at}
+use Rattle.q3_clstate.specs.State.{AppliedState}
 use Rattle.q3_clstate.specs.Report.{applied_text}
 use Rattle.q3_demo.specs.declared.error.DemoError.{DemoError}
 use Rattle.q3_demo.specs.declared.error.DemoError.TheVariants.{ReadFault, Truncated, BadLength, BadNumber, Message as NoMessage, NoMemory, WriteFault}
-use Rattle.q3_demo.specs.declared.record.Piece.{Piece}
-use Rattle.q3_demo.specs.declared.record.Piece.TheVariants as piece
 use Rattle.q3_demo.specs.Records.{piece_of}
 use Rattle.q3_demo.specs.Report.{state_text}
-use Rattle.q3_demo.specs.Playing.{Played, Stepped, next_piece, message_of, played_on, play_piece, step, at_most}
+use Rattle.q3_demo.specs.Playing.{Played, Stepped, step, at_most}
 use Rattle.q3_demo.specs.Player.{PlayerState, PlaysOn}
 use Rattle.q3_demo.specs.Running.{Plays, WriteCause}
 use Rattle.q3_demo.specs.Steps.{step_text, Leads, Fails, behind_limit}
 use Rattle.q3_demo.proofs.Going.{was_played, ends_limit, refuses_limit}
+use Rattle.q3_demo.proofs.Refusals.{step_refused}
 
 -- some demo has these bytes there
 some_demo : (at : ℕ) (bytes : List ℕ) → (demo : List ℕ) × (drop at demo ≡ bytes)
@@ -34,61 +31,17 @@ PlaysSo bytes was now result = (demo : List ℕ) → drop was.played.at demo ≡
 
 -- ---- what a demo is refused for
 
--- a demo may be refused for this
-IsTold : DemoError → Type 0
-IsTold NoMemory = ⊥
-IsTold WriteFault = ⊥
-IsTold other = Unit {0}
-
-found_told : (ended long low cut : Bool) (at : ℕ) (found : Piece) (e : DemoError)
-    → (let first : Result Piece DemoError = if ended then Ok piece.End else if long then Err (BadLength at) else if low then Err (BadNumber at) else if cut then Err (Truncated at) else Ok found in
-    first ≡ Err e) → IsTold e
-unfolding IsTold
-found_told true long low cut at found e is = absurd cc
-found_told false true low cut at found e is =
-    let fault : BadLength at ≡ e = cc in
-    subst IsTold fault tt
-found_told false false true cut at found e is =
-    let fault : BadNumber at ≡ e = cc in
-    subst IsTold fault tt
-found_told false false false true at found e is =
-    let fault : Truncated at ≡ e = cc in
-    subst IsTold fault tt
-found_told false false false false at found e is = absurd cc
-
-applied_told : (at : ℕ) (applied : Result Application Illegible) (on : Application → Stepped) (e : DemoError)
-    → (fault_as (λ cause. NoMessage at cause) applied >>= λ (application : Application). Ok (Some (on application))) ≡ Err e → IsTold e
-unfolding IsTold
-applied_told at (Ok application) on e is = absurd cc
-applied_told at (Err cause) on e is =
-    let fault : NoMessage at cause ≡ e = cc in
-    subst IsTold fault tt
-
-played_told : (demo : List ℕ) (now : Played) (found : Piece) (e : DemoError) → play_piece demo now found ≡ Err e → IsTold e
-played_told demo now piece.End e is = absurd cc
-played_told demo now (piece.Message number size next) e is =
-    applied_told now.at (apply_at now.state number (message_of demo now size)) (λ applied. played_on now number next applied) e is
-
-step_told : (demo : List ℕ) (now : Played) (e : DemoError) → step demo now ≡ Err e → IsTold e
-step_told demo now e is =
-    elim (bind_err (next_piece demo now) (play_piece demo now) e is) [
-      | inl none ↦ found_told _ _ _ _ now.at _ e none
-      | inr there ↦ played_told demo now there.0 e there.2
-    ]
-
 -- nothing is printed then
 pub refuses_step : (demo : List ℕ) (was now : PlayerState) (written : Option Written) (e : DemoError) → PlaysOn (step demo was.played) was now (Err e) → Fails (step demo was.played) was.played written written e
-unfolding IsTold
 refuses_step demo was now written ReadFault plays = refl
 refuses_step demo was now written (Truncated at) plays = (plays, refl)
 refuses_step demo was now written (BadLength at) plays = (plays, refl)
 refuses_step demo was now written (BadNumber at) plays = (plays, refl)
 refuses_step demo was now written (NoMessage at cause) plays = (plays, refl)
-refuses_step demo was now written NoMemory plays = absurd (step_told demo was.played NoMemory plays)
-refuses_step demo was now written WriteFault plays = absurd (step_told demo was.played WriteFault plays)
+refuses_step demo was now written NoMemory plays = absurd (step_refused demo was.played NoMemory plays)
+refuses_step demo was now written WriteFault plays = absurd (step_refused demo was.played WriteFault plays)
 
 pub refuses_quietly : (faults : ℕ) (bytes : List ℕ) (was now : PlayerState) (e : DemoError) → PlaysSo bytes was now (Err e) → WriteCause {T = Bool} faults faults (Err e)
-unfolding IsTold
 refuses_quietly faults bytes was now ReadFault plays = refl
 refuses_quietly faults bytes was now (Truncated at) plays = refl
 refuses_quietly faults bytes was now (BadLength at) plays = refl
@@ -97,7 +50,7 @@ refuses_quietly faults bytes was now (NoMessage at cause) plays = refl
 refuses_quietly faults bytes was now NoMemory plays = refl
 refuses_quietly faults bytes was now WriteFault plays =
     let demo = some_demo was.played.at bytes in
-    absurd (step_told demo.0 was.played WriteFault (plays demo.0 demo.1))
+    absurd (step_refused demo.0 was.played WriteFault (plays demo.0 demo.1))
 
 -- ---- a record
 

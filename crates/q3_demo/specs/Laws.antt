@@ -1,14 +1,14 @@
 -- A recording goes on message by message, and a demo is played record by record.
-use Rattle.std.specs.Prelude.{◌≡◌, ◌⊎◌, ℕ, ◌^◌, ◌<◌, ◌≤◌, List, [], ◌∷◌, ◌++◌, length, map, take, Result, Ok, Err}
+use Rattle.std.specs.Prelude.{◌≡◌, ◌⊎◌, ℕ, ◌^◌, ◌<◌, ◌≤◌, ⊤, List, [], ◌∷◌, ◌++◌, length, map, take, Result, Ok, Err}
 use Rattle.q3_profile.specs.declared.profile.Profile.{Profile}
 use Rattle.q3_clstate.specs.State.{AppliedState, Application, apply_at}
 use Rattle.q3_clstate.specs.Standing.{IsApplied}
 use Rattle.q3_demo.specs.declared.error.DemoError.{DemoError}
-use Rattle.q3_demo.specs.declared.error.DemoError.TheVariants.{Truncated}
+use Rattle.q3_demo.specs.declared.error.DemoError.TheVariants.{ReadFault, Truncated, NoMemory, WriteFault}
 use Rattle.q3_demo.specs.declared.recorder.Stage.{Stage}
 use Rattle.q3_demo.specs.declared.recorder.Stage.TheVariants.{Waits}
 use Rattle.q3_demo.specs.Report.{state_text}
-use Rattle.q3_demo.specs.Playing.{Played, Stepped, unplayed, most_records, play_of, records_of, last_of, last_played, play_state}
+use Rattle.q3_demo.specs.Playing.{Played, Stepped, unplayed, step, most_records, play_of, records_of, last_of, last_played, play_state}
 use Rattle.q3_demo.specs.Recorder.{MayNote}
 use Rattle.q3_demo.specs.Recording.{Noted, note_of, noted_from, closing, recording}
 
@@ -26,6 +26,17 @@ AppliedMayBeNoted = (state : AppliedState) (number : ℕ) (message : List ℕ) (
     → apply_at state number message ≡ Ok applied → MayNote stage applied.state applied.answer message
 
 -- ---- playing
+
+-- what a demo is refused for: what it holds, and nothing from outside
+abbrev pub IsRefusal : DemoError → Type 0
+IsRefusal ReadFault = ⊥
+IsRefusal NoMemory = ⊥
+IsRefusal WriteFault = ⊥
+IsRefusal other = ⊤
+
+-- whatever was played of it before
+abbrev pub RefusedForItsBytes : Type 0
+RefusedForItsBytes = (demo : List ℕ) (played : Played) (e : DemoError) → step demo played ≡ Err e → IsRefusal e
 
 -- how the play of a front of a demo ends, where these records more are played of the whole: with no refusal; refused as cut, at the place
 -- behind its last record; or, where none more is played, as the play of the whole

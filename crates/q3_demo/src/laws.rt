@@ -1,6 +1,6 @@
 //! Laws of demos.
 
-ghost use Rattle.q3_demo.specs.Laws.{APrefixPlaysAPrefix, AppliedMayBeNoted, FirstRecordsLeave, PlayingTellsRecords, RecordingGoesOn};
+ghost use Rattle.q3_demo.specs.Laws.{APrefixPlaysAPrefix, AppliedMayBeNoted, FirstRecordsLeave, PlayingTellsRecords, RecordingGoesOn, RefusedForItsBytes};
 
 use q3_rings::laws as rings;
 use q3_svmsg::laws as svmsg;
@@ -18,6 +18,11 @@ pub fn applied_may_be_noted()
     svmsg::read_is_spelled();
     rings::accepted_is_held();
 }
+
+/// A demo is refused for what it holds: `ReadFault`, `NoMemory` and `WriteFault` are never the answer of its bytes.
+pub fn refused_for_its_bytes()
+    ensures { RefusedForItsBytes }
+{}
 
 /// Of a front of a demo the first of the demo's records are played. Its play ends with no refusal, as where the front ends within a head,
 /// or with `Truncated` at the place behind its last record, as where it ends within a message. Else no record more is played of the whole

@@ -74,8 +74,8 @@ impl Player {
     }
 
     /// Plays the next record, and tells what became of its message; `None` comes at the demo's end. `Err` is as `next_record` says, or
-    /// `Message` exactly where the message isn't legible. Of the demo no more bytes are asked for than the record has, where every read gives
-    /// all that it is asked for.
+    /// `Message` exactly where the message isn't legible; behind any `Err` the demo was played as far as before. Of the demo no more bytes are
+    /// asked for than the record has, where every read gives all that it is asked for.
     pub fn next<F: Files>(
         &mut self,
         files: &mut F,
@@ -85,6 +85,7 @@ impl Player {
         requires few { self.old.played.records < 4294967295 }
         ensures plays { (bytes : List ℕ) × HasFrom (F.told files.old) file self.old.played.at bytes
             × ((demo : List ℕ) → drop self.old.played.at demo ≡ bytes → PlaysOn (step demo self.old.played) self.old self.new result) }
+        ensures kept { IfErr result (λ e. self.new.played ≡ self.old.played) }
         ensures given { F.given files.new ≡ F.given files.old }
         ensures asks { OnlyAsks (F.told files.old) (F.told files.new) }
         ensures only { AsksOf file (F.told files.old) (F.told files.new) }
@@ -125,6 +126,7 @@ impl Player {
         requires given { file < F.given files.old }
         ensures plays { (bytes : List ℕ) × HasFrom (F.told files.old) file self.old.played.at bytes
             × ((demo : List ℕ) → drop self.old.played.at demo ≡ bytes → PlaysOn (step_of_all demo self.old.played) self.old self.new result) }
+        ensures kept { IfErr result (λ e. self.new.played ≡ self.old.played) }
         ensures given { F.given files.new ≡ F.given files.old }
         ensures asks { OnlyAsks (F.told files.old) (F.told files.new) }
         ensures only { AsksOf file (F.told files.old) (F.told files.new) }
@@ -192,6 +194,7 @@ fn apply(
     ensures state { state.new ≡ state_behind state.old (apply_at state.old number message.now) }
     ensures answer { result ≡ fault_as (λ cause. DemoError.Message at cause) (answered (apply_at state.old number message.now)) }
     ensures log { log.new.commands ≡ heard_in (apply_at state.old number message.now) }
+    ensures kept { IfErr result (λ e. state.new ≡ state.old) }
     ensures reads { IfErr result (λ e. e ≢ DemoError.ReadFault) }
 {
     match state.apply(number, message, log) {

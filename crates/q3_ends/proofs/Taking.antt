@@ -22,6 +22,7 @@ nothing_noted Says stage client taken took.Connectionless not says = says
 nothing_noted Says stage client taken took.Old not says = says
 nothing_noted Says stage client taken took.OutOfOrder not says = says
 nothing_noted Says stage client taken took.BadFragment not says = says
+nothing_noted Says stage client taken took.BadCheck not says = says
 nothing_noted Says stage client taken took.Partial not says = says
 nothing_noted Says stage client taken (took.Illegible cause) not says = says
 

@@ -17,3 +17,4 @@ pub mod Counting
 pub mod Writing
 pub mod Building
 pub mod Causes
+pub mod Refusals

@@ -9,6 +9,7 @@ use Rattle.q3_demo.specs.declared.error.DemoError.{DemoError}
 use Rattle.q3_demo.specs.declared.error.DemoError.TheVariants as demo
 use Rattle.q3_demo.specs.Playing.{Played, records_of, play_state}
 use Rattle.q3_demo.specs.Running.{asked_of}
+use Rattle.q3_demo.specs.Laws.{IsRefusal}
 use Rattle.q3_index.specs.declared.build.Built.{Built}
 use Rattle.q3_index.specs.declared.error.IndexError.{IndexError}
 use Rattle.q3_index.specs.declared.error.IndexError.TheVariants as opening
@@ -92,6 +93,11 @@ Seeks profile index demo_bytes index_bytes number (Ok state) =
 Seeks profile index demo_bytes index_bytes number (Err seeking.ReadFault) = ⊤
 Seeks profile index demo_bytes index_bytes number (Err seeking.NoMemory) = ⊤
 Seeks profile index demo_bytes index_bytes number (Err e) = seek_at profile demo_bytes index_bytes index.records index.checkpoints number ≡ Err e
+
+-- the demo itself is refused for what it holds alone
+abbrev pub RefusesDemo : SeekError → Type 0
+RefusesDemo (seeking.Demo e) = IsRefusal e
+RefusesDemo other = ⊤
 
 abbrev pub SeekCause : {T : Type 0} → ℕ → ℕ → Result T SeekError → Type 0
 SeekCause before now (Err seeking.ReadFault) = (before ≤ now) × Rose before now

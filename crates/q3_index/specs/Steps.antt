@@ -117,6 +117,11 @@ played_by player = player.played
 abbrev pub play_one : List ℕ → Played → Result Played SeekError
 play_one demo played = fault_as Demo (step demo played >>= go_on played)
 
+-- what a refusal counts as: a read fault stays one, and else the demo is refused
+abbrev pub refused_as : DemoError → SeekError
+refused_as demo.ReadFault = ReadFault
+refused_as e = Demo e
+
 -- ---- making
 
 -- what went wrong is of the outside

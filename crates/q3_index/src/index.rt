@@ -1,6 +1,6 @@
 //! Seeks in a demo by its index.
 
-ghost use Rattle.std.specs.Prelude.{◌≡◌, ◌≢◌, ◌+◌, ◌*◌, ◌-◌, ◌/◌, ◌<◌, ◌≤◌, IsTrue, length, Some, Ok, Err, IfOk, IfSome, OnOk};
+ghost use Rattle.std.specs.Prelude.{◌≡◌, ◌≢◌, ◌+◌, ◌*◌, ◌-◌, ◌/◌, ◌<◌, ◌≤◌, IsTrue, length, Some, Ok, Err, IfOk, IfErr, IfSome, OnOk};
 ghost use Rattle.q3_io.specs.Told.{Told, contents_at};
 ghost use Rattle.q3_clstate.specs.Saving.{saved_in};
 ghost use Rattle.q3_demo.specs.Playing.{Played, Stepped, records_of, step, play_first};
@@ -8,12 +8,13 @@ ghost use Rattle.q3_demo.specs.Running.{OnlyAsks, AsksOf, asked_of};
 ghost use Rattle.q3_bits.specs.ResultBind.{fault_as};
 ghost use Rattle.q3_index.specs.Text.{spacing};
 ghost use Rattle.q3_index.specs.Seeking.{restored, greatest, start_at, seek_at, bytes_between};
-ghost use Rattle.q3_index.specs.Running.{Seeks, SeekCause, IsMade, PlaysSo};
-ghost use Rattle.q3_index.specs.Steps.{Answers, IsPlaced, saved_at, played_by, play_one};
+ghost use Rattle.q3_index.specs.Running.{Seeks, SeekCause, RefusesDemo, IsMade, PlaysSo};
+ghost use Rattle.q3_index.specs.Steps.{Answers, IsPlaced, saved_at, played_by, play_one, refused_as};
 
 use crate::error::SeekError;
 use crate::laws::{seeking_goes_on, seeking_is_playing};
 use q3_clstate::ClState;
+use q3_demo::laws::refused_for_its_bytes;
 use q3_demo::{DemoError, Player, read_whole};
 use q3_io::Files;
 use q3_profile::Profile;
@@ -66,8 +67,9 @@ impl Index {
     /// What so many records of the demo leave: the state of the greatest checkpoint at or below that is restored, or the beginning, and the
     /// records from there on are played. `Err` is `PastEnd` exactly where the index counts fewer, which is decided before anything is read;
     /// else `NotIndex` exactly where the state that is read is none; else `Demo` exactly where a record that is played is refused, or the demo
-    /// ends before so many. Of the demo no more bytes are asked for than the records have that are played, where every read gives all that it is
-    /// asked for. Of an index that was made of the demo they are those behind the last 256th record at or below so many.
+    /// ends before so many; it never carries a fault or want of memory. Of the demo no more bytes are asked for than the records have that are
+    /// played, where every read gives all that it is asked for. Of an index that was made of the demo they are those behind the last 256th
+    /// record at or below so many.
     pub fn seek<F: Files>(
         &self,
         profile: &Profile,
@@ -91,6 +93,7 @@ impl Index {
             ≤ asked_of (F.told files.old) self.now.demo + bytes_between profile.now (contents_at told self.now.demo) (spacing * (number / spacing)) number }
         ensures past { self.now.records < number → result ≡ Err (SeekError.PastEnd self.now.records) }
         ensures untouched { self.now.records < number → F.told files.new ≡ F.told files.old }
+        ensures refusal { IfErr result RefusesDemo }
         ensures given { F.given files.new ≡ F.given files.old }
         ensures asks { OnlyAsks (F.told files.old) (F.told files.new) }
         ensures cause { SeekCause (F.faults files.old) (F.faults files.new) result }
@@ -120,6 +123,7 @@ impl Index {
         ensures starts { (told : Told) → F.told files.old ≡ Some told
             → Answers played_by (start_at profile.now (contents_at told self.now.index) self.now.checkpoints number) result }
         ensures few { IfOk result (λ player. player.played.records ≤ number) }
+        ensures refusal { IfErr result RefusesDemo }
         ensures given { F.given files.new ≡ F.given files.old }
         ensures asks { OnlyAsks (F.told files.old) (F.told files.new) }
         ensures only { AsksOf self.now.index (F.told files.old) (F.told files.new) }
@@ -169,6 +173,7 @@ fn restore<F: Files>(
     requires placed { IsPlaced checkpoint }
     ensures restores { (told : Told) → F.told files.old ≡ Some told → Answers played_by (restored profile.now (contents_at told index) records checkpoint) result }
     ensures records { IfOk result (λ player. player.played.records ≡ records) }
+    ensures refusal { IfErr result RefusesDemo }
     ensures given { F.given files.new ≡ F.given files.old }
     ensures asks { OnlyAsks (F.told files.old) (F.told files.new) }
     ensures only { AsksOf index (F.told files.old) (F.told files.new) }
@@ -194,6 +199,7 @@ fn read_state<F: Files>(
     requires placed { IsPlaced checkpoint }
     ensures reads { (told : Told) → F.told files.old ≡ Some told → Answers saved_in (saved_at profile.now (contents_at told index) checkpoint) result }
     ensures profile { IfOk result (λ state. state.profile ≡ profile.now) }
+    ensures refusal { IfErr result RefusesDemo }
     ensures given { F.given files.new ≡ F.given files.old }
     ensures asks { OnlyAsks (F.told files.old) (F.told files.new) }
     ensures only { AsksOf index (F.told files.old) (F.told files.new) }
@@ -225,6 +231,7 @@ fn go_on<F: Files>(
     requires few { player.old.played.records ≤ number }
     ensures goes { (told : Told) → F.told files.old ≡ Some told
         → Answers (λ _. player.new.played) (fault_as SeekError.Demo (play_first (number - player.old.played.records) (contents_at told demo) player.old.played)) result }
+    ensures refusal { IfErr result RefusesDemo }
     ensures given { F.given files.new ≡ F.given files.old }
     ensures asks { OnlyAsks (F.told files.old) (F.told files.new) }
     ensures cost { IsTrue F.reads_whole → (told : Told) → F.told files.old ≡ Some told → (last : Played)
@@ -245,6 +252,7 @@ fn play_next<F: Files>(player: &mut Player, files: &mut F, demo: usize) -> Resul
     requires few { player.old.played.records < 4294967295 }
     ensures plays { (told : Told) → F.told files.old ≡ Some told → Answers (λ _. player.new.played) (play_one (contents_at told demo) player.old.played) result }
     ensures records { OnOk result (player.new.played.records ≡ player.old.played.records + 1) }
+    ensures refusal { IfErr result RefusesDemo }
     ensures given { F.given files.new ≡ F.given files.old }
     ensures asks { OnlyAsks (F.told files.old) (F.told files.new) }
     ensures cost { IsTrue F.reads_whole → (told : Told) → F.told files.old ≡ Some told → (stepped : Stepped) → step (contents_at told demo) player.old.played ≡ Ok (Some stepped)
@@ -252,10 +260,20 @@ fn play_next<F: Files>(player: &mut Player, files: &mut F, demo: usize) -> Resul
     ensures cause { SeekCause (F.faults files.old) (F.faults files.new) result }
     ensures others { F.write_faults files.new ≡ F.write_faults files.old }
 {
+    refused_for_its_bytes();
     match player.next(files, demo) {
         Ok(Some(_)) => Ok(()),
         Ok(None) => Err(SeekError::Demo(DemoError::Truncated(player.place()))),
-        Err(DemoError::ReadFault) => Err(SeekError::ReadFault),
-        Err(error) => Err(SeekError::Demo(error)),
+        Err(error) => Err(refused_as(error)),
+    }
+}
+
+/// What a refusal counts as: a read fault stays one, and else the demo is refused.
+fn refused_as(error: DemoError) -> SeekError
+    ensures { result ≡ refused_as error }
+{
+    match error {
+        DemoError::ReadFault => SeekError::ReadFault,
+        _ => SeekError::Demo(error),
     }
 }

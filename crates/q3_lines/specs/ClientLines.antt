@@ -7,7 +7,7 @@ use Rattle.q3_svmsg.specs.Report.{cause_word, cause_number}
 use Rattle.q3_clstate.specs.State.{AppliedState}
 use Rattle.q3_clstate.specs.Report.{applied_text}
 use Rattle.q3_client.specs.declared.client.ClientTook.{ClientTook}
-use Rattle.q3_client.specs.declared.client.ClientTook.TheVariants.{Dropped, Runt, Connectionless, Old, OutOfOrder, BadFragment, Partial, Illegible, Applied}
+use Rattle.q3_client.specs.declared.client.ClientTook.TheVariants.{Dropped, Runt, Connectionless, Old, OutOfOrder, BadCheck, BadFragment, Partial, Illegible, Applied}
 use Rattle.q3_client.specs.declared.client.MoveError.{MoveError}
 use Rattle.q3_client.specs.declared.client.MoveError.TheVariants.{NoGame, NotLater, Range}
 use Rattle.q3_client.specs.declared.client.Sent.{Sent}
@@ -26,6 +26,7 @@ took_text state Connectionless commands = codes " connectionless\n"
 took_text state Old commands = codes " old\n"
 took_text state OutOfOrder commands = codes " outoforder\n"
 took_text state BadFragment commands = codes " badfragment\n"
+took_text state BadCheck commands = codes " badcheck\n"
 took_text state Partial commands = codes " partial\n"
 took_text state (Illegible cause) commands = illegible_text (cause_word cause) (cause_number cause)
 took_text state (Applied applied) commands = concat (codes " applied " ∷ decimal applied.number ∷ codes "\n" ∷ applied_text state applied commands ∷ [])

@@ -129,6 +129,7 @@ server_text took.Stranger run = codes " server stranger\n"
 server_text (took.Old slot) run = slot_text slot (codes "old")
 server_text (took.OutOfOrder slot) run = slot_text slot (codes "outoforder")
 server_text (took.BadFragment slot) run = slot_text slot (codes "badfragment")
+server_text (took.BadCheck slot) run = slot_text slot (codes "badcheck")
 server_text (took.Partial slot) run = slot_text slot (codes "partial")
 server_text (took.Illegible slot cause) run = illegible_text slot (cause_word cause) (cause_number cause)
 server_text (took.Ignored slot id) run = ignored_text slot id ++ owed_text run.owed

@@ -41,6 +41,7 @@ pub fn print_took<O: Sink>(
         ClientTook::Old => b" old\n",
         ClientTook::OutOfOrder => b" outoforder\n",
         ClientTook::BadFragment => b" badfragment\n",
+        ClientTook::BadCheck => b" badcheck\n",
         ClientTook::Partial => b" partial\n",
     };
     print_all(

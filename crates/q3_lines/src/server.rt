@@ -143,6 +143,7 @@ pub fn print_took<O: Sink>(took: &ServerTook, heard: &Heard, out: &mut O) -> Res
         ServerTook::Old(slot) => print_word(*slot, b"old", out),
         ServerTook::OutOfOrder(slot) => print_word(*slot, b"outoforder", out),
         ServerTook::BadFragment(slot) => print_word(*slot, b"badfragment", out),
+        ServerTook::BadCheck(slot) => print_word(*slot, b"badcheck", out),
         ServerTook::Partial(slot) => print_word(*slot, b"partial", out),
         ServerTook::Illegible(slot, cause) => print_illegible(*slot, *cause, out),
         ServerTook::Ignored { slot, id } => print_ignored(*slot, *id, heard.owed, out),

@@ -12,7 +12,7 @@ use Rattle.q3_strings.specs.Rows.{row-last}
 use Rattle.q3_window.specs.declared.outgoing.BadAck.{BadAck}
 use Rattle.q3_window.specs.Outgoing.{acknowledge_at, text_at}
 use Rattle.q3_chan.specs.declared.side.Side.TheVariants.{Server}
-use Rattle.q3_chan.specs.Keys.{Key, server_key, server_scrambled}
+use Rattle.q3_chan.specs.Keys.{Key, server_key, server_scrambled, server_start}
 use Rattle.q3_chan.specs.Laws.{SideTwiceIsNone, SideFrontStays}
 use Rattle.q3_profile.specs.declared.profile.Profile.{Profile}
 use Rattle.q3_profile.specs.Profile.{IsCodec}
@@ -28,7 +28,7 @@ use Rattle.q3_clstate.specs.Laws.{AppliedIsContext}
 use Rattle.q3_built.specs.Built.{Built, is_unclear, IsSnapshot, IsNear, IsBuilt, built_bits, built_bytes, plain_bytes}
 use Rattle.q3_client.specs.Client.{ClientState, Reception, receive_message, receive_bytes, ack_taken, cleared}
 use Rattle.q3_messages.specs.MessageLaws.{HoldsThis, BuiltIsRead}
-use Rattle.q3_messages.proofs.BitFronts.{begins_both}
+use Rattle.q3_messages.proofs.BitFronts.{stays_in_sight}
 use Rattle.q3_messages.proofs.Options.{if_some_then, three_some}
 use Rattle.q3_messages.proofs.BuiltText.{value_of, read_so, text_is_received, text_alike, game_is_received}
 
@@ -53,7 +53,7 @@ long_is_read put words code ack rest fits = (
 
 -- bytes cleared by the text of the command that they acknowledge
 abbrev cleared_at : ClientState → ℕ → ℕ → List ℕ → List ℕ
-cleared_at client n ack bytes = cleared client.challenge n (text_at client.issued ack) bytes
+cleared_at client n ack bytes = cleared client.state.profile.protocol client.challenge n (text_at client.issued ack) bytes
 
 -- what is received behind what is read of the leading long, behind the acknowledgement, and behind what is read of the rest
 abbrev with_application : ClientState → ℕ → List ℕ → Result Application Illegible → Result Reception Illegible
@@ -92,7 +92,7 @@ read_with client n bytes profile = message_at profile (context_of client.state.h
 -- by what it is scrambled: its leading long stays in sight
 record IsHeaded (profile : Profile) (challenge n : ℕ) (built : Built) : Type 0 where
   ack : built.message.ack < 2 ^ 32
-  key : built.key ≡ server_key challenge n built.key.text
+  key : built.key ≡ server_key profile.protocol challenge n built.key.text
   clear : is_unclear profile built.message.ack ≡ false
 
 is_headed : (profile : Profile) (challenge n : ℕ) (built : Built) → IsBuilt profile challenge n built → IsHeaded profile challenge n built
@@ -144,13 +144,13 @@ module _ (put : PutIsRead) (holds : MessageHoldsBits) (twice : SideTwiceIsNone) 
       let bytes = built_bytes profile built in
       let rest = replicate (8 * message_length (length bits) - length bits) false in
       let row = long_of profile message in
-      let few : length row ≤ 32 = ltb-false 32 (length row) headed.clear in
       let begins = begins_with_long profile built.lines (option_map base_from built.base) message rest in
-      let left = begins_both 4 row begins.0 plain bytes (omega (arith, few)) ((front Server built.key plain).1 4 (omega arith)) (holds bits ∙ begins.1) in
+      let left = stays_in_sight front profile.protocol Server built.key (server_start client.challenge n) row begins.0 plain headed.clear (ap (λ (k : Key). k.start) headed.key) (holds bits ∙ begins.1) in
       let found = long_is_read put words codec.code message.ack (drop (length row) (bits_of bytes)) headed.ack in
       let clear : cleared_at client n message.ack bytes ≡ plain =
-      ap (λ (t : List ℕ). server_scrambled (server_key client.challenge n t) bytes) same
-      ∙ (ap (λ (key : Key). server_scrambled key bytes) (sym headed.key) ∙ twice Server built.key plain) in
+      ap (λ (p : Profile). server_scrambled (server_key p.protocol client.challenge n (text_at client.issued message.ack)) bytes) of_profile
+      ∙ (ap (λ (t : List ℕ). server_scrambled (server_key profile.protocol client.challenge n t) bytes) same
+      ∙ (ap (λ (key : Key). server_scrambled key bytes) (sym headed.key) ∙ twice Server built.key plain)) in
       received_by client n found.0 bytes plain message clear (ap (λ (p : Profile). ack_at p.code (bits_of bytes)) of_profile ∙ (ap (ack_at words) left ∙ found.1)) taken
       (ap (read_with client n (cleared_at client n message.ack bytes)) of_profile
       ∙ (ap (λ (l : List ℕ). read_with client n l profile) clear

@@ -11,7 +11,7 @@ use Rattle.q3_strings.specs.Rows.{row-first, row-last}
 use Rattle.q3_window.specs.declared.outgoing.BadAck.{BadAck}
 use Rattle.q3_window.specs.Outgoing.{acknowledge_at, text_at}
 use Rattle.q3_chan.specs.declared.side.Side.TheVariants.{Client}
-use Rattle.q3_chan.specs.Keys.{Key, client_scrambled}
+use Rattle.q3_chan.specs.Keys.{Key, client_scrambled, client_start}
 use Rattle.q3_chan.specs.Laws.{SideTwiceIsNone, SideFrontStays}
 use Rattle.q3_profile.specs.declared.profile.Profile.{Profile}
 use Rattle.q3_clmsg.specs.declared.error.ClientIllegible.{ClientIllegible}
@@ -27,7 +27,7 @@ use Rattle.q3_map.specs.Map.{MapState, is_other}
 use Rattle.q3_slot.specs.Taking.{Came, came_as, ack_taken, cleared, with_heads, said_under, of_map, came_under, said_by}
 use Rattle.q3_client.specs.Sending.{said_bits, said_bytes}
 use Rattle.q3_messages.specs.MessageLaws.{SaidIsRead}
-use Rattle.q3_messages.proofs.BitFronts.{begins_both}
+use Rattle.q3_messages.proofs.BitFronts.{stays_in_sight}
 use Rattle.q3_messages.proofs.MessageKeys.{message_key_fits}
 
 -- ---- the leading longs
@@ -108,12 +108,11 @@ said_is_read put holds twice front written profile codec map slot said is taken 
     let bytes = said_bytes profile said in
     let rest = replicate (8 * message_length (length text) - length text) false in
     let row = longs words message in
-    let few : length row ≤ 96 = ltb-false 96 (length row) is.clear in
     let begins = begins_with_longs words key message rest in
-    let left = begins_both 12 row begins.0 plain bytes (omega (arith, few)) ((front Client said.key plain).1 12 (omega arith)) (holds text ∙ begins.1) in
+    let left = stays_in_sight front profile.protocol Client said.key (client_start slot.challenge message.id message.acknowledged) row begins.0 plain is.clear (ap (λ (k : Key). k.start) is.key) (holds text ∙ begins.1) in
     let found = longs_are_read put words codec.code message.id message.acknowledged message.command (drop (length row) (bits_of bytes)) is.message.id is.message.acknowledged is.message.command in
     let heads = heads_with message found.0 in
-    let clear : cleared slot.challenge heads said.key.text bytes ≡ plain =
+    let clear : cleared profile.protocol slot.challenge heads said.key.text bytes ≡ plain =
     ap (λ (key : Key). client_scrambled key bytes) (sym is.key) ∙ twice Client said.key plain in
     let fits = message_key_fits said.feed message.acknowledged said.key.text is.feed is.message.acknowledged is.text in
     let by_feed : said_under profile said.feed slot.challenge heads said.key.text bytes ≡ Ok message =

@@ -1,5 +1,5 @@
 -- A message survives the network: its datagrams, taken one after the other, bring it whole.
-use Rattle.std.proofs.Common.{◌≡◌, Bool, set, zero, suc, ◌^◌, ◌<◌, ◌≤◌, ◌==◌, true, List, [], ◌∷◌, ◌++◌, length, get_or, Option, Some, None, Result, Ok, refl, sym, ap, subst, ◌∙◌, add-one, arith, ℕ}
+use Rattle.std.proofs.Common.{◌≡◌, is_some, cond, Bool, set, zero, suc, ◌^◌, ◌<◌, ◌≤◌, ◌==◌, true, false, List, [], ◌∷◌, ◌++◌, length, get_or, Option, Some, None, Result, Ok, refl, sym, ap, subst, ◌∙◌, add-one, arith, ℕ}
 use Rattle.std.specs.Prelude.{position}
 use Rattle.std.proofs.lemmas.Bool.{and_parts, eqb-true, eq-eqb}
 use Rattle.std.proofs.lemmas.List.{length-set, set-set, get_or-set_same}
@@ -8,7 +8,8 @@ use Rattle.std.proofs.lemmas.List.FromFn.{map-range_with_len_more}
 use Rattle.std.proofs.lemmas.List.Quantifiers.{position-Some}
 use Rattle.q3_profile.specs.declared.profile.Profile.{Profile}
 use Rattle.q3_io.specs.declared.address.Address.{Address}
-use Rattle.q3_chan.specs.declared.side.Side.{Side}
+use Rattle.q3_chan.specs.declared.form.Form.{Form}
+use Rattle.q3_chan.specs.Checks.{is_checked, check_for}
 use Rattle.q3_chan.specs.declared.gatherer.Gathered.{Gathered}
 use Rattle.q3_chan.specs.declared.gatherer.Gathered.TheVariants as gathered
 use Rattle.q3_chan.specs.declared.qport.NoQport.{NoQport}
@@ -79,7 +80,7 @@ record Comes (g : Gathering) (header : Header) (number : ℕ) (message : List �
 
 comes : PiecesComeWhole → FirstComePartial → (g : Gathering) (header : Header) (number : ℕ) (message : List ℕ) → MayCome header number message g → Comes g header number message
 comes whole partial g header number message may =
-    subst (λ (s : Side). Comes g (record { side = s; qport = header.qport }) number message) may.from
+    subst (λ (f : Form). Comes g (record { form = f; qport = header.qport }) number message) may.from
     (record {
       partial = λ index before. partial g header.qport number index message may.newer may.none may.fits may.sendable before;
       whole = whole g header.qport number 0 message may.newer (omega arith) may.none may.fits may.sendable;
@@ -114,36 +115,37 @@ client_whole client g bytes number message received legible came read =
     ∙ (ap (λ (m : List ℕ). applies_read then (receive_bytes client number m)) came.message_is ∙ ap (λ (r : Result Reception Illegible). applies_read then r) read))
 
 -- after so many first datagrams
-client_first : (client : ClientState) (number : ℕ) (message : List ℕ) (count : ℕ) → client.dropped ≡ None → Comes client.gathering server_header number message → count ≤ last_index message
-    → client_after client (first_datagrams server_header number message count) ≡ record client { gathering = gathers_first client.gathering server_header number message count }
+client_first : (client : ClientState) (header : Header) (number : ℕ) (message : List ℕ) (count : ℕ) → client.dropped ≡ None → Comes client.gathering header number message → count ≤ last_index message
+    → client_after client (first_datagrams header number message count) ≡ record client { gathering = gathers_first client.gathering header number message count }
 unfolding client_after gathered_all
-client_first client number message zero legible does few = refl
-client_first client number message (suc count) legible does few =
-    let bytes = datagram server_header number message count in
-    let g = gathers_first client.gathering server_header number message count in
-    ap (client_after client) (first_more server_header number message count)
-    ∙ (client_push client (first_datagrams server_header number message count) bytes
-    ∙ (ap (λ (c : ClientState). (take_at c bytes).client) (client_first client number message count legible does (omega (arith, few)))
+client_first client header number message zero legible does few = refl
+client_first client header number message (suc count) legible does few =
+    let bytes = datagram header number message count in
+    let g = gathers_first client.gathering header number message count in
+    ap (client_after client) (first_more header number message count)
+    ∙ (client_push client (first_datagrams header number message count) bytes
+    ∙ (ap (λ (c : ClientState). (take_at c bytes).client) (client_first client header number message count legible does (omega (arith, few)))
     ∙ (ap (λ (t : Taken). t.client) (client_piece client g bytes legible (does.partial count (omega (arith, few))))
-    ∙ ap (λ (x : Gathering). record client { gathering = x }) (sym (gathers_more client.gathering server_header number message count)))))
+    ∙ ap (λ (x : Gathering). record client { gathering = x }) (sym (gathers_more client.gathering header number message count)))))
 
 pub built_survives : BuiltIsRead → PiecesComeWhole → FirstComePartial → BuiltSurvives
 built_survives reads whole partial profile codec client number built legible may is of_profile applied under takes same known =
     let message = built_bytes profile built in
-    let does = comes whole partial client.gathering server_header number message may in
+    let header = server_header (check_for profile.protocol client.challenge) in
+    let does = comes whole partial client.gathering header number message may in
     let read = reads profile codec client number built is of_profile applied under takes same known in
     let last = last_index message in
-    let bytes : ℕ → List ℕ = datagram server_header number message in
-    let gathers : ℕ → Gathering = gathers_first client.gathering server_header number message in (
+    let bytes : ℕ → List ℕ = datagram header number message in
+    let gathers : ℕ → Gathering = gathers_first client.gathering header number message in (
       λ index before. (
         (gathered_of (gathers index) (bytes index)).gathering,
-        ap (λ (c : ClientState). take_at c (bytes index)) (client_first client number message index legible does (omega (arith, before)))
+        ap (λ (c : ClientState). take_at c (bytes index)) (client_first client header number message index legible does (omega (arith, before)))
             ∙ client_piece client (gathers index) (bytes index) legible (does.partial index before),
       ),
       (
         (gathered_of (gathers last) (bytes last)).gathering,
         does.whole.taken,
-        ap (λ (c : ClientState). take_at c (bytes last)) (client_first client number message last legible does (omega arith))
+        ap (λ (c : ClientState). take_at c (bytes last)) (client_first client header number message last legible does (omega arith))
             ∙ client_whole client (gathers last) (bytes last) number message (receive_message client number built.message (plain_bytes profile built)) legible does.whole read,
       ),
     )
@@ -197,18 +199,19 @@ found_still server from qport c slot g found there =
     }
 
 -- a datagram of its client comes to the slot
-comes_to : (server now : ServerState) (from : Address) (qport c : ℕ) (slot : SlotState) (g : Gathering) (bytes : List ℕ) → qport_of bytes ≡ Ok qport
+comes_to : (server now : ServerState) (from : Address) (qport c : ℕ) (slot : SlotState) (g : Gathering) (bytes : List ℕ) → qport_of (is_checked server.profile.protocol) bytes ≡ Ok qport
     → (has : HasGathered server now from qport c slot g)
     → hears.take_at now from bytes ≡ taken_at server c (by_slot.take_slot server.profile server.map c from bytes (record slot { address = has.address; gathering = g }))
 unfolding hears.take_at
 comes_to server now from qport c slot g bytes told has =
     let before = record slot { address = has.address; gathering = g } in
-    ap (λ (r : Result ℕ NoQport). hears.take_headed now from bytes r) told
+    ap (λ (p : Profile). hears.take_headed now from bytes (qport_of (is_checked p.protocol) bytes)) has.by
+    ∙ (ap (λ (r : Result ℕ NoQport). hears.take_headed now from bytes r) told
     ∙ (ap (λ (o : Option ℕ). hears.take_from now from bytes o) has.found
     ∙ (ap (λ (o : Option SlotState). hears.take_by now c from bytes o) has.there
     ∙ (ap (λ (p : Profile). taken_at now c (by_slot.take_slot p now.map c from bytes before)) has.by
     ∙ (ap (λ (m : MapState). taken_at now c (by_slot.take_slot server.profile m c from bytes before)) has.map
-    ∙ placed (by_slot.take_slot server.profile server.map c from bytes before)))))
+    ∙ placed (by_slot.take_slot server.profile server.map c from bytes before))))))
   where
     placed : (t : by_slot.SlotTaken) → taken_at now c t ≡ taken_at server c t
     placed t = ap (λ (s : ServerState). record { server = s; answer = t.answer; commands = t.commands; moves = t.moves; entered = t.entered; owed = t.owed }) (has.same t.slot)
@@ -234,50 +237,60 @@ slot_whole profile map slot c address from g bytes number message value came rea
     ∙ ap (λ (r : Result by_slot.Came ClientIllegible). run_read map then c number r) read)
 
 -- a message's datagrams tell its client's qport
-abbrev AllTell : ℕ → ℕ → List ℕ → Type 0
-AllTell qport number message = (index : ℕ) → index ≤ last_index message → qport_of (datagram (client_header qport) number message index) ≡ Ok qport
+abbrev AllTell : Bool → Header → ℕ → List ℕ → Type 0
+AllTell checked header number message = (index : ℕ) → index ≤ last_index message → qport_of checked (datagram header number message index) ≡ Ok header.qport
 
-all_tell : QportIsTold → (qport number : ℕ) (message : List ℕ) (g : Gathering) → qport < 2 ^ 16 → MayCome (client_header qport) number message g → AllTell qport number message
-all_tell tells qport number message g short may index within = tells (client_header qport) number index message refl short may.fits may.sendable (omega (arith, within))
+-- whether each has a check is what the protocol says
+pub checked_so : (checked : Bool) (challenge : ℕ) → is_some (cond checked (Some challenge) None) ≡ checked
+checked_so true challenge = refl
+checked_so false challenge = refl
+
+all_tell : QportIsTold → (protocol challenge qport number : ℕ) (message : List ℕ) (g : Gathering) → qport < 2 ^ 16 → MayCome (client_header (check_for protocol challenge) qport) number message g
+    → AllTell (is_checked protocol) (client_header (check_for protocol challenge) qport) number message
+all_tell tells protocol challenge qport number message g short may =
+    let header = client_header (check_for protocol challenge) qport in
+    subst (λ (checked : Bool). AllTell checked header number message) (checked_so (is_checked protocol) challenge)
+    (λ index within. tells header number index message refl short may.fits may.sendable (omega (arith, within)))
 
 -- after so many first datagrams
-server_first : (server : ServerState) (from : Address) (qport c : ℕ) (slot : SlotState) (number : ℕ) (message : List ℕ) (count : ℕ)
-    → sender_of server from.host qport ≡ Some c → slot_at server c ≡ Some slot → AllTell qport number message → Comes slot.gathering (client_header qport) number message → count ≤ last_index message
-    → HasGathered server (server_after server from (first_datagrams (client_header qport) number message count)) from qport c slot (gathers_first slot.gathering (client_header qport) number message count)
+server_first : (server : ServerState) (from : Address) (header : Header) (c : ℕ) (slot : SlotState) (number : ℕ) (message : List ℕ) (count : ℕ)
+    → sender_of server from.host header.qport ≡ Some c → slot_at server c ≡ Some slot → AllTell (is_checked server.profile.protocol) header number message → Comes slot.gathering header number message → count ≤ last_index message
+    → HasGathered server (server_after server from (first_datagrams header number message count)) from header.qport c slot (gathers_first slot.gathering header number message count)
 unfolding server_after gathered_all
-server_first server from qport c slot number message zero found there tells does few =
+server_first server from header c slot number message zero found there tells does few =
     record { by = refl; map = refl; found = found; address = slot.address; there = there; same = λ other. refl }
-server_first server from qport c slot number message (suc count) found there tells does few =
-    let bytes = datagram (client_header qport) number message count in
-    let g = gathers_first slot.gathering (client_header qport) number message count in
-    let now = server_after server from (first_datagrams (client_header qport) number message count) in
-    let has = server_first server from qport c slot number message count found there tells does (omega (arith, few)) in
+server_first server from header c slot number message (suc count) found there tells does few =
+    let bytes = datagram header number message count in
+    let g = gathers_first slot.gathering header number message count in
+    let now = server_after server from (first_datagrams header number message count) in
+    let has = server_first server from header c slot number message count found there tells does (omega (arith, few)) in
     let took = gathered_of g bytes in
     let next = record slot { address = from; gathering = took.gathering } in
     let taken : hears.take_at now from bytes ≡ taken_at server c (by_slot.answers next (SlotPartial c)) =
-    comes_to server now from qport c slot g bytes (tells count (omega (arith, few))) has
+    comes_to server now from header.qport c slot g bytes (tells count (omega (arith, few))) has
     ∙ ap (taken_at server c) (slot_piece server.profile server.map slot c has.address from g bytes (does.partial count (omega (arith, few)))) in
-    let after : server_after server from (first_datagrams (client_header qport) number message (suc count)) ≡ with_slot server c next =
-    ap (server_after server from) (first_more (client_header qport) number message count)
-    ∙ (server_push server from (first_datagrams (client_header qport) number message count) bytes ∙ ap (λ (t : hears.Taken). t.server) taken) in
-    subst (λ (s : ServerState). HasGathered server s from qport c slot (gathers_first slot.gathering (client_header qport) number message (suc count))) (sym after)
-    (subst (λ (x : Gathering). HasGathered server (with_slot server c next) from qport c slot x) (sym (gathers_more slot.gathering (client_header qport) number message count))
-    (found_still server from qport c slot took.gathering found there))
+    let after : server_after server from (first_datagrams header number message (suc count)) ≡ with_slot server c next =
+    ap (server_after server from) (first_more header number message count)
+    ∙ (server_push server from (first_datagrams header number message count) bytes ∙ ap (λ (t : hears.Taken). t.server) taken) in
+    subst (λ (s : ServerState). HasGathered server s from header.qport c slot (gathers_first slot.gathering header number message (suc count))) (sym after)
+    (subst (λ (x : Gathering). HasGathered server (with_slot server c next) from header.qport c slot x) (sym (gathers_more slot.gathering header number message count))
+    (found_still server from header.qport c slot took.gathering found there))
 
 pub said_survives : SaidIsRead → PiecesComeWhole → FirstComePartial → QportIsTold → SaidSurvives
 said_survives hears_back whole partial tells_qport profile codec server from qport c slot number said by short found there may is takes same feeds =
     let message = said_bytes profile said in
-    let does = comes whole partial slot.gathering (client_header qport) number message may in
-    let tells = all_tell tells_qport qport number message slot.gathering short may in
+    let header = client_header (check_for profile.protocol slot.challenge) qport in
+    let does = comes whole partial slot.gathering header number message may in
+    let tells = subst (λ (p : Profile). AllTell (is_checked p.protocol) header number message) (sym by) (all_tell tells_qport profile.protocol slot.challenge qport number message slot.gathering short may) in
     let read : said_by server.profile server.map slot message ≡ Ok (came_as server.map said.message) =
     ap (λ (p : Profile). said_by p server.map slot message) by ∙ hears_back profile codec server.map slot said is takes same feeds in
     let last = last_index message in
-    let bytes : ℕ → List ℕ = datagram (client_header qport) number message in
-    let gathers : ℕ → Gathering = gathers_first slot.gathering (client_header qport) number message in
-    let now : ℕ → ServerState = λ index. server_after server from (first_datagrams (client_header qport) number message index) in
-    let at_last = server_first server from qport c slot number message last found there tells does (omega arith) in (
+    let bytes : ℕ → List ℕ = datagram header number message in
+    let gathers : ℕ → Gathering = gathers_first slot.gathering header number message in
+    let now : ℕ → ServerState = λ index. server_after server from (first_datagrams header number message index) in
+    let at_last = server_first server from header c slot number message last found there tells does (omega arith) in (
       λ index before.
-          let has = server_first server from qport c slot number message index found there tells does (omega (arith, before)) in (
+          let has = server_first server from header c slot number message index found there tells does (omega (arith, before)) in (
             (gathered_of (gathers index) (bytes index)).gathering,
             comes_to server (now index) from qport c slot (gathers index) (bytes index) (tells index (omega (arith, before))) has
                 ∙ ap (taken_at server c) (slot_piece server.profile server.map slot c has.address from (gathers index) (bytes index) (does.partial index before)),

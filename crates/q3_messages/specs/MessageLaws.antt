@@ -4,6 +4,7 @@ use Rattle.std.specs.List.{range_with_len}
 use Rattle.q3_profile.specs.declared.profile.Profile.{Profile}
 use Rattle.q3_profile.specs.Profile.{IsCodec}
 use Rattle.q3_io.specs.declared.address.Address.{Address}
+use Rattle.q3_chan.specs.Checks.{check_for}
 use Rattle.q3_chan.specs.Datagrams.{Header, server_header, client_header, sequence_end, last_index, datagram}
 use Rattle.q3_chan.specs.Gathering.{Gathering}
 use Rattle.q3_chan.specs.Laws.{IsSendable}
@@ -58,7 +59,7 @@ first_datagrams header number message count = map (datagram header number messag
 -- a message may come to an end that gathers: its number is above every number taken, nothing was gathered under it, and it may be
 -- sent
 pub record MayCome (header : Header) (number : ℕ) (message : List ℕ) (g : Gathering) : Type 0 where
-  pub from : g.side ≡ header.side
+  pub from : g.form ≡ header.form
   pub newer : g.taken < number
   pub none : g.number ≡ number → g.bytes ≡ []
   pub fits : number < sequence_end
@@ -84,15 +85,15 @@ AppliesIt client number message plain taken =
 -- dropped, the message may come to it, and it is received from its bytes as in BuiltIsRead
 abbrev pub BuiltSurvives : Type 0
 BuiltSurvives = (profile : Profile) → IsCodec profile → (client : ClientState) (number : ℕ) (built : Built) → client.dropped ≡ None
-    → MayCome server_header number (built_bytes profile built) client.gathering → IsBuilt profile client.challenge number built
+    → MayCome (server_header (check_for profile.protocol client.challenge)) number (built_bytes profile built) client.gathering → IsBuilt profile client.challenge number built
     → client.state.profile ≡ profile → IsApplied client.state → IfSome built.under (λ game. client.state.lines ≡ built.lines)
     → (acknowledge_at client.issued built.message.ack).answer ≡ Ok tt → text_at client.issued built.message.ack ≡ built.key.text
     → IfSome built.base (λ base. IsSnapshot profile base × HoldsThis client.state.held base)
     → ((index : ℕ) → index < last_index (built_bytes profile built)
-    → GathersMore client (take_at (client_after client (first_datagrams server_header number (built_bytes profile built) index)) (datagram server_header number (built_bytes profile built) index)))
+    → GathersMore client (take_at (client_after client (first_datagrams (server_header (check_for profile.protocol client.challenge)) number (built_bytes profile built) index)) (datagram (server_header (check_for profile.protocol client.challenge)) number (built_bytes profile built) index)))
     × AppliesIt client number built.message (plain_bytes profile built)
-    (take_at (client_after client (first_datagrams server_header number (built_bytes profile built) (last_index (built_bytes profile built))))
-    (datagram server_header number (built_bytes profile built) (last_index (built_bytes profile built))))
+    (take_at (client_after client (first_datagrams (server_header (check_for profile.protocol client.challenge)) number (built_bytes profile built) (last_index (built_bytes profile built))))
+    (datagram (server_header (check_for profile.protocol client.challenge)) number (built_bytes profile built) (last_index (built_bytes profile built))))
 
 -- a server after these datagrams from an address, one after the other
 unfoldable pub server_after : ServerState → Address → List (List ℕ) → ServerState
@@ -116,12 +117,12 @@ RunsIt server c slot from number message taken =
 abbrev pub SaidSurvives : Type 0
 SaidSurvives = (profile : Profile) → IsCodec profile → (server : ServerState) (from : Address) (qport c : ℕ) (slot : SlotState) (number : ℕ) (said : Said)
     → server.profile ≡ profile → qport < 2 ^ 16 → sender_of server from.host qport ≡ Some c → slot_at server c ≡ Some slot
-    → MayCome (client_header qport) number (said_bytes profile said) slot.gathering → IsSaid profile slot.challenge said
+    → MayCome (client_header (check_for profile.protocol slot.challenge) qport) number (said_bytes profile said) slot.gathering → IsSaid profile slot.challenge said
     → (acknowledge_at slot.issued said.message.command).answer ≡ Ok tt → text_at slot.issued said.message.command ≡ said.key.text
     → (is_other server.map said.message.id ≡ false → said.feed ≡ server.map.feed)
     → ((index : ℕ) → index < last_index (said_bytes profile said)
     → SlotGathersMore server c slot from
-    (hears.take_at (server_after server from (first_datagrams (client_header qport) number (said_bytes profile said) index)) from (datagram (client_header qport) number (said_bytes profile said) index)))
+    (hears.take_at (server_after server from (first_datagrams (client_header (check_for profile.protocol slot.challenge) qport) number (said_bytes profile said) index)) from (datagram (client_header (check_for profile.protocol slot.challenge) qport) number (said_bytes profile said) index)))
     × RunsIt server c slot from number said.message
-    (hears.take_at (server_after server from (first_datagrams (client_header qport) number (said_bytes profile said) (last_index (said_bytes profile said)))) from
-    (datagram (client_header qport) number (said_bytes profile said) (last_index (said_bytes profile said))))
+    (hears.take_at (server_after server from (first_datagrams (client_header (check_for profile.protocol slot.challenge) qport) number (said_bytes profile said) (last_index (said_bytes profile said)))) from
+    (datagram (client_header (check_for profile.protocol slot.challenge) qport) number (said_bytes profile said) (last_index (said_bytes profile said))))

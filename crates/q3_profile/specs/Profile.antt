@@ -1,5 +1,5 @@
 -- The profile that a file's bytes spell, or the first rule that they break.
-use Rattle.std.specs.Prelude.{◌≤◌, ◌≡◌, ℕ, ◌==◌, ◌&&◌, if◌then◌else◌, Bool, true, List, length, map, nat_lt, nat_le, ℤ, pos, negsuc, Result, Ok, Err}
+use Rattle.std.specs.Prelude.{◌≤◌, ◌≡◌, ℕ, ◌==◌, ◌&&◌, ◌||◌, if◌then◌else◌, Bool, true, List, length, map, nat_lt, nat_le, ℤ, pos, negsuc, Result, Ok, Err}
 use Rattle.std.specs.Int.{is_power_of_two}
 use Rattle.std.specs.Option.{ok_or, option_map_or}
 use Rattle.std.specs.Result.{result_map_both}
@@ -22,8 +22,9 @@ use Rattle.q3_profile.specs.Mark.{mark_of}
 abbrev pub longest_profile : ℕ
 longest_profile = 1048576
 
+-- 68, or 71
 abbrev pub is_protocol : ℕ → Bool
-is_protocol n = n == 68
+is_protocol n = n == 68 || n == 71
 
 -- 256 to 262,144 places
 abbrev pub is_server_ring : ℕ → Bool
@@ -88,4 +89,4 @@ pub record IsCodec (profile : Profile) : Type 0 where
 pub record IsProfile (profile : Profile) : Type 0 where
   pub server_ring : is_server_ring profile.server_ring ≡ true
   pub parse_ring : is_parse_ring profile.parse_ring ≡ true
-  pub protocol : profile.protocol ≡ 68
+  pub protocol : is_protocol profile.protocol ≡ true

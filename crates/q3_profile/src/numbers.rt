@@ -21,11 +21,15 @@ fn number_at(document: &Table, key: Key, least: u32, most: u32) -> Result<u32, P
     }
 }
 
-/// The protocol: 68.
+/// The protocol: 68 or 71.
 pub(crate) fn protocol_at(document: &Table) -> Result<u32, ProfileError>
     ensures { result ≡ number_at keys.Protocol is_protocol (table_view document.now) }
 {
-    number_at(document, Key::Protocol, 68, 68)
+    let number = number_at(document, Key::Protocol, 68, 71)?;
+    if number != 68 && number != 71 {
+        return Err(ProfileError::Limit(Key::Protocol));
+    }
+    Ok(number)
 }
 
 /// How many entities the server's ring has room for.

@@ -19,7 +19,7 @@ pub struct Profile {
     pub server_ring: u32,
     /// How many entities a client's ring has room for: a power of two from 512 to 65,536.
     pub parse_ring: u32,
-    /// The protocol: 68.
+    /// The protocol: 68, or 71, by which a check stands in front of each datagram and nothing is scrambled.
     pub protocol: u32,
     /// A number over the file's bytes.
     pub mark: u64,

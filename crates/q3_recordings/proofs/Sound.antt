@@ -10,11 +10,11 @@ use Rattle.q3_profile.specs.declared.profile.Profile.{Profile}
 use Rattle.q3_profile.specs.Profile.{IsCodec}
 use Rattle.q3_chan.specs.declared.gatherer.Gathered.{Gathered}
 use Rattle.q3_chan.specs.declared.gatherer.Gathered.TheVariants as gathered
-use Rattle.q3_chan.specs.Datagrams.{fragment_size, longest_message, sequence_end, is_fragment, number_in, header_length, start_in, count_in, behind_header}
+use Rattle.q3_chan.specs.Datagrams.{fragment_size, longest_message, sequence_end, is_fragment, number_in, length_of, has_bad_check, start_in, count_in, behind_header}
 use Rattle.q3_chan.specs.Gathering.{Gathering, Took, answers as gathers, arrives, emptied, gathering_of, take_whole, add_piece, take_piece, take_fragment, take_newer, is_connectionless, gathered as gathered_of}
 use Rattle.q3_chan.specs.Sending.{UnderWay, started}
 use Rattle.q3_chan.specs.Scrambling.{keyed, key_at}
-use Rattle.q3_chan.specs.Keys.{server_key, client_scrambled}
+use Rattle.q3_chan.specs.Keys.{server_key, client_scrambled, scrambled_by}
 use Rattle.q3_svmsg.specs.declared.error.Illegible.{Illegible}
 use Rattle.q3_svmsg.specs.declared.error.Illegible.TheVariants.{Bits}
 use Rattle.q3_svmsg.specs.Reading.{ack_at, message_at}
@@ -210,12 +210,12 @@ newer_done : (g : Gathering) (datagram : List ℕ) → g.taken < number_in datag
 newer_done g datagram newer =
     let n = number_in datagram in
     let fits : n < number_end = omega arith in
-    let message = behind_header g.side datagram in
+    let message = behind_header g.form datagram in
     let now = gathering_of g n in
     let has : Gathers g.taken now = cond_both (n == g.number) g (record g { number = n; bytes = [] }) (Gathers g.taken)
     (λ same. let e = eqb-true n g.number same in record { taken = refl; newer = omega (arith, e, newer); fits = omega (arith, e, fits) }) (λ other. record { taken = refl; newer = newer; fits = fits }) in
-    cond_both (is_fragment datagram) (take_fragment now (start_in g.side datagram) (count_in g.side datagram) message) (take_whole g n message) (Done g.taken)
-    (λ e. fragment_done g.taken now (start_in g.side datagram) (count_in g.side datagram) message has)
+    cond_both (is_fragment datagram) (take_fragment now (start_in g.form datagram) (count_in g.form datagram) message) (take_whole g n message) (Done g.taken)
+    (λ e. fragment_done g.taken now (start_in g.form datagram) (count_in g.form datagram) message has)
     (λ e. cond_both (nat_lt longest_message (length message)) (gathers g gathered.BadFragment) (arrives g n message) (Done g.taken) (λ long. refl)
     (λ short. let few = ltb-false _ _ short in (refl, newer, fits, few)))
 
@@ -223,13 +223,15 @@ gathered_done : (g : Gathering) (datagram : List ℕ) → Done g.taken (gathered
 unfolding gathered_of
 gathered_done g datagram =
     let newer : Took = if nat_le (number_in datagram) g.taken then gathers g gathered.Old else take_newer g datagram in
-    let headed : Took = if nat_lt (length datagram) (header_length g.side (is_fragment datagram)) then gathers g gathered.Runt else newer in
+    let checked : Took = if has_bad_check g.form.side g.form.check datagram then gathers g gathered.BadCheck else newer in
+    let headed : Took = if nat_lt (length datagram) (length_of g.form (is_fragment datagram)) then gathers g gathered.Runt else checked in
     let bare : Took = if is_connectionless datagram then gathers g gathered.Connectionless else headed in
     cond_both (nat_lt (length datagram) 4) (gathers g gathered.Runt) bare (Done g.taken) (λ e. refl)
     (λ e. cond_both (is_connectionless datagram) (gathers g gathered.Connectionless) headed (Done g.taken) (λ e. refl)
-    (λ e. cond_both (nat_lt (length datagram) (header_length g.side (is_fragment datagram))) (gathers g gathered.Runt) newer (Done g.taken) (λ e. refl)
+    (λ e. cond_both (nat_lt (length datagram) (length_of g.form (is_fragment datagram))) (gathers g gathered.Runt) checked (Done g.taken) (λ e. refl)
+    (λ e. cond_both (has_bad_check g.form.side g.form.check datagram) (gathers g gathered.BadCheck) newer (Done g.taken) (λ e. refl)
     (λ e. cond_both (nat_le (number_in datagram) g.taken) (gathers g gathered.Old) (take_newer g datagram) (Done g.taken) (λ e. refl)
-    (λ new. newer_done g datagram (leb-false _ _ new)))))
+    (λ new. newer_done g datagram (leb-false _ _ new))))))
 
 -- ---- what was received
 
@@ -245,8 +247,12 @@ front_long key place zero bytes = keyed_long key place bytes
 front_long key place (suc count) [] = refl
 front_long key place (suc count) (byte ∷ bytes) = ap suc (front_long key place count bytes)
 
-cleared_long : (challenge n : ℕ) (text bytes : List ℕ) → length (cleared challenge n text bytes) ≡ length bytes
-cleared_long challenge n text bytes = front_long (key_at 4 (server_key challenge n text).start text) 4 4 bytes
+scrambled_long : (start : Option ℕ) (text bytes : List ℕ) → length (scrambled_by 4 start text bytes) ≡ length bytes
+scrambled_long None text bytes = refl
+scrambled_long (Some start) text bytes = front_long (key_at 4 start text) 4 4 bytes
+
+cleared_long : (protocol challenge n : ℕ) (text bytes : List ℕ) → length (cleared protocol challenge n text bytes) ≡ length bytes
+cleared_long protocol challenge n text bytes = scrambled_long (server_key protocol challenge n text).start text bytes
 
 -- an acknowledgement doesn't change how many commands were issued
 acknowledged_issued : (window : OutgoingState) (number : ℕ) → issued_of (acknowledge_at window number).window ≡ issued_of window
@@ -306,8 +312,8 @@ received_with client ack plain applied =
 abbrev received_behind : ClientState → ℕ → List ℕ → ℕ × ℕ → Result Reception Illegible
 received_behind client n bytes ack =
     ack_taken ack.0 (acknowledge_at client.issued ack.0).answer >>= λ taken.
-    received_with client ack.0 (cleared client.challenge n (text_at client.issued ack.0) bytes)
-    (apply_at client.state n (cleared client.challenge n (text_at client.issued ack.0) bytes))
+    received_with client ack.0 (cleared client.state.profile.protocol client.challenge n (text_at client.issued ack.0) bytes)
+    (apply_at client.state n (cleared client.state.profile.protocol client.challenge n (text_at client.issued ack.0) bytes))
 
 abbrev received_as : Reception → Result Reception Illegible
 received_as reception = Ok reception
@@ -327,9 +333,9 @@ was_received client n bytes received e =
     let long = bind_ok (fault_as Bits (ack_at client.state.profile.code (bits_of bytes))) (received_behind client n bytes) received e in
     let ack = long.0.0 in
     let text = text_at client.issued ack in
-    let plain = cleared client.challenge n text bytes in
+    let plain = cleared client.state.profile.protocol client.challenge n text bytes in
     let taken = bind_ok (ack_taken ack (acknowledge_at client.issued ack).answer) (λ (taken : Unit {0}). received_with client ack plain (apply_at client.state n plain)) received long.2 in
-    with_was client n ack bytes plain (apply_at client.state n plain) received (cleared_long client.challenge n text bytes) refl taken.2
+    with_was client n ack bytes plain (apply_at client.state n plain) received (cleared_long client.state.profile.protocol client.challenge n text bytes) refl taken.2
 
 -- ---- what a datagram did
 
@@ -385,6 +391,7 @@ answer_did client came gathered.Partial receive done were = same_taken client ca
 answer_did client came gathered.Old receive done were = same_taken client came took.Old done refl
 answer_did client came gathered.OutOfOrder receive done were = same_taken client came took.OutOfOrder done refl
 answer_did client came gathered.BadFragment receive done were = same_taken client came took.BadFragment done refl
+answer_did client came gathered.BadCheck receive done were = same_taken client came took.BadCheck done refl
 answer_did client came gathered.Runt receive done were = same_taken client came took.Runt done refl
 answer_did client came gathered.Connectionless receive done were = same_taken client came took.Connectionless done refl
 

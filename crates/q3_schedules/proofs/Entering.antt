@@ -186,6 +186,7 @@ takes_answer of_server slot c message enters gathered.Partial = takes_nothing sl
 takes_answer of_server slot c message enters gathered.Old = takes_nothing slot c (took.Old c)
 takes_answer of_server slot c message enters gathered.OutOfOrder = takes_nothing slot c (took.OutOfOrder c)
 takes_answer of_server slot c message enters gathered.BadFragment = takes_nothing slot c (took.BadFragment c)
+takes_answer of_server slot c message enters gathered.BadCheck = takes_nothing slot c (took.BadCheck c)
 takes_answer of_server slot c message enters gathered.Runt = takes_nothing slot c took.Runt
 takes_answer of_server slot c message enters gathered.Connectionless = takes_nothing slot c took.Connectionless
 
@@ -290,8 +291,8 @@ game_leaves slot of_server frames built bits =
 
 next_leaves : (profile : Profile) (of_server : MapState) (frames : FramesState) (c : ℕ) (slot : SlotState) → Leaves slot (emit_next profile of_server frames c slot)
 next_leaves profile of_server frames c slot =
-    let game = next_game_built of_server c slot in
-    let next = begun_next of_server frames c slot in
+    let game = next_game_built profile of_server c slot in
+    let next = begun_next profile of_server frames c slot in
     cond_both slot.owed (emit_game profile slot of_server frames game) (emit_built profile slot of_server (next_frames of_server frames c slot) next) (Leaves slot)
     (λ e. game_leaves slot of_server frames game (built_bits profile game)) (λ e. bits_leave slot of_server (next_frames of_server frames c slot) next (built_bits profile next))
 
@@ -380,16 +381,16 @@ module _ (profile : Profile) (whole : Whole) (old : List Move) (time c : ℕ) (l
       (λ was. past_same old time slot (change slot) run run (stays slot) refl (subst (λ (s : Option SlotState). Past old time s run) at was)) is
 
   joins_apart : (k challenge qport dup : ℕ) (address : Address) → slot_at whole.ends.server k ≡ None → (twin : Option ℕ)
-      → JoinsSo profile old time c whole k challenge qport dup address (add_apart whole.ends.server k (new_slot challenge qport address) twin)
+      → JoinsSo profile old time c whole k challenge qport dup address (add_apart whole.ends.server k (new_slot whole.ends.server.profile.protocol challenge qport address) twin)
   joins_apart k challenge qport dup address none (Some twin) = unnoted k
   joins_apart k challenge qport dup address none None =
       let history = history_at whole.histories k in
-      both_changed (λ (s : Option SlotState) (h : History). Past old time s h.run) whole.ends.server.slots whole.histories c k (Some (new_slot challenge qport address))
-      (record history { qport = qport; host = address.host }) holds.facts.slots holds.facts.histories lt
+      both_changed (λ (s : Option SlotState) (h : History). Past old time s h.run) whole.ends.server.slots whole.histories c k (Some (new_slot whole.ends.server.profile.protocol challenge qport address))
+      (record history { challenge = challenge; qport = qport; host = address.host }) holds.facts.slots holds.facts.histories lt
       (λ was. absurd (subst (λ (s : Option SlotState). Past old time s history.run) none was)) is
 
   joins_to : (k challenge qport dup : ℕ) (address : Address) (found : Option SlotState) → slot_at whole.ends.server k ≡ found
-      → JoinsSo profile old time c whole k challenge qport dup address (add_to whole.ends.server k (new_slot challenge qport address) found)
+      → JoinsSo profile old time c whole k challenge qport dup address (add_to whole.ends.server k (new_slot whole.ends.server.profile.protocol challenge qport address) found)
   joins_to k challenge qport dup address None none = joins_apart k challenge qport dup address none (position (is_of address.host qport) whole.ends.server.slots)
   joins_to k challenge qport dup address (Some slot) at = unnoted k
 
@@ -398,7 +399,7 @@ module _ (profile : Profile) (whole : Whole) (old : List Move) (time c : ℕ) (l
       → At old time c (joining profile whole k challenge qport dup address (add_client_at whole.ends.server k challenge qport address))
   joins k challenge qport dup address =
       cond_both (nat_le (length whole.ends.server.slots) k) (record { server = whole.ends.server; answer = Err Range })
-      (add_to whole.ends.server k (new_slot challenge qport address) (slot_at whole.ends.server k))
+      (add_to whole.ends.server k (new_slot whole.ends.server.profile.protocol challenge qport address) (slot_at whole.ends.server k))
       (JoinsSo profile old time c whole k challenge qport dup address) (λ e. unnoted k)
       (λ e. joins_to k challenge qport dup address (slot_at whole.ends.server k) refl)
 

@@ -393,6 +393,7 @@ quiet_applies client gathered.Partial apply applied is e = absurd cc
 quiet_applies client gathered.Old apply applied is e = absurd cc
 quiet_applies client gathered.OutOfOrder apply applied is e = absurd cc
 quiet_applies client gathered.BadFragment apply applied is e = is
+quiet_applies client gathered.BadCheck apply applied is e = is
 quiet_applies client gathered.Runt apply applied is e = is
 quiet_applies client gathered.Connectionless apply applied is e = is
 

@@ -165,7 +165,7 @@ noting whole k step note = (with_noted whole (with_history whole.histories k (no
 abbrev pub joining : Profile → Whole → ℕ → ℕ → ℕ → ℕ → Address → Handed SlotError → Whole
 joining profile whole k challenge qport dup address added =
     noting whole k (joined (record whole.ends { server = added.server }) k (record { client = new_client profile challenge qport dup; address = address; recording = None }) added.answer)
-    (with_joined (history_at whole.histories k) qport address)
+    (with_joined (history_at whole.histories k) challenge qport address)
 
 abbrev JoinsSo : Profile → History → ℕ → Whole → ℕ → ℕ → ℕ → ℕ → Address → Handed SlotError → Type 0
 JoinsSo profile old c whole k challenge qport dup address added = At old c (joining profile whole k challenge qport dup address added)
@@ -191,19 +191,19 @@ module _ (profile : Profile) (whole : Whole) (old : History) (c : ℕ) (lt : c <
   gives k change found = subst (λ (map : MapState). Of old map (place_at whole.ends c) (history_at whole.histories c)) (sym (given_map whole.ends.server k change found)) is
 
   joins_apart : (k challenge qport dup : ℕ) (address : Address) → k < places → slot_at whole.ends.server k ≡ None → (twin : Option ℕ)
-      → JoinsSo profile old c whole k challenge qport dup address (add_apart whole.ends.server k (new_slot challenge qport address) twin)
+      → JoinsSo profile old c whole k challenge qport dup address (add_apart whole.ends.server k (new_slot whole.ends.server.profile.protocol challenge qport address) twin)
   joins_apart k challenge qport dup address within none (Some twin) = unnoted k
   joins_apart k challenge qport dup address within none None =
       let map = whole.ends.server.map in
       let history = history_at whole.histories k in
       let place : Place = record { client = new_client profile challenge qport dup; address = address; recording = None } in
-      both_changed (λ (e : Option Place) (h : History). Of old map e h) whole.ends.clients whole.histories c k (Some place) (record history { qport = qport; host = address.host })
+      both_changed (λ (e : Option Place) (h : History). Of old map e h) whole.ends.clients whole.histories c k (Some place) (record history { challenge = challenge; qport = qport; host = address.host })
       holds.facts.clients holds.facts.histories lt
       (λ was. follows_joined map.id map.strings old.built old.server_commands (state_in (place_at whole.ends k)) history.built history.games history.server_commands profile
       (ap (λ (h : History). h.games) (nobody_built profile whole k within holds none)) was) is
 
   joins_to : (k challenge qport dup : ℕ) (address : Address) → k < places → (found : Option SlotState) → slot_at whole.ends.server k ≡ found
-      → JoinsSo profile old c whole k challenge qport dup address (add_to whole.ends.server k (new_slot challenge qport address) found)
+      → JoinsSo profile old c whole k challenge qport dup address (add_to whole.ends.server k (new_slot whole.ends.server.profile.protocol challenge qport address) found)
   joins_to k challenge qport dup address within None none = joins_apart k challenge qport dup address within none (position (is_of address.host qport) whole.ends.server.slots)
   joins_to k challenge qport dup address within (Some slot) at = unnoted k
 
@@ -212,7 +212,7 @@ module _ (profile : Profile) (whole : Whole) (old : History) (c : ℕ) (lt : c <
       → At old c (joining profile whole k challenge qport dup address (add_client_at whole.ends.server k challenge qport address))
   joins k challenge qport dup address within =
       cond_both (nat_le (length whole.ends.server.slots) k) (record { server = whole.ends.server; answer = Err Range })
-      (add_to whole.ends.server k (new_slot challenge qport address) (slot_at whole.ends.server k))
+      (add_to whole.ends.server k (new_slot whole.ends.server.profile.protocol challenge qport address) (slot_at whole.ends.server k))
       (JoinsSo profile old c whole k challenge qport dup address) (λ e. unnoted k)
       (λ e. joins_to k challenge qport dup address within (slot_at whole.ends.server k) refl)
 

@@ -59,11 +59,11 @@ abbrev pub EmitsSo : MapState → SlotState → SlotEmission → Type 0
 EmitsSo map slot emission = BeginsSo map (issued_of slot.issued) emission.map emission.began
 
 module _ (profile : Profile) (map : MapState) (frames : FramesState) (c : ℕ) (slot : SlotState) where
-  emits_game : EmitsSo map slot (emit_game profile slot map frames (next_game_built map c slot))
+  emits_game : EmitsSo map slot (emit_game profile slot map frames (next_game_built profile map c slot))
   emits_game =
-      cond_both (is_overlong (built_bits profile (next_game_built map c slot))) (nothing slot map frames emitted.Overlong)
+      cond_both (is_overlong (built_bits profile (next_game_built profile map c slot))) (nothing slot map frames emitted.Overlong)
       (begin (primed slot (slot.sending.number + 1)) (begins_game map) frames
-      (emitted.Game (slot.sending.number + 1) (message_length (length (built_bits profile (next_game_built map c slot))))) (next_game_built map c slot) (built_bits profile (next_game_built map c slot)))
+      (emitted.Game (slot.sending.number + 1) (message_length (length (built_bits profile (next_game_built profile map c slot))))) (next_game_built profile map c slot) (built_bits profile (next_game_built profile map c slot)))
       (EmitsSo map slot)
       (λ e. record { id = refl; strings = refl; tells = tt })
       (λ e. record {
@@ -77,12 +77,12 @@ module _ (profile : Profile) (map : MapState) (frames : FramesState) (c : ℕ) (
         };
       })
 
-  emits_snapshot : EmitsSo map slot (emit_built profile slot map (next_frames map frames c slot) (begun_next map frames c slot))
+  emits_snapshot : EmitsSo map slot (emit_built profile slot map (next_frames map frames c slot) (begun_next profile map frames c slot))
   emits_snapshot =
-      cond_both (is_overlong (built_bits profile (begun_next map frames c slot))) (nothing slot map (next_frames map frames c slot) emitted.Overlong)
+      cond_both (is_overlong (built_bits profile (begun_next profile map frames c slot))) (nothing slot map (next_frames map frames c slot) emitted.Overlong)
       (begin slot map (next_frames map frames c slot)
-      (emitted.Snapshot (slot.sending.number + 1) (number_of (begun_next map frames c slot).base) (message_length (length (built_bits profile (begun_next map frames c slot)))))
-      (begun_next map frames c slot) (built_bits profile (begun_next map frames c slot)))
+      (emitted.Snapshot (slot.sending.number + 1) (number_of (begun_next profile map frames c slot).base) (message_length (length (built_bits profile (begun_next profile map frames c slot)))))
+      (begun_next profile map frames c slot) (built_bits profile (begun_next profile map frames c slot)))
       (EmitsSo map slot)
       (λ e. record { id = refl; strings = refl; tells = tt })
       (λ e. record { id = refl; strings = refl; tells = record { last_is = refl; game = λ game is. absurd (apart game is) } })
@@ -99,8 +99,8 @@ module _ (profile : Profile) (map : MapState) (frames : FramesState) (c : ℕ) (
       (λ e. cond_both (is_unclear profile slot.executed.executed) (nothing slot map frames emitted.Unclear) (emit_next profile map frames c slot)
       (EmitsSo map slot)
       (λ e. record { id = refl; strings = refl; tells = tt })
-      (λ e. cond_both slot.owed (emit_game profile slot map frames (next_game_built map c slot))
-      (emit_built profile slot map (next_frames map frames c slot) (begun_next map frames c slot))
+      (λ e. cond_both slot.owed (emit_game profile slot map frames (next_game_built profile map c slot))
+      (emit_built profile slot map (next_frames map frames c slot) (begun_next profile map frames c slot))
       (EmitsSo map slot) (λ e. emits_game) (λ e. emits_snapshot)))
 
   -- what a slot emits
@@ -237,6 +237,7 @@ module _ (id : ℕ) (strings : Strings) (old : List Built) (before : List (List 
   quiet_follows client gathered.Old read n section quiet is = is
   quiet_follows client gathered.OutOfOrder read n section quiet is = is
   quiet_follows client gathered.BadFragment read n section quiet is = absurd quiet
+  quiet_follows client gathered.BadCheck read n section quiet is = absurd quiet
   quiet_follows client gathered.Runt read n section quiet is = absurd quiet
   quiet_follows client gathered.Connectionless read n section quiet is = absurd quiet
 

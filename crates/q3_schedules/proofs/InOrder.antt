@@ -58,6 +58,7 @@ answer_gathers client gathered.Partial apply = refl
 answer_gathers client gathered.Old apply = refl
 answer_gathers client gathered.OutOfOrder apply = refl
 answer_gathers client gathered.BadFragment apply = refl
+answer_gathers client gathered.BadCheck apply = refl
 answer_gathers client gathered.Runt apply = refl
 answer_gathers client gathered.Connectionless apply = refl
 

@@ -152,12 +152,12 @@ BytesAreMany = (profile : Profile) (built : Built) → length (built_bytes profi
 -- the first datagram of a message
 begins : (profile : Profile) (server : ServerState) (c : ℕ) (slot : SlotState) → BytesAreMany → MayBegin profile server c slot
     → emit_slot profile server.map server.frames c slot slot.sending.under_way
-    ≡ hand_out (slot_begun profile slot (built_next server c slot)) server.map (next_frames server.map server.frames c slot) 0
-    (emitted.Snapshot (slot.sending.number + 1) (number_of (built_next server c slot).base) (message_length (length (built_bits profile (built_next server c slot)))))
-    (Some (built_next server c slot))
+    ≡ hand_out (slot_begun profile slot (built_next profile server c slot)) server.map (next_frames server.map server.frames c slot) 0
+    (emitted.Snapshot (slot.sending.number + 1) (number_of (built_next profile server c slot).base) (message_length (length (built_bits profile (built_next profile server c slot)))))
+    (Some (built_next profile server c slot))
 begins profile server c slot bytes may =
-    let bits = built_bits profile (built_next server c slot) in
-    let count = bytes profile (built_next server c slot) in
+    let bits = built_bits profile (built_next profile server c slot) in
+    let count = bytes profile (built_next profile server c slot) in
     let short = may.short in
     let goes : nat_le sequence_end (slot.sending.number + 1) ≡ false = lt-leb sequence_end (slot.sending.number + 1) may.fits in
     let room : nat_lt most_placed server.frames.placed ≡ false = le-ltb most_placed server.frames.placed may.placed in
@@ -167,8 +167,8 @@ begins profile server c slot bytes may =
 serves_first : (profile : Profile) (whole : Whole) (c : ℕ) (slot : SlotState) → BytesAreMany → whole.ends.server.profile ≡ profile → slot_at whole.ends.server c ≡ Some slot
     → MayBegin profile whole.ends.server c slot
     → (step profile whole (events.Serve c)).whole
-    ≡ with_handed whole c (slot_begun profile slot (built_next whole.ends.server c slot)) (record { message = built_bytes profile (built_next whole.ends.server c slot); next = 0 })
-    (next_frames whole.ends.server.map whole.ends.server.frames c slot) (Some (built_next whole.ends.server c slot))
+    ≡ with_handed whole c (slot_begun profile slot (built_next profile whole.ends.server c slot)) (record { message = built_bytes profile (built_next profile whole.ends.server c slot); next = 0 })
+    (next_frames whole.ends.server.map whole.ends.server.frames c slot) (Some (built_next profile whole.ends.server c slot))
 unfolding step line_of emit_at
 serves_first profile whole c slot bytes by found may =
     let server = whole.ends.server in
@@ -186,14 +186,14 @@ record Made (c n count first : ℕ) (next : Built) (start now : Whole) : Type 0 
 
 made : (profile : Profile) (start : Whole) (c count : ℕ) (slot : SlotState) → BytesAreMany → c < places → Holds profile start
     → slot_at start.ends.server c ≡ Some slot → length (history_at start.histories c).built ≡ slot.sending.number → MayBegin profile start.ends.server c slot
-    → 1 + count ≡ piece_count (length (built_bytes profile (built_next start.ends.server c slot)))
-    → Made c (slot.sending.number + 1) (suc count) (length start.sent + 1) (built_next start.ends.server c slot) start
+    → 1 + count ≡ piece_count (length (built_bytes profile (built_next profile start.ends.server c slot)))
+    → Made c (slot.sending.number + 1) (suc count) (length start.sent + 1) (built_next profile start.ends.server c slot) start
     (after profile start (replicate (suc count) (events.Serve c)))
 unfolding after
 made profile start c count slot bytes lt holds found begun may all =
     let server = start.ends.server in
     let frames = next_frames server.map server.frames c slot in
-    let next = built_next server c slot in
+    let next = built_next profile server c slot in
     let n = slot.sending.number + 1 in
     let message = built_bytes profile next in
     let left : UnderWay = record { message = message; next = 0 } in
@@ -253,9 +253,9 @@ shown : BytesFollowTags → InOrderIsAccepted → AppliedWasBuilt → BytesAreMa
     → AllByRecursion IsScheduled (serve_and_deliver c (length (whole_then profile all).sent + 1) (suc t))
     → slot_at (whole_then profile all).ends.server c ≡ Some slot → client_at (whole_then profile all).ends c ≡ Some client
     → MayBegin profile (whole_then profile all).ends.server c slot
-    → outcome_of profile.parse_ring (since_then profile all c) (built_next (whole_then profile all).ends.server c slot).base
-    ≡ Accepted (number_of (built_next (whole_then profile all).ends.server c slot).base)
-    → 1 + t ≡ piece_count (length (built_bytes profile (built_next (whole_then profile all).ends.server c slot)))
+    → outcome_of profile.parse_ring (since_then profile all c) (built_next profile (whole_then profile all).ends.server c slot).base
+    ≡ Accepted (number_of (built_next profile (whole_then profile all).ends.server c slot).base)
+    → 1 + t ≡ piece_count (length (built_bytes profile (built_next profile (whole_then profile all).ends.server c slot)))
     → shown_in (kept_step (kept_then profile (all ++ serve_and_deliver c (length (whole_then profile all).sent + 1) (suc t))) (events.Show c)).answer
     ≡ Some (next_snapshot (whole_then profile all).ends.server.map slot)
 shown law accepted applied bytes does profile all c t slot client is are made_so found there may there_base count =
@@ -263,7 +263,7 @@ shown law accepted applied bytes does profile all c t slot client is are made_so
     let before : Stood profile (kept_then profile all) start = stood law profile all is are in
     let holds = holds_of profile (kept_then profile all) start before in
     let map = start.ends.server.map in
-    let next = built_next start.ends.server c slot in
+    let next = built_next profile start.ends.server c slot in
     let n = slot.sending.number + 1 in
     let first = length start.sent + 1 in
     let serves = replicate (suc t) (events.Serve c) in
@@ -334,7 +334,7 @@ served_is_shown law accepted applied bytes front does profile all c slot client 
     let server = (whole_then profile all).ends.server in
     let first = length (whole_then profile all).sent + 1 in
     let count = datagrams_of profile server c slot in
-    let t = last_index (built_bytes profile (built_next server c slot)) in
+    let t = last_index (built_bytes profile (built_next profile server c slot)) in
     let one : suc t ≡ count = omega arith in
     let more : 1 + t ≡ count = omega arith in
     subst (λ (k : ℕ). shown_in (kept_step (kept_then profile (all ++ serve_and_deliver c first k)) (events.Show c)).answer ≡ Some (next_snapshot server.map slot)) one

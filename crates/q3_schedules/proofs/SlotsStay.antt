@@ -9,6 +9,7 @@ use Rattle.std.proofs.Math.Seq.{set_out}
 use Rattle.q3_io.specs.declared.address.Address.{Address}
 use Rattle.q3_chan.specs.declared.qport.NoQport.{NoQport}
 use Rattle.q3_chan.specs.declared.qport.NoQport.TheVariants as no
+use Rattle.q3_chan.specs.Checks.{is_checked}
 use Rattle.q3_chan.specs.Senders.{qport_of}
 use Rattle.q3_profile.specs.declared.profile.Profile.{Profile}
 use Rattle.q3_map.specs.declared.map.NotLater.{NotLater}
@@ -113,7 +114,7 @@ takes_headed server from bytes (Err no.Connectionless) = λ d is. is
 
 take_stays : (server : ServerState) (from : Address) (bytes : List ℕ) → SlotsStay server (hears.take_at server from bytes).server
 unfolding hears.take_at
-take_stays server from bytes = takes_headed server from bytes (qport_of bytes)
+take_stays server from bytes = takes_headed server from bytes (qport_of (is_checked server.profile.protocol) bytes)
 
 maps : (slots : List (Option SlotState)) (answer : Result (Unit {0}) NotLater) (d : ℕ) → is_some (get_or slots d None) ≡ true → is_some (get_or (on_map slots answer) d None) ≡ true
 maps slots (Ok x) d is = map_stays on_new_map slots d is
@@ -160,9 +161,9 @@ joins_to server c slot None lt at = joins_apart server c slot (position (is_of s
 
 pub joins : (server : ServerState) (c challenge qport : ℕ) (address : Address) → Joins server c (add_client_at server c challenge qport address)
 joins server c challenge qport address =
-    cond_both (nat_le (length server.slots) c) (record { server = server; answer = Err Range }) (add_to server c (new_slot challenge qport address) (slot_at server c))
+    cond_both (nat_le (length server.slots) c) (record { server = server; answer = Err Range }) (add_to server c (new_slot server.profile.protocol challenge qport address) (slot_at server c))
     (λ (handed : Handed SlotError). Joins server c handed) (λ out. record { stays = λ d is. is; free = λ ok. absurd cc; taken = λ ok. absurd cc })
-    (λ room. joins_to server c (new_slot challenge qport address) (slot_at server c) (leb-false (length server.slots) c room) refl)
+    (λ room. joins_to server c (new_slot server.profile.protocol challenge qport address) (slot_at server c) (leb-false (length server.slots) c room) refl)
 
 -- ---- both ends
 

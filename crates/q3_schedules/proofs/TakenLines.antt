@@ -13,7 +13,7 @@ use Rattle.q3_clstate.specs.Report.{outcome_text, game_text, applied_text}
 use Rattle.q3_slot.specs.declared.taking.ServerTook.{ServerTook}
 use Rattle.q3_slot.specs.declared.taking.ServerTook.TheVariants as took
 use Rattle.q3_client.specs.declared.client.ClientTook.{ClientTook}
-use Rattle.q3_client.specs.declared.client.ClientTook.TheVariants.{Dropped, Runt, Connectionless, Old, OutOfOrder, BadFragment, Partial, Illegible, Applied as ClientApplied}
+use Rattle.q3_client.specs.declared.client.ClientTook.TheVariants.{Dropped, Runt, Connectionless, Old, OutOfOrder, BadCheck, BadFragment, Partial, Illegible, Applied as ClientApplied}
 use Rattle.q3_lines.specs.ServerLines.{Run, server_text, run_text, entered_text, owed_text}
 use Rattle.q3_lines.specs.ServerLines as server_lines
 use Rattle.q3_lines.specs.ClientLines as client_lines
@@ -119,6 +119,7 @@ client_lines_are c Connectionless state commands ended = client_alone c Connecti
 client_lines_are c Old state commands ended = client_alone c Old state commands ended (whole (codes " old") refl) refl
 client_lines_are c OutOfOrder state commands ended = client_alone c OutOfOrder state commands ended (whole (codes " outoforder") refl) refl
 client_lines_are c BadFragment state commands ended = client_alone c BadFragment state commands ended (whole (codes " badfragment") refl) refl
+client_lines_are c BadCheck state commands ended = client_alone c BadCheck state commands ended (whole (codes " badcheck") refl) refl
 client_lines_are c Partial state commands ended = client_alone c Partial state commands ended (whole (codes " partial") refl) refl
 client_lines_are c (Illegible cause) state commands ended =
     client_alone c (Illegible cause) state commands ended (client_illegible (server_words.cause_word cause) (server_cause cause) (server_words.cause_number cause)) refl
@@ -169,6 +170,8 @@ server_lines_are (took.OutOfOrder slot) run =
     server_alone (took.OutOfOrder slot) run (codes "server " ++ (decimal slot ++ codes " outoforder")) (slot_line slot (codes " outoforder\n") (slot_word (codes "outoforder") refl)).spelled refl
 server_lines_are (took.BadFragment slot) run =
     server_alone (took.BadFragment slot) run (codes "server " ++ (decimal slot ++ codes " badfragment")) (slot_line slot (codes " badfragment\n") (slot_word (codes "badfragment") refl)).spelled refl
+server_lines_are (took.BadCheck slot) run =
+    server_alone (took.BadCheck slot) run (codes "server " ++ (decimal slot ++ codes " badcheck")) (slot_line slot (codes " badcheck\n") (slot_word (codes "badcheck") refl)).spelled refl
 server_lines_are (took.Partial slot) run =
     server_alone (took.Partial slot) run (codes "server " ++ (decimal slot ++ codes " partial")) (slot_line slot (codes " partial\n") (slot_word (codes "partial") refl)).spelled refl
 server_lines_are (took.Illegible slot cause) run =

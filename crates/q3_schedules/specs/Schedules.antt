@@ -15,7 +15,7 @@ use Rattle.q3_clstate.specs.declared.applied.Applied.{Applied as AppliedSo}
 use Rattle.q3_clstate.specs.declared.applied.SnapOutcome.{SnapOutcome}
 use Rattle.q3_clstate.specs.declared.applied.SnapOutcome.TheVariants.{NoSnap, Accepted, Skipped, Stale}
 use Rattle.q3_client.specs.declared.client.ClientTook.{ClientTook}
-use Rattle.q3_client.specs.declared.client.ClientTook.TheVariants.{Runt, Connectionless, BadFragment, Illegible, Dropped, Applied}
+use Rattle.q3_client.specs.declared.client.ClientTook.TheVariants.{Runt, Connectionless, BadCheck, BadFragment, Illegible, Dropped, Applied}
 use Rattle.q3_client.specs.declared.client.Sent.TheVariants as sent
 use Rattle.q3_slot.specs.declared.taking.ServerTook.{ServerTook}
 use Rattle.q3_slot.specs.declared.taking.ServerTook.TheVariants as took
@@ -89,6 +89,7 @@ abbrev pub IsReadByClient : ClientTook → Type 0
 IsReadByClient Runt = ⊥
 IsReadByClient Connectionless = ⊥
 IsReadByClient BadFragment = ⊥
+IsReadByClient BadCheck = ⊥
 IsReadByClient (Illegible cause) = ⊥
 IsReadByClient (Dropped cause) = ⊥
 IsReadByClient (Applied applied) = MayBecome applied.snap
@@ -99,6 +100,7 @@ IsReadByServer took.Runt = ⊥
 IsReadByServer took.Connectionless = ⊥
 IsReadByServer took.Stranger = ⊥
 IsReadByServer (took.BadFragment slot) = ⊥
+IsReadByServer (took.BadCheck slot) = ⊥
 IsReadByServer (took.Illegible slot cause) = ⊥
 IsReadByServer (took.Gap slot number) = ⊥
 IsReadByServer other = Unit {0}
@@ -368,12 +370,12 @@ abbrev pub serve_and_deliver : ℕ → ℕ → ℕ → List Event
 serve_and_deliver c first count = replicate count (events.Serve c) ++ deliveries (range_with_len first count)
 
 -- the message that a server begins next for a client
-abbrev pub built_next : ServerState → ℕ → SlotState → Built
-built_next server c slot = begun_next server.map server.frames c slot
+abbrev pub built_next : Profile → ServerState → ℕ → SlotState → Built
+built_next profile server c slot = begun_next profile server.map server.frames c slot
 
 -- how many datagrams it takes
 abbrev pub datagrams_of : Profile → ServerState → ℕ → SlotState → ℕ
-datagrams_of profile server c slot = piece_count (length (built_bytes profile (built_next server c slot)))
+datagrams_of profile server c slot = piece_count (length (built_bytes profile (built_next profile server c slot)))
 
 -- a snapshot may be begun for a client: nothing is under way to it and no gamestate is owed, numbers haven't ended, and the message
 -- isn't too long
@@ -383,7 +385,7 @@ pub record MayBegin (profile : Profile) (server : ServerState) (c : ℕ) (slot :
   pub fits : slot.sending.number + 1 < sequence_end
   pub placed : server.frames.placed ≤ most_placed
   pub clear : is_unclear profile slot.executed.executed ≡ false
-  pub short : length (built_bytes profile (built_next server c slot)) ≤ longest_message
+  pub short : length (built_bytes profile (built_next profile server c slot)) ≤ longest_message
 
 -- whatever came before: where a message may be begun for a client, all of its datagrams are made and arrive in order, and the
 -- entities of its base are there, the client then shows the snapshot that the server had for it
@@ -393,8 +395,8 @@ ServedIsShown = (profile : Profile) (all : List Event) (c : ℕ) (slot : SlotSta
     → AllByRecursion IsScheduled (serve_and_deliver c (length (whole_then profile all).sent + 1) (datagrams_of profile (whole_then profile all).ends.server c slot))
     → slot_at (whole_then profile all).ends.server c ≡ Some slot → client_at (whole_then profile all).ends c ≡ Some client
     → MayBegin profile (whole_then profile all).ends.server c slot
-    → outcome_of profile.parse_ring (since_then profile all c) (built_next (whole_then profile all).ends.server c slot).base
-    ≡ Accepted (number_of (built_next (whole_then profile all).ends.server c slot).base)
+    → outcome_of profile.parse_ring (since_then profile all c) (built_next profile (whole_then profile all).ends.server c slot).base
+    ≡ Accepted (number_of (built_next profile (whole_then profile all).ends.server c slot).base)
     → snapshot_in (kept_step (kept_then profile (all ++ serve_and_deliver c (length (whole_then profile all).sent + 1)
     (datagrams_of profile (whole_then profile all).ends.server c slot))) (events.Show c)).answer
     ≡ Some (next_snapshot (whole_then profile all).ends.server.map slot)

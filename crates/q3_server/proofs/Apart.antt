@@ -6,6 +6,7 @@ use Rattle.std.proofs.lemmas.List.{get_or-set_other}
 use Rattle.q3_io.specs.declared.address.Address.{Address}
 use Rattle.q3_chan.specs.declared.qport.NoQport.{NoQport}
 use Rattle.q3_chan.specs.declared.qport.NoQport.TheVariants as no
+use Rattle.q3_chan.specs.Checks.{is_checked}
 use Rattle.q3_chan.specs.Senders.{qport_of}
 use Rattle.q3_bits.specs.Bits.{message_length}
 use Rattle.q3_chan.specs.Datagrams.{sequence_end}
@@ -47,7 +48,7 @@ place_joins server c d slot (Some old) ne = stays d server server refl refl
 
 server_joins : (server : ServerState) (c challenge qport d : ℕ) (address : Address) → d ≢ c → SlotStays d server (add_client_at server c challenge qport address).server
 server_joins server c challenge qport d address ne =
-    let slot = new_slot challenge qport address in
+    let slot = new_slot server.profile.protocol challenge qport address in
     cond_both (nat_le (length server.slots) c) (record { server = server; answer = Err Range }) (add_to server c slot (slot_at server c))
     (λ (handed : Handed SlotError). SlotStays d server handed.server) (λ e. stays d server server refl refl) (λ e. place_joins server c d slot (slot_at server c) ne)
 
@@ -80,9 +81,9 @@ bits_frames slot map frames built bits =
 
 next_keeps : HeldWasBuilt → (profile : Profile) (map : MapState) (frames : FramesState) (c d : ℕ) (slot : SlotState) → d ≢ c → KeepsFrames d frames (emit_next profile map frames c slot).frames
 next_keeps held profile map frames c d slot ne =
-    let game = next_game_built map c slot in
+    let game = next_game_built profile map c slot in
     let after = next_frames map frames c slot in
-    let built = begun_next map frames c slot in
+    let built = begun_next profile map frames c slot in
     cond_both slot.owed (emit_game profile slot map frames game) (emit_built profile slot map after built)
     (λ (e : SlotEmission). KeepsFrames d frames e.frames)
     (λ e. subst (KeepsFrames d frames) (sym (game_frames slot map frames game (built_bits profile game))) (same_frames d frames))
@@ -124,7 +125,7 @@ takes_headed server d from bytes (Err no.Connectionless) ne = stays d server ser
 
 takes : (server : ServerState) (d : ℕ) (from : Address) (bytes : List ℕ) → taker_of server from bytes ≢ Some d → SlotStays d server (hears.take_at server from bytes).server
 unfolding hears.take_at
-takes server d from bytes ne = takes_headed server d from bytes (qport_of bytes) ne
+takes server d from bytes ne = takes_headed server d from bytes (qport_of (is_checked server.profile.protocol) bytes) ne
 
 -- ---- every call
 

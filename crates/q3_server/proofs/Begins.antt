@@ -46,7 +46,7 @@ flags_fit true true Active = lit< tt
 
 module _ (below : Below) (profile : Profile) (map : MapState) (slot : SlotState) (is_map : IsMap profile map) (zero_is : IsHeld profile zero_player) (is : IsSlot slot)
     (joined : IsJoined profile map.id slot) where
-  next_tells : is_unclear profile slot.executed.executed ≡ false → IsTelling profile slot.challenge (slot.sending.number + 1) (telling_of slot)
+  next_tells : is_unclear profile slot.executed.executed ≡ false → IsTelling profile slot.challenge (slot.sending.number + 1) (telling_of profile slot)
   next_tells clear =
       let first = slot.issued.acknowledged + 1 in
       let numbers : slot.issued.acknowledged + length slot.issued.waiting ≤ 2 ^ 31 - 1 = is.window.numbers in
@@ -92,10 +92,10 @@ module _ (below : Below) (profile : Profile) (map : MapState) (slot : SlotState)
       of_active false = refl
 
   -- a client that doesn't play gets a snapshot of nothing, against none
-  waits_empty : (frames : FramesState) (c : ℕ) → plays_under slot.stage slot.game ≡ None → ((next_snapshot map slot).entities ≡ []) × ((begun_next map frames c slot).base ≡ None)
+  waits_empty : (frames : FramesState) (c : ℕ) → plays_under slot.stage slot.game ≡ None → ((next_snapshot map slot).entities ≡ []) × ((begun_next profile map frames c slot).base ≡ None)
   waits_empty frames c under = of_stage (is_active slot.stage) refl
     where
-      of_stage : (active : Bool) → is_active slot.stage ≡ active → ((next_snapshot map slot).entities ≡ []) × ((begun_next map frames c slot).base ≡ None)
+      of_stage : (active : Bool) → is_active slot.stage ≡ active → ((next_snapshot map slot).entities ≡ []) × ((begun_next profile map frames c slot).base ≡ None)
       of_stage false still = (
         ap (λ (a : Bool). (if a then played_snapshot map slot else waiting_snapshot map slot).entities) still,
         ap (λ (a : Bool). base_of (next_frames map frames c slot) c (slot.sending.number + 1) (if a then slot.delta else 0)) still,
@@ -120,10 +120,10 @@ module _ (below : Below) (profile : Profile) (map : MapState) (slot : SlotState)
           record { some = omega (arith, some, same); below = omega (arith, under, same); near = omega (arith, within, same) }
 
   pub next_is_built : (frames : FramesState) (c : ℕ) → slot.sending.number + 1 < sequence_end → is_unclear profile slot.executed.executed ≡ false
-      → IsBuilt profile slot.challenge (slot.sending.number + 1) (begun_next map frames c slot)
+      → IsBuilt profile slot.challenge (slot.sending.number + 1) (begun_next profile map frames c slot)
   next_is_built frames c fits clear =
       record {
-        telling = telling_of slot;
+        telling = telling_of profile slot;
         tells = next_tells clear;
         lines = is_map.lines;
         section = inl (record {
@@ -137,7 +137,7 @@ module _ (below : Below) (profile : Profile) (map : MapState) (slot : SlotState)
       }
 
   pub game_is_built : (c : ℕ) → c < 2 ^ 32 → slot.owed ≡ true → is_unclear profile slot.executed.executed ≡ false
-      → IsBuilt profile slot.challenge (slot.sending.number + 1) (next_game_built map c slot)
+      → IsBuilt profile slot.challenge (slot.sending.number + 1) (next_game_built profile map c slot)
   game_is_built c lt owed clear =
       let numbers : slot.issued.acknowledged + length slot.issued.waiting ≤ 2 ^ 31 - 1 = is.window.numbers in
       let game : IsGamestate profile (next_game map c slot) = record {
@@ -151,7 +151,7 @@ module _ (below : Below) (profile : Profile) (map : MapState) (slot : SlotState)
         id = ap is_some (is_map.tells (joined.owed owed));
       } in
       record {
-        telling = telling_of slot;
+        telling = telling_of profile slot;
         tells = next_tells clear;
         lines = is_map.lines;
         section = inr (record { game = next_game map c slot; is = refl; last = refl; lines = refl; are = game });
@@ -184,10 +184,10 @@ module _ (below : Below) (profile : Profile) (map : MapState) (slot : SlotState)
           | inl full ↦ rw (goes, full) tt
           | inr room ↦ elim (cases_Bool (is_unclear profile slot.executed.executed)) [
             | inl hidden ↦ rw (goes, room, hidden) tt
-            | inr clear ↦ rw (goes, room, clear) (cond_both slot.owed (emit_game profile slot map frames (next_game_built map c slot))
-                (emit_built profile slot map (next_frames map frames c slot) (begun_next map frames c slot)) Begun
-                (λ owed. begun_game frames (next_game_built map c slot) (game_is_built c lt owed clear))
-                (λ none. begun_built (next_frames map frames c slot) (begun_next map frames c slot)
+            | inr clear ↦ rw (goes, room, clear) (cond_both slot.owed (emit_game profile slot map frames (next_game_built profile map c slot))
+                (emit_built profile slot map (next_frames map frames c slot) (begun_next profile map frames c slot)) Begun
+                (λ owed. begun_game frames (next_game_built profile map c slot) (game_is_built c lt owed clear))
+                (λ none. begun_built (next_frames map frames c slot) (begun_next profile map frames c slot)
                 (next_is_built frames c (leb-false sequence_end (slot.sending.number + 1) goes) clear)))
           ]
         ]

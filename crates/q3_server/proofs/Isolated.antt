@@ -5,9 +5,11 @@ use Rattle.std.specs.List.{position_or_len}
 use Rattle.std.proofs.lemmas.List.{get_or-set_same, length-map}
 use Rattle.std.proofs.lemmas.List.Recursion.{is_position_or_len}
 use Rattle.std.proofs.lemmas.List.Quantifiers.{position-Some}
+use Rattle.q3_profile.specs.declared.profile.Profile.{Profile}
 use Rattle.q3_io.specs.declared.address.Address.{Address}
 use Rattle.q3_chan.specs.declared.qport.NoQport.{NoQport}
 use Rattle.q3_chan.specs.declared.qport.NoQport.TheVariants as no
+use Rattle.q3_chan.specs.Checks.{is_checked}
 use Rattle.q3_chan.specs.Senders.{qport_of}
 use Rattle.q3_slot.specs.Slot.{SlotState, is_of}
 use Rattle.q3_slot.specs.Taking.{SlotTaken, take_slot}
@@ -50,7 +52,9 @@ found_headed one other from (Ok qport) same = same_sender one other from.host qp
 found_headed one other from (Err e) same = refl
 
 found : (one other : ServerState) (d : ℕ) (from : Address) (bytes : List ℕ) → Agree d one other → taker_of one from bytes ≡ taker_of other from bytes
-found one other d from bytes agree = found_headed one other from (qport_of bytes) agree.senders
+found one other d from bytes agree =
+    found_headed one other from (qport_of (is_checked one.profile.protocol) bytes) agree.senders
+    ∙ ap (λ (p : Profile). found_by other from (qport_of (is_checked p.protocol) bytes)) agree.profile
 
 -- ---- what it takes
 
@@ -99,7 +103,9 @@ headed_alike one other d from bytes (Err e) agree is = absurd cc
 alike : (one other : ServerState) (d : ℕ) (from : Address) (bytes : List ℕ) → Agree d one other → taker_of one from bytes ≡ Some d
     → TakeAlike d (hears.take_at one from bytes) (hears.take_at other from bytes)
 unfolding hears.take_at
-alike one other d from bytes agree is = headed_alike one other d from bytes (qport_of bytes) agree is
+alike one other d from bytes agree is =
+    subst (λ (p : Profile). TakeAlike d (hears.take_at one from bytes) (hears.take_headed other from bytes (qport_of (is_checked p.protocol) bytes))) agree.profile
+    (headed_alike one other d from bytes (qport_of (is_checked one.profile.protocol) bytes) agree is)
 
 -- ---- what it leaves
 
@@ -118,7 +124,7 @@ headed_leaves server from bytes (Err no.Connectionless) = refl
 
 leaves : (server : ServerState) (from : Address) (bytes : List ℕ) → (hears.take_at server from bytes).server.map ≡ server.map
 unfolding hears.take_at
-leaves server from bytes = headed_leaves server from bytes (qport_of bytes)
+leaves server from bytes = headed_leaves server from bytes (qport_of (is_checked server.profile.protocol) bytes)
 
 by_frames : (server : ServerState) (c : ℕ) (from : Address) (bytes : List ℕ) (slot : Option SlotState) → (hears.take_by server c from bytes slot).server.frames ≡ server.frames
 by_frames server c from bytes None = refl
@@ -135,7 +141,7 @@ headed_frames server from bytes (Err no.Connectionless) = refl
 
 keeps_frames : (server : ServerState) (from : Address) (bytes : List ℕ) → (hears.take_at server from bytes).server.frames ≡ server.frames
 unfolding hears.take_at
-keeps_frames server from bytes = headed_frames server from bytes (qport_of bytes)
+keeps_frames server from bytes = headed_frames server from bytes (qport_of (is_checked server.profile.protocol) bytes)
 
 pub slots_isolated : SlotsApart → SlotsIsolated
 slots_isolated apart = record {

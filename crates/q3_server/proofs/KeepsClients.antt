@@ -39,8 +39,8 @@ zero_held below profile codec = let first = below.zero profile.player.kinds code
 -- ---- one client
 
 -- that just joined
-pub joined_new : Below → (profile : Profile) (id challenge qport : ℕ) (address : Address) → IsCodec profile → IsJoined profile id (new_slot challenge qport address)
-joined_new below profile id challenge qport address codec = record { player = zero_held below profile codec; begun = λ none. refl; owed = λ owes. absurd cc }
+pub joined_new : Below → (profile : Profile) (id protocol challenge qport : ℕ) (address : Address) → IsCodec profile → IsJoined profile id (new_slot protocol challenge qport address)
+joined_new below profile id protocol challenge qport address codec = record { player = zero_held below profile codec; begun = λ none. refl; owed = λ owes. absurd cc }
 
 -- on a new map
 joined_on_map : Below → (profile : Profile) (id next : ℕ) (slot : SlotState) → IsCodec profile → IsJoined profile id slot → IsJoined profile next (on_new_map slot)
@@ -113,6 +113,7 @@ module _ (profile : Profile) (map : MapState) (c : ℕ) where
   joined_answered slot gathered.Old read is = is
   joined_answered slot gathered.OutOfOrder read is = is
   joined_answered slot gathered.BadFragment read is = is
+  joined_answered slot gathered.BadCheck read is = is
   joined_answered slot gathered.Runt read is = is
   joined_answered slot gathered.Connectionless read is = is
 
@@ -151,9 +152,9 @@ module _ (profile : Profile) (map : MapState) (frames : FramesState) (c : ℕ) (
         | inl ended ↦ rw ended (record { client = is; is_map = is_map; id = refl })
         | inr goes ↦ elim (cases_Bool (is_unclear profile slot.executed.executed)) [
           | inl hidden ↦ rw (goes, hidden) (record { client = is; is_map = is_map; id = refl })
-          | inr clear ↦ rw (goes, clear) (cond_both slot.owed (emit_game profile slot map frames (next_game_built map c slot))
-              (emit_built profile slot map (next_frames map frames c slot) (begun_next map frames c slot)) (Emits profile map)
-              (λ owed. emits_game (next_game_built map c slot)) (λ none. emits_built (next_frames map frames c slot) (begun_next map frames c slot)))
+          | inr clear ↦ rw (goes, clear) (cond_both slot.owed (emit_game profile slot map frames (next_game_built profile map c slot))
+              (emit_built profile slot map (next_frames map frames c slot) (begun_next profile map frames c slot)) (Emits profile map)
+              (λ owed. emits_game (next_game_built profile map c slot)) (λ none. emits_built (next_frames map frames c slot) (begun_next profile map frames c slot)))
         ]
       ]
 
@@ -259,13 +260,13 @@ module _ (profile : Profile) (map : MapState) (slots : List (Option SlotState)) 
           subst (λ (n : Option SlotState). IsServer profile (map_after profile map frames c (Some slot)) (set slots c n)) (sym after) (server_behind profile map slots frames c slot here is)
 
 -- a client joins
-pub server_joined : Below → (profile : Profile) (map : MapState) (slots : List (Option SlotState)) (c challenge qport : ℕ) (address : Address) (now : Option SlotState)
-    → now ≡ Some (new_slot challenge qport address) → IsServer profile map slots → IsServer profile map (set slots c now)
-server_joined below profile map slots c challenge qport address now after is =
+pub server_joined : Below → (profile : Profile) (map : MapState) (slots : List (Option SlotState)) (c protocol challenge qport : ℕ) (address : Address) (now : Option SlotState)
+    → now ≡ Some (new_slot protocol challenge qport address) → IsServer profile map slots → IsServer profile map (set slots c now)
+server_joined below profile map slots c protocol challenge qport address now after is =
     record {
       codec = is.codec;
       is_map = is.is_map;
-      clients = place_set profile map.id slots c now (subst (IsPlace profile map.id) (sym after) (joined_new below profile map.id challenge qport address is.codec)) is.clients;
+      clients = place_set profile map.id slots c now (subst (IsPlace profile map.id) (sym after) (joined_new below profile map.id protocol challenge qport address is.codec)) is.clients;
     }
 
 -- another state of the map

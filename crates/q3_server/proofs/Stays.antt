@@ -9,6 +9,7 @@ use Rattle.q3_fields.specs.Kinds.{end_mark}
 use Rattle.q3_fields.specs.States.{AreWords}
 use Rattle.q3_chan.specs.declared.qport.NoQport.{NoQport}
 use Rattle.q3_chan.specs.declared.qport.NoQport.TheVariants as no
+use Rattle.q3_chan.specs.Checks.{is_checked}
 use Rattle.q3_chan.specs.Senders.{qport_of}
 use Rattle.q3_player.specs.declared.state.PlayerState.{PlayerState}
 use Rattle.q3_player.specs.State.{IsState}
@@ -53,14 +54,14 @@ module _ (below : Below) (server : ServerState) (is : IsServerState server) wher
 
   pub joins_stay : (c challenge qport : ℕ) (address : Address) → IsServerState (add_client_at server c challenge qport address).server
   joins_stay c challenge qport address =
-      cond_both (nat_le (length server.slots) c) (record { server = server; answer = Err Range }) (add_to server c (new_slot challenge qport address) (slot_at server c))
+      cond_both (nat_le (length server.slots) c) (record { server = server; answer = Err Range }) (add_to server c (new_slot server.profile.protocol challenge qport address) (slot_at server c))
       (λ (handed : Handed SlotError). Stays handed) (λ past. is) (λ within. of_found (slot_at server c))
     where
-      of_twin : (twin : Option ℕ) → IsServerState (add_apart server c (new_slot challenge qport address) twin).server
+      of_twin : (twin : Option ℕ) → IsServerState (add_apart server c (new_slot server.profile.protocol challenge qport address) twin).server
       of_twin (Some twin) = is
-      of_twin None = put c (new_slot challenge qport address) (joined_new below server.profile server.map.id challenge qport address is.codec)
+      of_twin None = put c (new_slot server.profile.protocol challenge qport address) (joined_new below server.profile server.map.id server.profile.protocol challenge qport address is.codec)
 
-      of_found : (found : Option SlotState) → IsServerState (add_to server c (new_slot challenge qport address) found).server
+      of_found : (found : Option SlotState) → IsServerState (add_to server c (new_slot server.profile.protocol challenge qport address) found).server
       of_found (Some old) = is
       of_found None = of_twin (position (is_of address.host qport) server.slots)
 
@@ -98,7 +99,7 @@ module _ (below : Below) (server : ServerState) (is : IsServerState server) wher
 
   pub takes_stay : (from : Address) (datagram : List ℕ) → IsServerState (take_at server from datagram).server
   unfolding take_at
-  takes_stay from datagram = of_qport (qport_of datagram)
+  takes_stay from datagram = of_qport (qport_of (is_checked server.profile.protocol) datagram)
     where
       of_found : (c : ℕ) (found : Option SlotState) → IfSome found (IsJoined server.profile server.map.id) → IsServerState (take_by server c from datagram found).server
       of_found c None joined = is

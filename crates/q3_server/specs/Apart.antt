@@ -2,6 +2,7 @@
 use Rattle.std.specs.Prelude.{◌≡◌, ◌≢◌, ℕ, Bool, List, Option, Some, None, Result, Ok, Err}
 use Rattle.q3_io.specs.declared.address.Address.{Address}
 use Rattle.q3_chan.specs.declared.qport.NoQport.{NoQport}
+use Rattle.q3_chan.specs.Checks.{is_checked}
 use Rattle.q3_chan.specs.Senders.{qport_of}
 use Rattle.q3_entity.specs.declared.state.EntityState.{EntityState}
 use Rattle.q3_player.specs.declared.state.PlayerState.{PlayerState}
@@ -16,7 +17,7 @@ found_by server from (Ok qport) = sender_of server from.host qport
 found_by server from (Err e) = None
 
 abbrev pub taker_of : ServerState → Address → List ℕ → Option ℕ
-taker_of server from bytes = found_by server from (qport_of bytes)
+taker_of server from bytes = found_by server from (qport_of (is_checked server.profile.protocol) bytes)
 
 -- the frames that a slot has were its frames before, the same: others may have lost their entities' places
 abbrev pub KeepsFrames : ℕ → FramesState → FramesState → Type 0

@@ -62,8 +62,8 @@ pub record ServerStays : Type 0 where
 pub record BeginsAsBuilt : Type 0 where
   pub snapshot : (profile : Profile) (map : MapState) (slot : SlotState) → IsCodec profile → IsMap profile map → IsJoined profile map.id slot → IsSlot slot
       → (frames : FramesState) (c : ℕ) → slot.sending.number + 1 < sequence_end → is_unclear profile slot.executed.executed ≡ false
-      → IsBuilt profile slot.challenge (slot.sending.number + 1) (begun_next map frames c slot)
+      → IsBuilt profile slot.challenge (slot.sending.number + 1) (begun_next profile map frames c slot)
   pub game : (profile : Profile) (map : MapState) (slot : SlotState) → IsCodec profile → IsMap profile map → IsJoined profile map.id slot → IsSlot slot
       → (c : ℕ) → c < 2 ^ 32 → slot.owed ≡ true → is_unclear profile slot.executed.executed ≡ false
-      → IsBuilt profile slot.challenge (slot.sending.number + 1) (next_game_built map c slot)
+      → IsBuilt profile slot.challenge (slot.sending.number + 1) (next_game_built profile map c slot)
   pub began : (server : ServerState) (c : ℕ) → c < 2 ^ 32 → IfSome (slot_at server c) IsSlot → IsServerState server → BeginsBuilt server c

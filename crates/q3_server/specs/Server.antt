@@ -85,7 +85,7 @@ add_to server c slot None = add_apart server c slot (position (is_of slot.addres
 abbrev pub add_client_at : ServerState → ℕ → ℕ → ℕ → Address → Handed SlotError
 add_client_at server c challenge qport address =
     if nat_le (length server.slots) c then record { server = server; answer = Err Range }
-    else add_to server c (new_slot challenge qport address) (slot_at server c)
+    else add_to server c (new_slot server.profile.protocol challenge qport address) (slot_at server c)
 
 -- the time, in milliseconds
 abbrev pub set_time_at : ServerState → ℕ → ServerState

@@ -3,6 +3,7 @@ use Rattle.std.specs.Prelude.{ℕ, Bool, false, List, [], position, Option, Some
 use Rattle.q3_io.specs.declared.address.Address.{Address}
 use Rattle.q3_chan.specs.declared.qport.NoQport.{NoQport}
 use Rattle.q3_chan.specs.declared.qport.NoQport.TheVariants as no
+use Rattle.q3_chan.specs.Checks.{is_checked}
 use Rattle.q3_chan.specs.Senders.{qport_of}
 use Rattle.q3_text.specs.declared.text.Command.{Command}
 use Rattle.q3_clmsg.specs.declared.moves.Move.{Move}
@@ -59,4 +60,4 @@ take_headed server from datagram (Err no.Connectionless) = unmoved server Connec
 
 -- the server takes a datagram from an address, any bytes
 unfoldable pub take_at : ServerState → Address → List ℕ → Taken
-take_at server from datagram = take_headed server from datagram (qport_of datagram)
+take_at server from datagram = take_headed server from datagram (qport_of (is_checked server.profile.protocol) datagram)

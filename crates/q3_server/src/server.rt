@@ -18,7 +18,7 @@ ghost use Rattle.q3_server.specs.Taking.{take_at};
 use crate::laws::below;
 use crate::slots::{begin_map, first_without_room, is_kept, tell_all};
 use q3_bits::NoMemory;
-use q3_chan::{Datagram, LONGEST_MESSAGE, NoQport, qport_of};
+use q3_chan::{Datagram, LONGEST_MESSAGE, NoQport, is_checked, qport_of};
 use q3_clmsg::ClientMessage;
 use q3_config::{ConfigError, Configs};
 use q3_entity::EntityState;
@@ -151,7 +151,8 @@ impl Server {
         if let Some(twin) = slot_of(&self.slots, from.host, qport) {
             return Err(SlotError::Twin(twin));
         }
-        self.slots[slot as usize].join(challenge, qport, from);
+        let protocol = self.profile.protocol;
+        self.slots[slot as usize].join(protocol, challenge, qport, from);
         Ok(())
     }
 
@@ -320,10 +321,10 @@ impl Server {
     }
 
     /// Takes a datagram from an address, any bytes, and tells what it ran. Its client is found by host and qport, and takes
-    /// over the port, also where the datagram proves old.
+    /// over the port, also where the datagram proves old or its check bad.
     ///
     /// In this order: `Runt` and `Connectionless` where the datagram has no qport; `Stranger` exactly where no client has
-    /// that host and qport; `Old`, `OutOfOrder`, `BadFragment` and `Partial` as the gathering of the client's slot answers;
+    /// that host and qport; `BadCheck`, `Old`, `OutOfOrder`, `BadFragment` and `Partial` as the gathering of the client's slot answers;
     /// `Illegible` where the leading longs of a message that came whole don't read, or acknowledge a command that the client's
     /// window doesn't take; `Ignored` where it is of another map: the acknowledgement is taken, and a gamestate may be owed to the
     /// client from then on; `Illegible` again where the rest isn't legible; `Gap` where one of its commands leaves a gap; with
@@ -339,7 +340,7 @@ impl Server {
         ensures owed { heard.new.owed ≡ (take_at self.old from datagram.now).owed }
     {
         heard.clear();
-        let qport = match qport_of(datagram) {
+        let qport = match qport_of(is_checked(self.profile.protocol), datagram) {
             Ok(qport) => qport,
             Err(NoQport::Runt) => return ServerTook::Runt,
             Err(NoQport::Connectionless) => return ServerTook::Connectionless,
@@ -361,8 +362,8 @@ impl Server {
 
     /// Makes the next datagram for a client: it is empty where nothing is handed out. In this order: `NoClient` exactly
     /// where no client was added in the slot; `Fragment` where pieces of a message are left; `SequenceEnd` where message
-    /// numbers have ended or more than 2^62 entities were placed; `Unclear` where the next message's leading long takes more than
-    /// 32 bits; `Overlong` where the next message has more than 16,384 bytes: nothing changes then, but that the frames keep the one
+    /// numbers have ended or more than 2^62 entities were placed; `Unclear` where, by protocol 68, the next message's leading long takes more
+    /// than 32 bits; `Overlong` where the next message has more than 16,384 bytes: nothing changes then, but that the frames keep the one
     /// of a snapshot; else `Game` where a gamestate is owed to the client, and `Snapshot` where none is. A message that it begins is
     /// well formed, whatever the server took before.
     #[tactic(auto, unfolding(crate::specs::Server::emit_at), using(crate::proofs::Begins::begins, crate::proofs::Begins::begins_nothing))]

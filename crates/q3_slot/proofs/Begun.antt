@@ -1,7 +1,7 @@
 -- What a slot emits where nothing is left to be handed out.
-use Rattle.std.proofs.Common.{◌≡◌, ◌∙◌, ℕ, ◌+◌, false, None, refl, ap}
+use Rattle.std.proofs.Common.{◌≡◌, ◌∙◌, ℕ, ◌+◌, true, false, None, refl, ap}
 use Rattle.std.specs.Prelude.{◌||◌, nat_le, nat_lt}
-use Rattle.std.proofs.lemmas.Bool.{cond-false}
+use Rattle.std.proofs.lemmas.Bool.{cond-true, cond-false}
 use Rattle.q3_chan.specs.Datagrams.{sequence_end}
 use Rattle.q3_chan.specs.Gathering.{Gathering}
 use Rattle.q3_chan.specs.Sending.{Sending}
@@ -15,7 +15,7 @@ use Rattle.q3_map.specs.Map.{MapState}
 use Rattle.q3_built.specs.Built.{built_of, is_unclear}
 use Rattle.q3_slot.specs.Slot.{SlotState}
 use Rattle.q3_slot.specs.Emitting.{begun_next, emit_slot, most_placed, next_snapshot}
-use Rattle.q3_slot.specs.Slots.{asked_by, emission_of, slot_of, snapshot_emission, told_under}
+use Rattle.q3_slot.specs.Slots.{asked_by, emission_of, game_emission, slot_of, snapshot_emission, told_under}
 
 -- a snapshot, where a message may be begun and no gamestate is owed
 pub emits_snapshot : (profile : Profile) (map : MapState) (frames : FramesState) (c : ℕ) (slot : SlotState) → slot.sending.under_way ≡ None
@@ -26,11 +26,20 @@ emits_snapshot profile map frames c slot idle open_ clear whole =
     ∙ cond-false (nat_le sequence_end (slot.sending.number + 1) || nat_lt most_placed frames.placed) _ _ open_
     ∙ cond-false (is_unclear profile slot.executed.executed) _ _ clear ∙ cond-false slot.owed _ _ whole
 
+-- and the gamestate, where one is owed
+pub emits_game : (profile : Profile) (map : MapState) (frames : FramesState) (c : ℕ) (slot : SlotState) → slot.sending.under_way ≡ None
+    → (nat_le sequence_end (slot.sending.number + 1) || nat_lt most_placed frames.placed) ≡ false → is_unclear profile slot.executed.executed ≡ false
+    → slot.owed ≡ true → emission_of profile map frames c slot ≡ game_emission profile map frames c slot
+emits_game profile map frames c slot idle open_ clear owed =
+    ap (emit_slot profile map frames c slot) idle
+    ∙ cond-false (nat_le sequence_end (slot.sending.number + 1) || nat_lt most_placed frames.placed) _ _ open_
+    ∙ cond-false (is_unclear profile slot.executed.executed) _ _ clear ∙ cond-true slot.owed _ _ owed
+
 -- the message with the next snapshot, by what is kept of a slot
-pub is_begun : (map : MapState) (frames built : FramesState) (c : ℕ) (sending : Sending) (gathering : Gathering) (issued : OutgoingState) (client : Joined)
+pub is_begun : (profile : Profile) (map : MapState) (frames built : FramesState) (c : ℕ) (sending : Sending) (gathering : Gathering) (issued : OutgoingState) (client : Joined)
     (number : ℕ) (snapshot : Snapshot) (lines : Lines) → number ≡ sending.number + 1 → snapshot ≡ next_snapshot map (slot_of sending gathering issued client)
     → built ≡ build_at frames c snapshot → lines ≡ map.lines
-    → built_of (told_under issued client number) lines (base_of built c number (asked_by client)) snapshot
-    ≡ begun_next map frames c (slot_of sending gathering issued client)
-is_begun map frames built c sending gathering issued client number snapshot lines number_is snapshot_is built_is lines_are =
+    → built_of (told_under profile issued client number) lines (base_of built c number (asked_by client)) snapshot
+    ≡ begun_next profile map frames c (slot_of sending gathering issued client)
+is_begun profile map frames built c sending gathering issued client number snapshot lines number_is snapshot_is built_is lines_are =
     rw (number_is, built_is, lines_are, snapshot_is) refl

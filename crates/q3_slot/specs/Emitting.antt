@@ -46,22 +46,22 @@ abbrev pub next_frames : MapState → FramesState → ℕ → SlotState → Fram
 next_frames map frames c slot = build_at frames c (next_snapshot map slot)
 
 -- what it says besides: all commands that aren't acknowledged
-abbrev pub telling_of : SlotState → Telling
-telling_of slot = record {
+abbrev pub telling_of : Profile → SlotState → Telling
+telling_of profile slot = record {
   ack = slot.executed.executed;
   commands = carried slot.issued;
   last = issued_of slot.issued;
   under = plays_under slot.stage slot.game;
-  key = server_key slot.challenge (slot.sending.number + 1) slot.executed.last;
+  key = server_key profile.protocol slot.challenge (slot.sending.number + 1) slot.executed.last;
 }
 
 -- the message that goes to a client next: its snapshot, against the base that these frames have for it
-abbrev pub next_built : MapState → FramesState → ℕ → SlotState → Built
-next_built map frames c slot = built_of (telling_of slot) map.lines (base_of frames c (slot.sending.number + 1) (asked slot)) (next_snapshot map slot)
+abbrev pub next_built : Profile → MapState → FramesState → ℕ → SlotState → Built
+next_built profile map frames c slot = built_of (telling_of profile slot) map.lines (base_of frames c (slot.sending.number + 1) (asked slot)) (next_snapshot map slot)
 
 -- and once its frame was built
-abbrev pub begun_next : MapState → FramesState → ℕ → SlotState → Built
-begun_next map frames c slot = next_built map (next_frames map frames c slot) c slot
+abbrev pub begun_next : Profile → MapState → FramesState → ℕ → SlotState → Built
+begun_next profile map frames c slot = next_built profile map (next_frames map frames c slot) c slot
 
 -- the gamestate that goes to a client next
 abbrev pub next_game : MapState → ℕ → SlotState → Gamestate
@@ -74,8 +74,8 @@ next_game map c slot = record {
 }
 
 -- and the message with it
-abbrev pub next_game_built : MapState → ℕ → SlotState → Built
-next_game_built map c slot = game_built_of (telling_of slot) map.lines (next_game map c slot)
+abbrev pub next_game_built : Profile → MapState → ℕ → SlotState → Built
+next_game_built profile map c slot = game_built_of (telling_of profile slot) map.lines (next_game map c slot)
 
 -- what an emit of a slot gives: the slot after it, the map and the frames, the answer, the message that it began, and the datagram
 -- that it hands out
@@ -138,8 +138,8 @@ most_placed = 2 ^ 62
 -- and stays where the message proves too long
 abbrev pub emit_next : Profile → MapState → FramesState → ℕ → SlotState → SlotEmission
 emit_next profile map frames c slot =
-    if slot.owed then emit_game profile slot map frames (next_game_built map c slot)
-    else emit_built profile slot map (next_frames map frames c slot) (begun_next map frames c slot)
+    if slot.owed then emit_game profile slot map frames (next_game_built profile map c slot)
+    else emit_built profile slot map (next_frames map frames c slot) (begun_next profile map frames c slot)
 
 -- and none where message numbers have ended or too many entities were placed, or where its leading long would be hidden
 abbrev pub emit_new : Profile → MapState → FramesState → ℕ → SlotState → SlotEmission

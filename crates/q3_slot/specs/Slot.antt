@@ -2,7 +2,8 @@
 use Rattle.std.specs.Prelude.{ℕ, ◌==◌, ◌&&◌, if◌then◌else◌, Bool, true, false, List, [], Option, Some, None, option_map}
 use Rattle.arrayvec.specs.ArrayVec.{ArrayVec}
 use Rattle.q3_io.specs.declared.address.Address.{Address}
-use Rattle.q3_chan.specs.declared.side.Side.TheVariants.{Server, Client}
+use Rattle.q3_chan.specs.Checks.{check_for}
+use Rattle.q3_chan.specs.Datagrams.{server_form, client_form}
 use Rattle.q3_chan.specs.Gathering.{Gathering, new_gathering}
 use Rattle.q3_chan.specs.Sending.{Sending, new_sending}
 use Rattle.q3_window.specs.Outgoing.{OutgoingState, new_outgoing}
@@ -45,17 +46,17 @@ pub record SlotState : Type 0 where
   pub area : ArrayVec ℕ
   pub delayed : Bool
 
--- a client that just joined
-abbrev pub new_slot : ℕ → ℕ → Address → SlotState
-new_slot challenge qport address = record {
+-- a client that just joined, by a protocol
+abbrev pub new_slot : ℕ → ℕ → ℕ → Address → SlotState
+new_slot protocol challenge qport address = record {
   challenge = challenge;
   address = address;
   qport = qport;
   stage = Connected;
   game = None;
   owed = false;
-  sending = new_sending Server 0;
-  gathering = new_gathering Client;
+  sending = new_sending (server_form (check_for protocol challenge)) 0;
+  gathering = new_gathering (client_form (check_for protocol challenge));
   issued = new_outgoing;
   executed = new_incoming;
   delta = 0;

@@ -62,9 +62,9 @@ pub record HoldLists (table : Layout) (frames : FramesState) : Type 0 where
   pub listed : (slot number : ℕ) (held : Snapshot) → held_frame frames slot number ≡ Some held → IsList table held.entities
 
 -- what the message of a number tells a client beside its snapshot
-abbrev pub told_under : OutgoingState → Joined → ℕ → Telling
-told_under issued client number =
-    record { ack = client.executed.executed; commands = carried issued; last = issued_of issued; under = plays_under client.stage client.game; key = server_key client.challenge number client.executed.last }
+abbrev pub told_under : Profile → OutgoingState → Joined → ℕ → Telling
+told_under profile issued client number =
+    record { ack = client.executed.executed; commands = carried issued; last = issued_of issued; under = plays_under client.stage client.game; key = server_key profile.protocol client.challenge number client.executed.last }
 
 -- the snapshot against which the next one for a client may be written
 abbrev pub asked_by : Joined → ℕ
@@ -139,11 +139,11 @@ emission_of profile map frames c slot = emit_slot profile map frames c slot slot
 
 -- where a gamestate is owed to it
 abbrev pub game_emission : Profile → MapState → FramesState → ℕ → SlotState → SlotEmission
-game_emission profile map frames c slot = emit_game profile slot map frames (next_game_built map c slot)
+game_emission profile map frames c slot = emit_game profile slot map frames (next_game_built profile map c slot)
 
 -- and where none is
 abbrev pub snapshot_emission : Profile → MapState → FramesState → ℕ → SlotState → SlotEmission
-snapshot_emission profile map frames c slot = emit_built profile slot map (next_frames map frames c slot) (begun_next map frames c slot)
+snapshot_emission profile map frames c slot = emit_built profile slot map (next_frames map frames c slot) (begun_next profile map frames c slot)
 
 -- the slot after an emit, the map and the frames, the answer, and what is handed out
 abbrev pub slot_after : Profile → MapState → FramesState → ℕ → Option SlotState → Option SlotState

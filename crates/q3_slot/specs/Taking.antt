@@ -20,7 +20,7 @@ use Rattle.q3_clmsg.specs.Moves.{message_key}
 use Rattle.q3_clmsg.specs.Values.{Message}
 use Rattle.q3_clmsg.specs.Reading.{heads_at, client_at}
 use Rattle.q3_slot.specs.declared.taking.ServerTook.{ServerTook}
-use Rattle.q3_slot.specs.declared.taking.ServerTook.TheVariants.{Runt, Connectionless, Old, OutOfOrder, BadFragment, Partial, Illegible, Ignored, Gap, Ran}
+use Rattle.q3_slot.specs.declared.taking.ServerTook.TheVariants.{Runt, Connectionless, Old, OutOfOrder, BadCheck, BadFragment, Partial, Illegible, Ignored, Gap, Ran}
 use Rattle.q3_map.specs.Map.{MapState, is_other}
 use Rattle.q3_slot.specs.declared.stage.ClientStage.{ClientStage}
 use Rattle.q3_slot.specs.declared.stage.ClientStage.TheVariants.{Connected, Primed, Active}
@@ -191,6 +191,7 @@ take_answer map slot c gathered.Partial read = answers slot (Partial c)
 take_answer map slot c gathered.Old read = answers slot (Old c)
 take_answer map slot c gathered.OutOfOrder read = answers slot (OutOfOrder c)
 take_answer map slot c gathered.BadFragment read = answers slot (BadFragment c)
+take_answer map slot c gathered.BadCheck read = answers slot (BadCheck c)
 take_answer map slot c gathered.Runt read = answers slot Runt
 take_answer map slot c gathered.Connectionless read = answers slot Connectionless
 
@@ -203,9 +204,9 @@ abbrev pub ack_taken : ℕ → Result (Unit {0}) BadAck → Result (Unit {0}) Cl
 ack_taken ack (Ok x) = Ok x
 ack_taken ack (Err e) = Err (causes.Ack ack)
 
--- a message cleared, by its leading longs and the text of the server command that it acknowledges
-abbrev pub cleared : ℕ → Heads → List ℕ → List ℕ → List ℕ
-cleared challenge heads text bytes = client_scrambled (client_key challenge heads.id heads.acknowledged text) bytes
+-- a message cleared, by its leading longs and the text of the server command that it acknowledges, or as it is, by protocol 71
+abbrev pub cleared : ℕ → ℕ → Heads → List ℕ → List ℕ → List ℕ
+cleared protocol challenge heads text bytes = client_scrambled (client_key protocol challenge heads.id heads.acknowledged text) bytes
 
 -- a message with the leading longs as they are read before it is cleared
 abbrev pub with_heads : Heads → Message → Message
@@ -215,7 +216,7 @@ with_heads heads message = record message { id = heads.id; acknowledged = heads.
 -- acknowledges
 abbrev pub said_under : Profile → ℕ → ℕ → Heads → List ℕ → List ℕ → Result Message ClientIllegible
 said_under profile feed challenge heads text bytes = do
-  message ← client_at profile.code (message_key feed heads.acknowledged text) (bits_of (cleared challenge heads text bytes))
+  message ← client_at profile.code (message_key feed heads.acknowledged text) (bits_of (cleared profile.protocol challenge heads text bytes))
   Ok (with_heads heads message)
 
 -- a message of the map, or why it isn't legible

@@ -28,7 +28,7 @@ pub enum Emitted {
     },
     /// Message numbers have ended, or more than 2^62 entities were placed.
     SequenceEnd,
-    /// The next message's leading long takes more than 32 bits, so that a part of it would be scrambled.
+    /// By protocol 68, the next message's leading long takes more than 32 bits, so that a part of it would be scrambled.
     Unclear,
     /// The message has more than 16,384 bytes; its number is used again. The frame of a snapshot stays, and a gamestate stays
     /// owed.

@@ -1,10 +1,9 @@
 //! Builds the frame of a client's next snapshot, and writes its message. Keeps the rules "what the server sends", with q3_built
 //! and q3_map, and "choice of the delta base", by q3_frames: the engine's `SV_SendClientSnapshot` (sv_snapshot.c).
 
-ghost use Rattle.std.specs.Prelude.{◌≡◌, ◌+◌, ◌<◌, ◌≤◌, ◌||◌, length, nat_le, nat_lt, option_map};
-ghost use Rattle.q3_chan.specs.Datagrams.{longest_message, sequence_end};
+ghost use Rattle.std.specs.Prelude.{◌≡◌, ◌+◌, ◌<◌, ◌≤◌, ◌||◌, length, nat_le, nat_lt, None, option_map};
+ghost use Rattle.q3_chan.specs.Datagrams.{client_form, longest_message, sequence_end};
 ghost use Rattle.q3_chan.specs.Gathering.{new_gathering};
-ghost use Rattle.q3_chan.specs.declared.side.Side.TheVariants.{Client};
 ghost use Rattle.q3_frames.specs.Frames.{base_of, build_at};
 ghost use Rattle.q3_fields.specs.Kinds.{Layout};
 ghost use Rattle.q3_entity.specs.Entities.{IsList, Rises};
@@ -75,9 +74,9 @@ pub(crate) fn write_next(
     requires placed { frames.old.placed ≤ most_placed }
     requires lists { HoldLists profile.now.entity frames.old }
     requires buffer { length buffer.old ≡ longest_message }
-    ensures written { HoldsBuilt profile.now (begun_next map.now frames.old to.entry.slot (slot_of sender.now (new_gathering Client) to.entry.issued.now to.entry.client.now))
+    ensures written { HoldsBuilt profile.now (begun_next profile.now map.now frames.old to.entry.slot (slot_of sender.now (new_gathering (client_form None)) to.entry.issued.now to.entry.client.now))
         buffer.new result }
-    ensures frames { frames.new ≡ next_frames map.now frames.old to.entry.slot (slot_of sender.now (new_gathering Client) to.entry.issued.now to.entry.client.now) }
+    ensures frames { frames.new ≡ next_frames map.now frames.old to.entry.slot (slot_of sender.now (new_gathering (client_form None)) to.entry.issued.now to.entry.client.now) }
     ensures slots { length frames.new.slots ≡ length frames.old.slots }
     ensures lists { HoldLists profile.now.entity frames.new }
 {
@@ -103,7 +102,7 @@ fn write_against(
     requires lists { HoldLists profile.now.entity frames.now }
     requires listed { IsList profile.now.entity entities.now }
     requires buffer { length buffer.old ≡ longest_message }
-    ensures { HoldsBuilt profile.now (built_of (told_under to.entry.issued.now to.entry.client.now head.now.number) map.now.lines
+    ensures { HoldsBuilt profile.now (built_of (told_under profile.now to.entry.issued.now to.entry.client.now head.now.number) map.now.lines
         (base_of frames.now to.entry.slot head.now.number (asked_by to.entry.client.now)) (record { head = head.now; entities = entities.now })) buffer.new result }
 {
     let (base, against) = base_in(frames, to.slot, head.number, to.client.asked());

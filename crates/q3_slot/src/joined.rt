@@ -5,7 +5,7 @@
 //! number, the delta number and a debt go, is this project's own.
 
 ghost use Rattle.std.specs.Prelude.{◌≡◌, ◌+◌, ◌^◌, ◌<◌, ◌≤◌, ◌||◌, [], false, length, None, Some};
-ghost use Rattle.q3_chan.specs.declared.side.Side.TheVariants.{Client};
+ghost use Rattle.q3_chan.specs.Datagrams.{client_form};
 ghost use Rattle.q3_chan.specs.Gathering.{Gathering, new_gathering};
 ghost use Rattle.q3_chan.specs.Sending.{Sending};
 ghost use Rattle.q3_clmsg.specs.Values.{said_of};
@@ -306,7 +306,7 @@ impl Joined {
     /// don't count.
     pub fn fill(&self, sender: &Sender, map: &Map, head: &mut SnapHead)
         requires { sender.now.number + 1 < 2 ^ 32 }
-        ensures head { head.new ≡ (next_snapshot map.now (slot_of sender.now (new_gathering Client) new_outgoing self.now)).head }
+        ensures head { head.new ≡ (next_snapshot map.now (slot_of sender.now (new_gathering (client_form None)) new_outgoing self.now)).head }
         ensures number { head.new.number ≡ sender.now.number + 1 }
     {
         head.number = sender.number() + 1;

@@ -23,7 +23,7 @@ use crate::taking::{Heard, ServerTook};
 use arrayvec::ArrayVec;
 use q3_bits::NoMemory;
 use q3_built::is_unclear;
-use q3_chan::{Datagram, Gathered, Gatherer, Sender, Side};
+use q3_chan::{Datagram, Gathered, Gatherer, Sender, Side, check_for};
 use q3_clmsg::ClientMessage;
 use q3_config::{piece, pieces, shape};
 use q3_frames::Frames;
@@ -50,9 +50,8 @@ pub struct Slot {
 }
 
 impl Model for Slot {
-    ghost use Rattle.std.specs.Prelude.{◌≡◌, ◌<◌, Option, option_map, MatchOption, ⊤};
-    ghost use Rattle.q3_chan.specs.Datagrams.{sequence_end};
-    ghost use Rattle.q3_chan.specs.declared.side.Side.TheVariants.{Server, Client};
+    ghost use Rattle.std.specs.Prelude.{◌≡◌, ◌<◌, Option, None, option_map, MatchOption, ⊤};
+    ghost use Rattle.q3_chan.specs.Datagrams.{sequence_end, server_form, client_form};
     ghost use Rattle.q3_chan.specs.Gathering.{new_gathering};
     ghost use Rattle.q3_chan.specs.Sending.{new_sending};
     ghost use Rattle.q3_window.specs.Outgoing.{new_outgoing};
@@ -64,7 +63,7 @@ impl Model for Slot {
     ghost view = { λ s. option_map (slot_of s.sender s.gatherer s.issued) s.client };
 
     ghost invariant = { λ s. (s.sender.number < sequence_end)
-        × MatchOption s.client ((s.sender ≡ new_sending Server 0) × (s.gatherer ≡ new_gathering Client) × (s.issued ≡ new_outgoing)) (λ client. ⊤) };
+        × MatchOption s.client ((s.sender ≡ new_sending (server_form None) 0) × (s.gatherer ≡ new_gathering (client_form None)) × (s.issued ≡ new_outgoing)) (λ client. ⊤) };
 }
 
 impl Slot {
@@ -97,11 +96,14 @@ impl Slot {
         }
     }
 
-    /// A client joins, from an address.
-    pub fn join(&mut self, challenge: u32, qport: u16, address: Address)
+    /// A client joins by a protocol, from an address.
+    pub fn join(&mut self, protocol: u32, challenge: u32, qport: u16, address: Address)
         requires { self.old ≡ None }
-        ensures { self.new ≡ Some (new_slot challenge qport address) }
+        ensures { self.new ≡ Some (new_slot protocol challenge qport address) }
     {
+        let check = check_for(protocol, challenge);
+        self.sender.set_check(check);
+        self.gatherer.set_check(check);
         self.client = Some(Joined {
             challenge,
             address,
@@ -285,6 +287,7 @@ impl Slot {
             Gathered::Old => return ServerTook::Old(slot),
             Gathered::OutOfOrder => return ServerTook::OutOfOrder(slot),
             Gathered::BadFragment => return ServerTook::BadFragment(slot),
+            Gathered::BadCheck => return ServerTook::BadCheck(slot),
             Gathered::Runt => return ServerTook::Runt,
             Gathered::Connectionless => return ServerTook::Connectionless,
         };

@@ -33,6 +33,8 @@ pub enum ServerTook {
     Connectionless,
     /// No client has the datagram's host and qport.
     Stranger,
+    /// By protocol 71, the check isn't that of the number and of the challenge of the client in this slot.
+    BadCheck(u8),
     /// The message's number isn't above the newest taken from the client in this slot.
     Old(u8),
     /// A piece that doesn't start where what was gathered ends.
@@ -164,7 +166,15 @@ fn read_under(
 ) -> Result<(), ClientIllegible>
     ensures { holding (said_of into.new) result ≡ said_under profile.now feed challenge heads text.now bytes.old }
 {
-    scramble_client(bytes, challenge, heads.id, heads.acknowledged, text);
+    let protocol = profile.protocol;
+    scramble_client(
+        bytes,
+        protocol,
+        challenge,
+        heads.id,
+        heads.acknowledged,
+        text,
+    );
     let key = message_key(feed, heads.acknowledged, text);
     read_client_message(&profile.code, bytes, key, into)?;
     put_heads(into, heads);

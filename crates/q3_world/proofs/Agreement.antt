@@ -37,7 +37,7 @@ pub steps_agree : (profile : Profile) (whole : Whole) (event : Event) → Cited 
     → IsReplayEvent event → IsOwn event → Holds profile whole → Agree profile (kept_step (kept_of profile whole) event) (step profile whole event)
 unfolding kept_step step line_of server_line emit_at
 steps_agree profile whole (events.Client c challenge qport dup address) cited is own holds =
-    noted_so profile whole c (join profile whole.ends c challenge qport dup address) (with_joined (history_at whole.histories c) qport address)
+    noted_so profile whole c (join profile whole.ends c challenge qport dup address) (with_joined (history_at whole.histories c) challenge qport address)
     (holds_join profile whole c challenge qport dup address cited (omega (arith, is.0)) is.2 holds)
 steps_agree profile whole (events.Port c port) cited is own holds =
     handed profile whole (set_port whole.ends c port) (holds_port profile whole c port (omega (arith, is.0)) holds)

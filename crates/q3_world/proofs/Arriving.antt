@@ -1,6 +1,6 @@
 -- A datagram arrives by its bytes as by its tag.
 use Rattle.q3_rings.specs.declared.rings.NoBase.TheVariants.{EntitiesGone}
-use Rattle.std.proofs.Common.{◌≡◌, ◌-◌, ◌^◌, ◌<◌, Bool, true, false, List, [], ◌∷◌, length, Option, Some, None, Result, Ok, refl, sym, ap, subst, ◌∙◌, inl, inr, arith, ◌++◌, ◌≤◌, ℕ, lit<}
+use Rattle.std.proofs.Common.{is_some, ◌≡◌, ◌-◌, ◌^◌, ◌<◌, Bool, true, false, List, [], ◌∷◌, length, Option, Some, None, Result, Ok, refl, sym, ap, subst, ◌∙◌, inl, inr, arith, ◌++◌, ◌≤◌, ℕ, lit<}
 use Rattle.std.specs.Prelude.{◌||◌, slice_get, All, Contains, ◌⊎◌, IfSome, if◌then◌else◌, map}
 use Rattle.std.specs.Option.{option_map}
 use Rattle.std.proofs.lemmas.List.{append-nil}
@@ -18,11 +18,12 @@ use Rattle.q3_svmsg.specs.declared.error.Illegible.{Illegible}
 use Rattle.q3_ring.specs.Snapshot.{Snapshot}
 use Rattle.q3_rings.specs.Rings.{accept_at}
 use Rattle.q3_clstate.specs.State.{Application, apply_message, AppliedState, accepts, after_gamestate, applies_game, heard_with, hearing, passes}
-use Rattle.q3_chan.specs.declared.side.Side.{Side}
+use Rattle.q3_chan.specs.declared.form.Form.{Form}
+use Rattle.q3_chan.specs.Checks.{is_checked, check_for}
 use Rattle.q3_chan.specs.declared.gatherer.Gathered.{Gathered}
 use Rattle.q3_chan.specs.declared.gatherer.Gathered.TheVariants as gathered
 use Rattle.q3_chan.specs.declared.qport.NoQport.{NoQport}
-use Rattle.q3_chan.specs.Datagrams.{Header, server_header, client_header, datagram}
+use Rattle.q3_chan.specs.Datagrams.{Header, server_form, client_form, server_header, client_header, datagram}
 use Rattle.q3_chan.specs.Sending.{Sending}
 use Rattle.q3_chan.specs.Gathering.{Gathering, Took, gathered as gathered_of}
 use Rattle.q3_chan.specs.Tags.{tagged, IsQuiet, PieceDoes}
@@ -72,19 +73,19 @@ use Rattle.q3_world.proofs.Mapped.{fresh_own, jump_same, mapped_accepted, mapped
 use Rattle.q3_world.proofs.Plays.{plays_are, plays_on}
 use Rattle.q3_world.specs.Games.{Carries, accepted_since, AreMapped, standing_of}
 use Rattle.std.proofs.lemmas.Bool.{cases_Bool}
-use Rattle.q3_messages.proofs.Survives.{taken_by_bytes}
+use Rattle.q3_messages.proofs.Survives.{taken_by_bytes, checked_so}
 
 -- ---- what a datagram does
 
 -- by its bytes a datagram does what it does by its tag
-pub piece_is : (messages : ℕ → List ℕ) (g : Gathering) (header : Header) (count : ℕ) (sending : Sending) (tag : Tag) → SentIsTagged → HoldsFront messages g → g.side ≡ header.side
+pub piece_is : (messages : ℕ → List ℕ) (g : Gathering) (header : Header) (count : ℕ) (sending : Sending) (tag : Tag) → SentIsTagged → HoldsFront messages g → g.form ≡ header.form
     → header.qport < 2 ^ 16 → BeginsMessages header messages count sending → IsPiece header messages count tag
     → gathered_of g tag.bytes ≡ tagged g tag.number (messages tag.number) tag.index
 piece_is messages g header count sending tag law front from fits begins is =
     let begun = is.begun in
     let short = begins.short in
     let n = tag.number in
-    ap (gathered_of g) (is.bytes ∙ ap (λ (s : Side). datagram (record { side = s; qport = header.qport }) n (messages n) tag.index) (sym from))
+    ap (gathered_of g) (is.bytes ∙ ap (λ (f : Form). datagram (record { form = f; qport = header.qport }) n (messages n) tag.index) (sym from))
     ∙ (law messages g header.qport n tag.index front fits is.some (omega (arith, begun, short)) (begins.sendable n is.some is.begun) is.piece).0
 
 -- ---- delivering to a client
@@ -99,6 +100,7 @@ quiet_same client gathered.Partial read other is = refl
 quiet_same client gathered.Old read other is = refl
 quiet_same client gathered.OutOfOrder read other is = refl
 quiet_same client gathered.BadFragment read other is = absurd is
+quiet_same client gathered.BadCheck read other is = absurd is
 quiet_same client gathered.Runt read other is = absurd is
 quiet_same client gathered.Connectionless read other is = absurd is
 
@@ -115,6 +117,7 @@ quiet_client client gathered.Partial read is = record { client_is = refl; accept
 quiet_client client gathered.Old read is = record { client_is = refl; accepted = refl; heard = refl; game = λ section. refl }
 quiet_client client gathered.OutOfOrder read is = record { client_is = refl; accepted = refl; heard = refl; game = λ section. refl }
 quiet_client client gathered.BadFragment read is = absurd is
+quiet_client client gathered.BadCheck read is = absurd is
 quiet_client client gathered.Runt read is = absurd is
 quiet_client client gathered.Connectionless read is = absurd is
 
@@ -138,7 +141,7 @@ taken_alike profile client took number built received does =
 abbrev pub IsFor : Profile → Whole → Tag → Type 0
 IsFor profile whole tag =
     (tag.client < places)
-    × IsPiece server_header (messages_of profile (history_at whole.histories tag.client).built) (length (history_at whole.histories tag.client).built) tag
+    × IsPiece (server_header (check_for profile.protocol (history_at whole.histories tag.client).challenge)) (messages_of profile (history_at whole.histories tag.client).built) (length (history_at whole.histories tag.client).built) tag
 
 -- its client is there
 pub client_of_tag : (profile : Profile) (whole : Whole) (tag : Tag) → IsFor profile whole tag → Holds profile whole
@@ -166,7 +169,12 @@ tag_is profile whole tag place cited is found holds =
     let messages = messages_of profile built in
     let had = has_client profile whole tag.client place is.0 found holds in
     let at = at_number profile built tag.number is.1.some in
-    piece_is messages place.client.gathering server_header (length built) had.0.sending tag cited.tags had.1.joined.of_client.gathers.front had.1.keeps.of_client.from (lit< tt) had.1.keeps.of_slot.sending is.1
+    let keeps = had.1.keeps in
+    let header : ℕ → Header = λ challenge. server_header (check_for profile.protocol challenge) in
+    let from : place.client.gathering.form ≡ server_form (check_for profile.protocol had.0.challenge) =
+    keeps.of_client.from ∙ ap (λ (challenge : ℕ). server_form (check_for profile.protocol challenge)) (sym keeps.challenge) in
+    piece_is messages place.client.gathering (header had.0.challenge) (length built) had.0.sending tag cited.tags had.1.joined.of_client.gathers.front from (lit< tt) keeps.of_slot.sending
+    (subst (λ (challenge : ℕ). IsPiece (header challenge) messages (length built) tag) (sym keeps.joined) is.1)
     ∙ ap (λ (m : List ℕ). tagged place.client.gathering tag.number m tag.index) at
 
 -- and what is gathered then was begun
@@ -287,7 +295,7 @@ holds_piece profile whole c datagram n slot place took built cited lt within had
       | inl waits ↦
           let same = quiet_client now took.answer read waits.quiet in
           let noted = nothing_noted history n place.client.last_time (take_answer now took.answer read) built.message.section same.accepted same.heard (same.game built.message.section) in
-          rw (noted, same.client_is) (Holds-taken profile whole c slot place g state place.client.message place.client.issued place.client.delta false history.games history.accepted history.client_executed lt had does.side refl refl
+          rw (noted, same.client_is) (Holds-taken profile whole c slot place g state place.client.message place.client.issued place.client.delta false history.games history.accepted history.client_executed lt had does.form refl refl
           (waits_so slot place.client history g waits.taken had.keeps.of_client.applied window had.joined.commanded)
           (TakesBuilt-gathered profile place.client history.built history.accepted since g waits.taken gathers joined) had.joined.asked
           (subst (λ (k : ℕ). AreMapped map (standing_of slot) state k place.client.last_time history.built history.games history.said history.accepted history.client_executed) (sym waits.taken) mapped) had.joined.since holds)
@@ -333,7 +341,7 @@ holds_piece profile whole c datagram n slot place took built cited lt within had
                       (omega (arith, newer, number_is)) refl joined in
                       subst (λ (t : Taken). Holds profile (took_plain whole c place n built.message.section t)) (sym (came_so ∙ ap applied_as accepted.1))
                       (subst (λ (s : Told). Holds profile (took_plain whole c place n s (applied_as (heard_with state commands (accepts (hearing state commands) n (number_of built.base) snapshot))))) (sym section)
-                      (Holds-taken profile whole c slot place g state' plain after true false history.games (history.accepted ++ snapshot ∷ []) heard lt had does.side refl refl
+                      (Holds-taken profile whole c slot place g state' plain after true false history.games (history.accepted ++ snapshot ∷ []) heard lt had does.form refl refl
                       (record { applied = subst (λ (a : Application). IsApplied a.state) accepted.1 applied; is = still; to_client = to_client; to_server = to_server })
                       (subst (λ (s : List Snapshot). TakesBuilt profile (taking.client_took place.client g state' plain after true false) history.built (history.accepted ++ snapshot ∷ []) s) (sym since_is) takes)
                       (AreAsked-accepted slot history.said history.built history.accepted snapshot had.joined.asked)
@@ -343,7 +351,7 @@ holds_piece profile whole c datagram n slot place took built cited lt within had
                       let state' = record (hearing state commands) { number = n } in
                       subst (λ (t : Taken). Holds profile (took_plain whole c place n built.message.section t)) (sym (came_so ∙ ap applied_as skipped.2))
                       (subst (λ (s : Told). Holds profile (took_plain whole c place n s (applied_as (heard_with state commands (passes (hearing state commands) n (Skipped (number_of built.base) (EntitiesGone skipped.0))))))) (sym section)
-                      (Holds-taken profile whole c slot place g state' plain after false false history.games history.accepted heard lt had does.side refl refl
+                      (Holds-taken profile whole c slot place g state' plain after false false history.games history.accepted heard lt had does.form refl refl
                       (record { applied = subst (λ (a : Application). IsApplied a.state) skipped.2 applied; is = still; to_client = to_client; to_server = to_server })
                       (TakesBuilt-passed profile place.client history.built history.accepted since g state' plain after place.client.moves (omega (arith, taken, newer)) gathers refl joined) had.joined.asked
                       (at_taken state' history.games history.accepted heard (mapped_passed map slot place.client history n commands state.held newer own mapped)) had.joined.since holds))
@@ -361,7 +369,7 @@ holds_piece profile whole c datagram n slot place took built cited lt within had
                 let takes = TakesBuilt-started cited.rings profile place.client history.built history.accepted since g state' plain after [] (omega (arith, taken, newer)) gathers (subst (λ (k : ℕ). 512 ≤ k) (sym had.keeps.of_client.ring) cited.ring) refl joined in
                 subst (λ (t : Taken). Holds profile (took_plain whole c place n built.message.section t)) (sym (came_so ∙ ap applied_as (applies_game_message state n built is.telling game made.is)))
                 (subst (λ (s : Told). Holds profile (took_plain whole c place n s (applied_as (heard_with state commands (applies_game (hearing state commands) n game))))) (sym section)
-                (Holds-taken profile whole c slot place g state' plain after false true games history.accepted heard lt had does.side refl refl
+                (Holds-taken profile whole c slot place g state' plain after false true games history.accepted heard lt had does.form refl refl
                 (record {
                   applied = subst (λ (a : Application). IsApplied a.state) (applies_game_message state n built is.telling game made.is) applied;
                   is = still;
@@ -405,6 +413,7 @@ quiet_heard map slot c gathered.Partial read other is = refl
 quiet_heard map slot c gathered.Old read other is = refl
 quiet_heard map slot c gathered.OutOfOrder read other is = refl
 quiet_heard map slot c gathered.BadFragment read other is = absurd is
+quiet_heard map slot c gathered.BadCheck read other is = absurd is
 quiet_heard map slot c gathered.Runt read other is = absurd is
 quiet_heard map slot c gathered.Connectionless read other is = absurd is
 
@@ -420,6 +429,7 @@ quiet_slot map slot c gathered.Partial read is = record { slot_is = refl; comman
 quiet_slot map slot c gathered.Old read is = record { slot_is = refl; commands = refl; moves = refl }
 quiet_slot map slot c gathered.OutOfOrder read is = record { slot_is = refl; commands = refl; moves = refl }
 quiet_slot map slot c gathered.BadFragment read is = absurd is
+quiet_slot map slot c gathered.BadCheck read is = absurd is
 quiet_slot map slot c gathered.Runt read is = absurd is
 quiet_slot map slot c gathered.Connectionless read is = absurd is
 
@@ -443,7 +453,7 @@ heard_alike profile map slot c took number said hears_back does from =
 abbrev pub IsOf : Profile → Whole → Tag → Address → Type 0
 IsOf profile whole tag from =
     (tag.client < places) × (from.host ≡ (history_at whole.histories tag.client).host)
-    × IsPiece (client_header (history_at whole.histories tag.client).qport) (messages_said profile (history_at whole.histories tag.client).said) (length (history_at whole.histories tag.client).said) tag
+    × IsPiece (client_header (check_for profile.protocol (history_at whole.histories tag.client).challenge) (history_at whole.histories tag.client).qport) (messages_said profile (history_at whole.histories tag.client).said) (length (history_at whole.histories tag.client).said) tag
 
 -- the server takes it by what its bytes do to its client's slot
 pub heard_by_bytes : (profile : Profile) (whole : Whole) (tag : Tag) (from : Address) (slot : SlotState) → Cited profile → IsOf profile whole tag from
@@ -460,9 +470,13 @@ heard_by_bytes profile whole tag from slot cited is at holds =
     let some = is.2.some in
     let begun = is.2.begun in
     let short = keeps.of_client.sending.short in
-    let told : qport_of tag.bytes ≡ Ok history.qport =
-    ap qport_of is.2.bytes
-    ∙ cited.qport (client_header history.qport) tag.number tag.index (messages tag.number) refl keeps.of_client.fits (omega (arith, begun, short))
+    let header = client_header (check_for profile.protocol history.challenge) history.qport in
+    let checked : is_some header.form.check ≡ is_checked server.profile.protocol =
+    checked_so (is_checked profile.protocol) history.challenge ∙ ap (λ (p : Profile). is_checked p.protocol) (sym holds.facts.by) in
+    let told : qport_of (is_checked server.profile.protocol) tag.bytes ≡ Ok history.qport =
+    ap (λ (b : Bool). qport_of b tag.bytes) (sym checked)
+    ∙ ap (qport_of (is_some header.form.check)) is.2.bytes
+    ∙ cited.qport header tag.number tag.index (messages tag.number) refl keeps.of_client.fits (omega (arith, begun, short))
     (keeps.of_client.sending.sendable tag.number is.2.some is.2.begun) is.2.piece in
     let found : sender_of server from.host history.qport ≡ Some c =
     ap (λ (h : ℕ). sender_of server h history.qport) (is.1 ∙ sym keeps.of_slot.host)
@@ -574,7 +588,7 @@ holds_heard profile whole c number n from slot place took said cited lt had host
     elim does.either [
       | inl waits ↦
           let same = quiet_slot map now c took.answer read waits.quiet in
-          rw (same.slot_is, same.commands, same.moves) (Holds-heard profile whole c slot slot place from g (record { commands = []; entered = result.entered; moves = []; owed = result.owed }) lt had host does.side refl refl refl gathers
+          rw (same.slot_is, same.commands, same.moves) (Holds-heard profile whole c slot slot place from g (record { commands = []; entered = result.entered; moves = []; owed = result.owed }) lt had host does.form refl refl refl gathers
           (none_run profile slot history keeps)
           (hears_nothing slot place.client history g waits.taken had.joined.commanded)
           (All-nil (Contains history.issued)) before mapped holds)
@@ -590,7 +604,7 @@ holds_heard profile whole c number n from slot place took said cited lt had host
                 let ignored : result ≡ by_slot.ignores map now c (heads_of message) =
                 read_so ∙ ap (λ (b : Bool). by_slot.run_read map now c n (Ok (if b then OfOther (heads_of message) else OfMap message))) other in
                 subst (λ (t : by_slot.SlotTaken). Holds profile (server_took whole number c (hears.taken_at whole.ends.server c t)).whole) (sym ignored)
-                (Holds-heard profile whole c slot has place from g (record { commands = []; entered = None; moves = []; owed = owed }) lt had host does.side refl refl refl gathers
+                (Holds-heard profile whole c slot has place from g (record { commands = []; entered = None; moves = []; owed = owed }) lt had host does.form refl refl refl gathers
                 (none_run profile has history (KeepsSlot-acknowledged profile slot history.qport history.host history.built history.run history.server_commands after owed still keeps))
                 (hears_other slot place.client history g n said came.taken heard)
                 (All-nil (Contains history.issued)) before (mapped_other map slot place.client history said there other mapped) holds)
@@ -604,7 +618,7 @@ holds_heard profile whole c number n from slot place took said cited lt had host
                 read_so ∙ (ap (λ (b : Bool). by_slot.run_read map now c n (Ok (if b then OfOther (heads_of message) else OfMap message))) same ∙ runs_whole now c n message heard.gap) in
                 subst (λ (t : by_slot.SlotTaken). Holds profile (server_took whole number c (hears.taken_at whole.ends.server c t)).whole) (sym ran_so)
                 (Holds-heard profile whole c slot has place from g (record { commands = fresh_of slot.executed.executed message.commands; entered = playing.entered; moves = playing.moves; owed = slot.owed })
-                lt had host does.side refl refl refl gathers
+                lt had host does.form refl refl refl gathers
                 (KeepsSlot-ran profile slot history.qport history.host history.built history.run history.server_commands after executed playing still rises.0 rises.1 keeps)
                 (hears_run slot place.client history g n said came.taken heard)
                 (plays_are (Contains history.issued) slot message were) (asked_playing history.accepted slot message before asks) on.mapped holds)
@@ -644,8 +658,13 @@ said_tag_is profile whole tag from slot cited is at holds =
     let had = has_slot profile whole tag.client slot is.0 at holds in
     let keeps = had.1.keeps in
     let at_said = said_number profile history.said tag.number is.2.some in
-    piece_is (messages_said profile history.said) slot.gathering (client_header history.qport) (length history.said) had.0.client.sending tag cited.tags had.1.joined.of_slot.gathers.front keeps.of_slot.from keeps.of_client.fits
-    keeps.of_client.sending is.2
+    let header : ℕ → Header = λ challenge. client_header (check_for profile.protocol challenge) history.qport in
+    let client = had.0.client in
+    let from : slot.gathering.form ≡ client_form (check_for profile.protocol client.challenge) =
+    keeps.of_slot.from ∙ ap (λ (challenge : ℕ). client_form (check_for profile.protocol challenge)) keeps.challenge in
+    piece_is (messages_said profile history.said) slot.gathering (header client.challenge) (length history.said) client.sending tag cited.tags had.1.joined.of_slot.gathers.front from keeps.of_client.fits
+    keeps.of_client.sending
+    (subst (λ (challenge : ℕ). IsPiece (header challenge) (messages_said profile history.said) (length history.said) tag) (sym keeps.joined ∙ keeps.challenge) is.2)
     ∙ ap (λ (m : List ℕ). tagged slot.gathering tag.number m tag.index) at_said
 
 pub heard_at : (profile : Profile) (whole : Whole) (number : ℕ) (tag : Tag) (from : Address) → Cited profile

@@ -1,7 +1,7 @@
 -- What an end began, and stays so.
 use Rattle.std.proofs.Common.{◌≡◌, ℕ, suc, ◌+◌, ◌<◌, ◌≤◌, List, length, Some, refl, sym, subst, ◌∙◌, inl, inr, arith, lit<}
 use Rattle.std.proofs.lemmas.Bool.{cases_eq}
-use Rattle.q3_chan.specs.declared.side.Side.{Side}
+use Rattle.q3_chan.specs.declared.form.Form.{Form}
 use Rattle.q3_chan.specs.Datagrams.{Header, sequence_end, piece_count}
 use Rattle.q3_chan.specs.Sending.{Sending, UnderWay, new_sending, started, next_of}
 use Rattle.q3_chan.specs.Laws.{IsSendable, EndsSend}
@@ -9,13 +9,13 @@ use Rattle.q3_world.specs.World.{Tag}
 use Rattle.q3_world.specs.StandsFor.{BeginsMessages, IsPiece}
 
 -- an end that began nothing
-pub BeginsMessages-new : (side : Side) (qport : ℕ) (messages : ℕ → List ℕ) → EndsSend → BeginsMessages (record { side = side; qport = qport }) messages 0 (new_sending side qport)
-BeginsMessages-new side qport messages chan =
+pub BeginsMessages-new : (form : Form) (qport : ℕ) (messages : ℕ → List ℕ) → EndsSend → BeginsMessages (record { form = form; qport = qport }) messages 0 (new_sending form qport)
+BeginsMessages-new form qport messages chan =
     record {
       begun = refl;
       short = lit< tt;
       header_is = refl;
-      sends = chan.begin messages side qport;
+      sends = chan.begin messages form qport;
       sendable = λ number some few. absurd (omega (arith, some, few));
     }
 

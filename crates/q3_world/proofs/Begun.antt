@@ -1,8 +1,9 @@
 -- A datagram that either end hands out keeps what holds.
-use Rattle.std.proofs.Common.{◌≡◌, ℕ, ◌+◌, ◌<◌, List, [], ◌∷◌, ◌++◌, length, Bool, true, false, ◌&&◌, Option, Some, refl, arith}
+use Rattle.std.proofs.Common.{◌∙◌, sym, subst, ◌≡◌, ℕ, ◌+◌, ◌<◌, List, [], ◌∷◌, ◌++◌, length, Bool, true, false, ◌&&◌, Option, Some, refl, arith}
 use Rattle.std.specs.Prelude.{IfSome, not}
 use Rattle.q3_profile.specs.declared.profile.Profile.{Profile}
 use Rattle.q3_io.specs.declared.address.Address.{Address}
+use Rattle.q3_chan.specs.Checks.{check_for}
 use Rattle.q3_chan.specs.Datagrams.{server_header, client_header, sequence_end}
 use Rattle.q3_chan.specs.Sending.{UnderWay, next_of}
 use Rattle.q3_chan.specs.Laws.{IsSendable, EndsGather, EndsSend}
@@ -23,7 +24,7 @@ use Rattle.q3_world.specs.declared.places.Place.{Place}
 use Rattle.q3_world.specs.Ends.{place_at}
 use Rattle.q3_world.specs.World.{Tag, History, Whole, history_at, with_history, with_built, with_said}
 use Rattle.q3_server.specs.Standing.{IsMap}
-use Rattle.q3_world.specs.StandsFor.{messages_of, messages_said, KeepsClient, KeepsFrames, WasBuilt, acks_built, carried_said, AreCommanded, IsJoined}
+use Rattle.q3_world.specs.StandsFor.{IsPiece, messages_of, messages_said, KeepsClient, KeepsFrames, WasBuilt, acks_built, carried_said, AreCommanded, IsJoined}
 use Rattle.q3_world.proofs.Growth.{HistoryGrows-same, HistoryGrows-built, HistoryGrows-said}
 use Rattle.q3_world.proofs.Bases.{KeepsFrames-built, frames_too_long, since_accepted}
 use Rattle.q3_messages.proofs.Options.{if_some_then}
@@ -61,7 +62,7 @@ Holds-handed profile whole c slot left sends lt found way holds =
       map_is = holds.facts.map;
       stays = λ s e h joined. joined;
       grows = grows;
-      keeps = record { of_slot = KeepsSlot-handed profile slot history.qport history.host history.built history.run history.server_commands sends keeps.of_slot; of_client = keeps.of_client; challenge = keeps.challenge; host = keeps.host };
+      keeps = record { of_slot = KeepsSlot-handed profile slot history.qport history.host history.built history.run history.server_commands sends keeps.of_slot; of_client = keeps.of_client; challenge = keeps.challenge; joined = keeps.joined; host = keeps.host };
       joined = record {
         of_client = joined.of_client;
         of_slot = TakesSaid-same profile slot next history.said history.issued history.run refl joined.of_slot;
@@ -71,7 +72,8 @@ Holds-handed profile whole c slot left sends lt found way holds =
         since = joined.since;
       };
       sent = sent_more profile whole c history (handed_tag c slot left) lt grows refl
-          (handed_piece server_header (messages_of profile history.built) (length history.built) slot.sending left (handed_tag c slot left) sends keeps.of_slot.sending way refl refl refl) holds;
+          (subst (λ (challenge : ℕ). IsPiece (server_header (check_for profile.protocol challenge)) (messages_of profile history.built) (length history.built) (handed_tag c slot left)) keeps.joined
+          (handed_piece (server_header (check_for profile.protocol slot.challenge)) (messages_of profile history.built) (length history.built) slot.sending left (handed_tag c slot left) sends keeps.of_slot.sending way refl refl refl)) holds;
       kept = frames_stay profile whole c history lt refl holds;
     }) holds
 
@@ -117,7 +119,7 @@ Holds-begun windows profile whole c slot place stage game owed built map frames 
       map_is = map_is;
       stays = stays;
       grows = grows;
-      keeps = record { of_slot = KeepsSlot-handed profile starts history.qport history.host more history.run history.server_commands sends begun; of_client = keeps.of_client; challenge = keeps.challenge; host = keeps.host };
+      keeps = record { of_slot = KeepsSlot-handed profile starts history.qport history.host more history.run history.server_commands sends begun; of_client = keeps.of_client; challenge = keeps.challenge; joined = keeps.joined; host = keeps.host };
       joined = record {
         of_client = TakesBuilt-more profile place.client history.built history.accepted (accepted_since history.games history.accepted) built gathers joined.of_client;
         of_slot = TakesSaid-same profile slot next history.said history.issued history.run refl joined.of_slot;
@@ -127,7 +129,8 @@ Holds-begun windows profile whole c slot place stage game owed built map frames 
         since = joined.since;
       };
       sent = sent_more profile whole c noted (handed_tag c starts left) lt grows refl
-          (handed_piece server_header (messages_of profile more) (length more) starts.sending left (handed_tag c starts left) sends begun.sending way refl refl refl) holds;
+          (subst (λ (challenge : ℕ). IsPiece (server_header (check_for profile.protocol challenge)) (messages_of profile more) (length more) (handed_tag c starts left)) keeps.joined
+          (handed_piece (server_header (check_for profile.protocol slot.challenge)) (messages_of profile more) (length more) starts.sending left (handed_tag c starts left) sends begun.sending way refl refl refl)) holds;
       kept = kept;
     }) holds
 
@@ -183,11 +186,12 @@ Holds-goes profile whole c place left sends lt found way holds =
       map_is = holds.facts.map;
       stays = λ s e h joined. joined;
       grows = grows;
-      keeps = record { of_slot = keeps.of_slot; of_client = KeepsClient-handed profile place.client history.qport history.said history.issued history.client_commands sends keeps.of_client; challenge = keeps.challenge; host = keeps.host };
+      keeps = record { of_slot = keeps.of_slot; of_client = KeepsClient-handed profile place.client history.qport history.said history.issued history.client_commands sends keeps.of_client; challenge = keeps.challenge; joined = keeps.joined; host = keeps.host };
       joined = record { of_client = TakesBuilt-same profile place.client (client_handed place.client) history.built history.accepted (accepted_since history.games history.accepted) refl refl refl refl joined.of_client; of_slot = joined.of_slot; asked = joined.asked; commanded = record { to_client = joined.commanded.to_client; to_server = joined.commanded.to_server }; mapped = joined.mapped; since = joined.since };
       sent = sent_more profile whole c history tag lt grows refl (
         keeps.host,
-        handed_piece (client_header history.qport) (messages_said profile history.said) (length history.said) place.client.sending left tag sends keeps.of_client.sending way refl refl refl,
+        subst (λ (challenge : ℕ). IsPiece (client_header (check_for profile.protocol challenge) history.qport) (messages_said profile history.said) (length history.said) tag) (sym keeps.challenge ∙ keeps.joined)
+            (handed_piece (client_header (check_for profile.protocol place.client.challenge) history.qport) (messages_said profile history.said) (length history.said) place.client.sending left tag sends keeps.of_client.sending way refl refl refl),
       ) holds;
       kept = frames_stay profile whole c history lt refl holds;
     }) holds
@@ -220,7 +224,7 @@ Holds-said windows profile whole c slot place left sends gathers lt had way fits
       map_is = holds.facts.map;
       stays = λ s e h joined. joined;
       grows = grows;
-      keeps = record { of_slot = keeps.of_slot; of_client = KeepsClient-handed profile begun history.qport more history.issued history.client_commands sends starts; challenge = keeps.challenge; host = keeps.host };
+      keeps = record { of_slot = keeps.of_slot; of_client = KeepsClient-handed profile begun history.qport more history.issued history.client_commands sends starts; challenge = keeps.challenge; joined = keeps.joined; host = keeps.host };
       joined = record {
         of_client = TakesBuilt-same profile place.client (client_handed begun) history.built history.accepted since refl refl refl refl joined.of_client;
         of_slot = TakesSaid-more profile slot history.said history.issued history.run next gathers joined.of_slot;
@@ -231,7 +235,8 @@ Holds-said windows profile whole c slot place left sends gathers lt had way fits
       };
       sent = sent_more profile whole c (record history { said = more }) tag lt grows refl (
         keeps.host,
-        handed_piece (client_header history.qport) (messages_said profile more) (length more) begun.sending left tag sends starts.sending way refl refl refl,
+        subst (λ (challenge : ℕ). IsPiece (client_header (check_for profile.protocol challenge) history.qport) (messages_said profile more) (length more) tag) (sym keeps.challenge ∙ keeps.joined)
+            (handed_piece (client_header (check_for profile.protocol place.client.challenge) history.qport) (messages_said profile more) (length more) begun.sending left tag sends starts.sending way refl refl refl),
       ) holds;
       kept = frames_stay profile whole c (record history { said = more }) lt refl holds;
     }) holds

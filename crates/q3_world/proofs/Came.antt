@@ -4,6 +4,7 @@ use Rattle.std.specs.Prelude.{All, Contains, ◌⊎◌}
 use Rattle.std.proofs.lemmas.List.Elements.{All-append}
 use Rattle.q3_profile.specs.declared.profile.Profile.{Profile}
 use Rattle.q3_io.specs.declared.address.Address.{Address}
+use Rattle.q3_chan.specs.Checks.{check_for}
 use Rattle.q3_chan.specs.Datagrams.{server_header}
 use Rattle.q3_chan.specs.Gathering.{Gathering}
 use Rattle.q3_chan.specs.Laws.{Gathers}
@@ -49,7 +50,7 @@ took_noted history games accepted executed = record history { games = games; acc
 
 pub Holds-taken : (profile : Profile) (whole : Whole) (c : ℕ) (slot : SlotState) (place : Place) (g : Gathering) (state : AppliedState) (message : List ℕ) (window : OutgoingState) (delta game : Bool)
     (games : List Played) (accepted : List Snapshot) (executed : List (List ℕ)) → c < places
-    → Has profile whole c slot place → g.side ≡ place.client.gathering.side → state.profile ≡ place.client.state.profile → state.held.ring ≡ place.client.state.held.ring
+    → Has profile whole c slot place → g.form ≡ place.client.gathering.form → state.profile ≡ place.client.state.profile → state.held.ring ≡ place.client.state.held.ring
     → TakesSo slot (history_at whole.histories c) g state window executed
     → TakesBuilt profile (client_took place.client g state message window delta game) (history_at whole.histories c).built accepted (accepted_since games accepted)
     → AreAsked slot (history_at whole.histories c).said (history_at whole.histories c).built accepted
@@ -61,7 +62,7 @@ Holds-taken profile whole c slot place g state message window delta game games a
     let noted = took_noted history games accepted executed in
     let keeps = had.keeps in
     let joined = had.joined in
-    let grows = HistoryGrows-beside history noted refl refl refl refl in
+    let grows = HistoryGrows-beside history noted refl refl refl refl refl in
     Holds-client profile whole c slot place (client_took place.client g state message window delta game) noted whole.sent lt had
     (record {
       host = refl;
@@ -73,6 +74,7 @@ Holds-taken profile whole c slot place g state message window delta game games a
         of_slot = keeps.of_slot;
         of_client = KeepsClient-took profile place.client history.qport history.said history.issued history.client_commands g state message window delta game so.applied so.is side by ring keeps.of_client;
         challenge = keeps.challenge;
+        joined = keeps.joined;
         host = keeps.host;
       };
       joined = record { of_client = takes; of_slot = joined.of_slot; asked = asked; commanded = record { to_client = so.to_client; to_server = so.to_server }; mapped = mapped; since = later };
@@ -100,7 +102,7 @@ pub record HearsSo (client : ClientState) (history : History) (g : Gathering) (w
 -- an acknowledgement was taken, commands were executed, and moves were run, each of which was issued; and a snapshot may be asked for
 -- that was accepted
 pub Holds-heard : (profile : Profile) (whole : Whole) (c : ℕ) (slot has : SlotState) (place : Place) (from : Address) (g : Gathering) (ran : Run) → c < places
-    → Has profile whole c slot place → from.host ≡ slot.address.host → g.side ≡ slot.gathering.side → has.gathering ≡ slot.gathering → has.qport ≡ slot.qport → has.challenge ≡ slot.challenge
+    → Has profile whole c slot place → from.host ≡ slot.address.host → g.form ≡ slot.gathering.form → has.gathering ≡ slot.gathering → has.qport ≡ slot.qport → has.challenge ≡ slot.challenge
     → Gathers (messages_said profile (history_at whole.histories c).said) (length (history_at whole.histories c).said) g
     → KeepsSlot profile has (history_at whole.histories c).qport (history_at whole.histories c).host
     (history_at whole.histories c).built ((history_at whole.histories c).run ++ ran.moves) (history_at whole.histories c).server_commands
@@ -115,7 +117,7 @@ Holds-heard profile whole c slot has place from g ran lt had host side same_gath
     let noted = with_run history ran in
     let keeps = had.keeps in
     let joined = had.joined in
-    let grows = HistoryGrows-beside history noted refl refl refl refl in
+    let grows = HistoryGrows-beside history noted refl refl refl refl refl in
     Holds-slot profile whole c slot next place whole.ends.server.map whole.ends.server.frames noted whole.sent lt had
     (record {
       host = host;
@@ -125,9 +127,10 @@ Holds-heard profile whole c slot has place from g ran lt had host side same_gath
       grows = grows;
       keeps = record {
         of_slot = KeepsSlot-came profile has history.qport history.host history.built (history.run ++ ran.moves)
-            history.server_commands from g (host ∙ keeps.of_slot.host) (side ∙ ap (λ (g : Gathering). g.side) (sym same_gathering)) ran_so;
+            history.server_commands from g (host ∙ keeps.of_slot.host) (side ∙ ap (λ (g : Gathering). g.form) (sym same_gathering)) ran_so;
         of_client = keeps.of_client;
         challenge = same_challenge ∙ keeps.challenge;
+        joined = same_challenge ∙ keeps.joined;
         host = keeps.host;
       };
       joined = record {
@@ -146,7 +149,7 @@ Holds-heard profile whole c slot has place from g ran lt had host side same_gath
 
 -- the message that a server's tag names was built
 pub tag_was_built : (profile : Profile) (whole : Whole) (tag : Tag) (slot : SlotState) (place : Place)
-    → IsPiece server_header (messages_of profile (history_at whole.histories tag.client).built) (length (history_at whole.histories tag.client).built) tag
+    → IsPiece (server_header (check_for profile.protocol (history_at whole.histories tag.client).challenge)) (messages_of profile (history_at whole.histories tag.client).built) (length (history_at whole.histories tag.client).built) tag
     → Has profile whole tag.client slot place → IsBuilt profile place.client.challenge tag.number (named whole.histories tag)
 tag_was_built profile whole tag slot place is had =
     let some = is.some in
@@ -157,7 +160,7 @@ tag_was_built profile whole tag slot place is had =
 
 -- and so the snapshot that it names is one that was built
 pub names_built : (profile : Profile) (whole : Whole) (tag : Tag)
-    → IsPiece server_header (messages_of profile (history_at whole.histories tag.client).built) (length (history_at whole.histories tag.client).built) tag
+    → IsPiece (server_header (check_for profile.protocol (history_at whole.histories tag.client).challenge)) (messages_of profile (history_at whole.histories tag.client).built) (length (history_at whole.histories tag.client).built) tag
     → (telling : Telling) (built : BuildsSnapshot profile telling tag.number (named whole.histories tag)) → WasBuilt (history_at whole.histories tag.client).built built.snapshot
 names_built profile whole tag is telling built =
     let number = built.number in

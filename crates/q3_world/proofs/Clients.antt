@@ -8,8 +8,8 @@ use Rattle.q3_profile.specs.declared.profile.Profile.{Profile}
 use Rattle.q3_player.specs.State.{zero_player}
 use Rattle.q3_player.specs.declared.state.PlayerState.{PlayerState}
 use Rattle.q3_io.specs.declared.address.Address.{Address}
-use Rattle.q3_chan.specs.declared.side.Side.TheVariants.{Server, Client}
-use Rattle.q3_chan.specs.Datagrams.{server_header, client_header, sequence_end}
+use Rattle.q3_chan.specs.Checks.{check_for}
+use Rattle.q3_chan.specs.Datagrams.{server_form, client_form, server_header, client_header, sequence_end}
 use Rattle.q3_chan.specs.Sending.{started, next_of}
 use Rattle.q3_chan.specs.Gathering.{Gathering}
 use Rattle.q3_chan.specs.Laws.{IsSendable, EndsSend}
@@ -77,13 +77,13 @@ no_area = record { bytes = All-nil (λ (byte : ℕ). byte < 256); short = omega 
 
 -- of a client that just joined
 pub KeepsSlot-new : StaysOutgoing → (profile : Profile) (challenge qport : ℕ) (address : Address) → EndsSend → IsHeld profile zero_player
-    → KeepsSlot profile (new_slot challenge qport address) qport address.host [] [] []
+    → KeepsSlot profile (new_slot profile.protocol challenge qport address) qport address.host [] [] []
 unfolding last_time
 KeepsSlot-new stays profile challenge qport address chan first =
     record {
       qport = refl;
       host = refl;
-      sending = BeginsMessages-new Server 0 (messages_of profile []) chan;
+      sending = BeginsMessages-new (server_form (check_for profile.protocol challenge)) 0 (messages_of profile []) chan;
       player = first;
       area = no_area;
       built = λ k d lt. absurd (omega (arith, lt));
@@ -118,7 +118,7 @@ module _ (profile : Profile) (slot : SlotState) (qport host : ℕ) (built : List
       }
 
   -- a datagram came from its client's host
-  pub KeepsSlot-came : (address : Address) (g : Gathering) → address.host ≡ host → g.side ≡ slot.gathering.side → KeepsSlot profile slot qport host built run commands
+  pub KeepsSlot-came : (address : Address) (g : Gathering) → address.host ≡ host → g.form ≡ slot.gathering.form → KeepsSlot profile slot qport host built run commands
       → KeepsSlot profile (record slot { address = address; gathering = g }) qport host built run commands
   KeepsSlot-came address g from side keeps =
       record {
@@ -225,7 +225,7 @@ module _ (profile : Profile) (slot : SlotState) (qport host : ℕ) (built : List
       record {
         qport = keeps.qport;
         host = keeps.host;
-        sending = BeginsMessages-handed server_header (messages_of profile built) (length built) slot.sending chan keeps.sending;
+        sending = BeginsMessages-handed (server_header (check_for profile.protocol slot.challenge)) (messages_of profile built) (length built) slot.sending chan keeps.sending;
         player = keeps.player;
         area = keeps.area;
         built = keeps.built;
@@ -249,11 +249,11 @@ next_number map slot = of_active (is_active slot.stage)
     of_active true = refl
     of_active false = refl
 
-pub next_base : ServerLaws → (map : MapState) (frames : FramesState) (c : ℕ) (slot : SlotState) (began : List Built) → slot.sending.number ≡ length began
-    → AreOfBuilt frames c began → (0 < asked slot → HasSnapshot began (asked slot)) → IfSome (begun_next map frames c slot).base (BaseIs (slot.sending.number + 1) (asked slot) began)
-next_base laws map frames c slot began begun are has =
+pub next_base : ServerLaws → (profile : Profile) (map : MapState) (frames : FramesState) (c : ℕ) (slot : SlotState) (began : List Built) → slot.sending.number ≡ length began
+    → AreOfBuilt frames c began → (0 < asked slot → HasSnapshot began (asked slot)) → IfSome (begun_next profile map frames c slot).base (BaseIs (slot.sending.number + 1) (asked slot) began)
+next_base laws profile map frames c slot began begun are has =
     let number = next_number map slot in
-    if_some (begun_next map frames c slot).base (BaseIs (slot.sending.number + 1) (asked slot) began)
+    if_some (begun_next profile map frames c slot).base (BaseIs (slot.sending.number + 1) (asked slot) began)
     (λ base is. subst (λ (n : ℕ). BaseIs n (asked slot) began base) number
     (found_base laws frames c (asked slot) began (next_snapshot map slot) base (omega (arith, begun, number)) are has
     (subst (λ (n : ℕ). base_of (build_at frames c (next_snapshot map slot)) c n (asked slot) ≡ Some base) (sym number) is)))
@@ -287,7 +287,7 @@ KeepsSlot-begun profile slot qport host built run commands next chan fits is sen
     record {
       qport = keeps.qport;
       host = keeps.host;
-      sending = BeginsMessages-started server_header (messages_of profile built) (messages_of profile more) (length built) (length more) slot.sending (built_bytes profile next) chan
+      sending = BeginsMessages-started (server_header (check_for profile.protocol slot.challenge)) (messages_of profile built) (messages_of profile more) (length built) (length more) slot.sending (built_bytes profile next) chan
           (omega (arith, longer)) fits (messages_stay profile built (next ∷ [])) last sendable keeps.sending;
       player = keeps.player;
       area = keeps.area;
@@ -316,7 +316,7 @@ KeepsClient-new stays profile challenge qport dup first chan fits =
       ring = refl;
       from = refl;
       fits = fits;
-      sending = BeginsMessages-new Client qport (messages_said profile []) chan;
+      sending = BeginsMessages-new (client_form (check_for profile.protocol challenge)) qport (messages_said profile []) chan;
       said = λ k d lt. absurd (omega (arith, lt));
       last = refl;
       rise = tt;
@@ -332,7 +332,7 @@ client_begun profile client = record client { sending = started client.sending (
 
 module _ (profile : Profile) (client : ClientState) (qport : ℕ) (said : List Said) (issued : List Move) (commands : List (List ℕ)) where
   -- a datagram came, and with it a message, if one did; a gamestate wipes the moves
-  pub KeepsClient-took : (g : Gathering) (state : AppliedState) (message : List ℕ) (window : OutgoingState) (delta game : Bool) → IsApplied state → IsOutgoing window → g.side ≡ client.gathering.side → state.profile ≡ client.state.profile
+  pub KeepsClient-took : (g : Gathering) (state : AppliedState) (message : List ℕ) (window : OutgoingState) (delta game : Bool) → IsApplied state → IsOutgoing window → g.form ≡ client.gathering.form → state.profile ≡ client.state.profile
       → state.held.ring ≡ client.state.held.ring → KeepsClient profile client qport said issued commands
       → KeepsClient profile (record client { gathering = g; state = state; message = message; issued = window; delta = delta; moves = moves_behind game client.moves }) qport said issued commands
   KeepsClient-took g state message window delta game applied is side by ring keeps =
@@ -366,7 +366,7 @@ module _ (profile : Profile) (client : ClientState) (qport : ℕ) (said : List S
         ring = keeps.ring;
         from = keeps.from;
         fits = keeps.fits;
-        sending = BeginsMessages-handed (client_header qport) (messages_said profile said) (length said) client.sending chan keeps.sending;
+        sending = BeginsMessages-handed (client_header (check_for profile.protocol client.challenge) qport) (messages_said profile said) (length said) client.sending chan keeps.sending;
         said = keeps.said;
         last = keeps.last;
         rise = keeps.rise;
@@ -435,7 +435,7 @@ module _ (profile : Profile) (client : ClientState) (qport : ℕ) (said : List S
         ring = keeps.ring;
         from = keeps.from;
         fits = keeps.fits;
-        sending = BeginsMessages-started (client_header qport) (messages_said profile said) (messages_said profile (said ++ next ∷ [])) (length said) (length (said ++ next ∷ [])) client.sending (said_bytes profile next) chan
+        sending = BeginsMessages-started (client_header (check_for profile.protocol client.challenge) qport) (messages_said profile said) (messages_said profile (said ++ next ∷ [])) (length said) (length (said ++ next ∷ [])) client.sending (said_bytes profile next) chan
             (omega (arith, longer)) fits (messages_said_stay profile said (next ∷ [])) last sendable keeps.sending;
         said = each_more (λ (k : ℕ) (s : Said). IsSaid profile client.challenge s) said next keeps.said is;
         last = keeps.last;

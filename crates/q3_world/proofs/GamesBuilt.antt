@@ -55,7 +55,7 @@ no_carries : (n : ℕ) (game : Gamestate) → Carries [] n game → ⊥
 no_carries n game is = let some = is.some in let begun = is.begun in omega (arith, some, begun)
 
 pub AreMapped-new : (profile : Profile) (challenge qport : ℕ) (address : Address) (map : MapState)
-    → AreMapped map (standing_of (new_slot challenge qport address)) (new_state profile) 0 0 [] [] [] [] []
+    → AreMapped map (standing_of (new_slot profile.protocol challenge qport address)) (new_state profile) 0 0 [] [] [] [] []
 AreMapped-new profile challenge qport address map =
     record {
       of_maps = record {

@@ -54,6 +54,7 @@ Holds-given profile whole c slot player area lt found held is holds =
         of_slot = KeepsSlot-given profile slot history.qport history.host history.built history.run history.server_commands player area (held keeps.of_slot.player) (is keeps.of_slot.area) keeps.of_slot;
         of_client = keeps.of_client;
         challenge = keeps.challenge;
+        joined = keeps.joined;
         host = keeps.host;
       };
       joined = record {
@@ -93,7 +94,7 @@ Holds-issued profile whole c slot place one lt is later game had mapped holds =
     let noted = record history { issued = history.issued ++ one ∷ [] } in
     let keeps = had.keeps in
     let joined = had.joined in
-    let grows = HistoryGrows-beside history noted refl refl refl refl in
+    let grows = HistoryGrows-beside history noted refl refl refl refl refl in
     Holds-client profile whole c slot place next noted whole.sent lt had
     (record {
       host = refl;
@@ -101,7 +102,7 @@ Holds-issued profile whole c slot place one lt is later game had mapped holds =
       map_is = holds.facts.map;
       stays = λ s e h joined. joined;
       grows = grows;
-      keeps = record { of_slot = keeps.of_slot; of_client = KeepsClient-issued profile place.client history.qport history.said history.issued history.client_commands one is later keeps.of_client; challenge = keeps.challenge; host = keeps.host };
+      keeps = record { of_slot = keeps.of_slot; of_client = KeepsClient-issued profile place.client history.qport history.said history.issued history.client_commands one is later keeps.of_client; challenge = keeps.challenge; joined = keeps.joined; host = keeps.host };
       joined = record {
         of_client = TakesBuilt-same profile place.client next history.built history.accepted (accepted_since history.games history.accepted) refl refl refl refl joined.of_client;
         of_slot = TakesSaid-issued profile slot history.said history.issued history.run one joined.of_slot;

@@ -1,8 +1,9 @@
 -- What was begun only grows.
-use Rattle.std.proofs.Common.{◌≡◌, ℕ, zero, suc, ◌-◌, ◌<◌, ◌≤◌, List, [], ◌∷◌, ◌++◌, length, get_or, Some, refl, sym, ap, subst, ◌∙◌, inl, inr, arith}
+use Rattle.std.proofs.Common.{◌+◌, ◌≡◌, ℕ, zero, suc, ◌-◌, ◌<◌, ◌≤◌, List, [], ◌∷◌, ◌++◌, length, get_or, Some, refl, sym, ap, subst, ◌∙◌, inl, inr, arith}
 use Rattle.std.proofs.lemmas.List.{append-nil, length-append, length_push, get_or_append_left, get_or_push, set-get_or}
 use Rattle.std.proofs.lemmas.Bool.{cases_eq, cases_lt}
 use Rattle.q3_profile.specs.declared.profile.Profile.{Profile}
+use Rattle.q3_chan.specs.Checks.{check_for}
 use Rattle.q3_chan.specs.Datagrams.{Header, server_header, client_header, piece_count, datagram}
 use Rattle.q3_ring.specs.Snapshot.{Snapshot}
 use Rattle.q3_built.specs.Built.{Built, built_bytes}
@@ -40,32 +41,34 @@ messages_said_stay profile said more (suc number) few = ap (said_bytes profile) 
 
 -- ---- histories
 
--- of a client more may have been begun; by which qport and from which host it sends stays, once it said something
+-- of a client more may have been begun; by which qport and from which host it sends stays, once it said something, and so does its
+-- challenge, once something was begun
 pub record HistoryGrows (old new : History) : Type 0 where
+  pub challenge : 1 ≤ length old.built + length old.said → new.challenge ≡ old.challenge
   pub qport : 1 ≤ length old.said → new.qport ≡ old.qport
   pub host : 1 ≤ length old.said → new.host ≡ old.host
   pub built : (more : List Built) × (new.built ≡ old.built ++ more)
   pub said : (more : List Said) × (new.said ≡ old.said ++ more)
 
 pub HistoryGrows-same : (history : History) → HistoryGrows history history
-HistoryGrows-same history = record { qport = λ some. refl; host = λ some. refl; built = ([], sym (append-nil history.built)); said = ([], sym (append-nil history.said)) }
+HistoryGrows-same history = record { challenge = λ some. refl; qport = λ some. refl; host = λ some. refl; built = ([], sym (append-nil history.built)); said = ([], sym (append-nil history.said)) }
 
 -- where nothing of these changes
-pub HistoryGrows-beside : (old new : History) → new.qport ≡ old.qport → new.host ≡ old.host → new.built ≡ old.built → new.said ≡ old.said → HistoryGrows old new
-HistoryGrows-beside old new qport host built said =
-    record { qport = λ some. qport; host = λ some. host; built = ([], built ∙ sym (append-nil old.built)); said = ([], said ∙ sym (append-nil old.said)) }
+pub HistoryGrows-beside : (old new : History) → new.challenge ≡ old.challenge → new.qport ≡ old.qport → new.host ≡ old.host → new.built ≡ old.built → new.said ≡ old.said → HistoryGrows old new
+HistoryGrows-beside old new challenge qport host built said =
+    record { challenge = λ some. challenge; qport = λ some. qport; host = λ some. host; built = ([], built ∙ sym (append-nil old.built)); said = ([], said ∙ sym (append-nil old.said)) }
 
 pub HistoryGrows-built : (history : History) (built : Built) → HistoryGrows history (with_built history (Some built))
-HistoryGrows-built history built = record { qport = λ some. refl; host = λ some. refl; built = (built ∷ [], refl); said = ([], sym (append-nil history.said)) }
+HistoryGrows-built history built = record { challenge = λ some. refl; qport = λ some. refl; host = λ some. refl; built = (built ∷ [], refl); said = ([], sym (append-nil history.said)) }
 
 pub HistoryGrows-said : (history : History) (said : Said) → HistoryGrows history (with_said history (Some said))
-HistoryGrows-said history said = record { qport = λ some. refl; host = λ some. refl; built = ([], sym (append-nil history.built)); said = (said ∷ [], refl) }
+HistoryGrows-said history said = record { challenge = λ some. refl; qport = λ some. refl; host = λ some. refl; built = ([], sym (append-nil history.built)); said = (said ∷ [], refl) }
 
 -- a client that joins said nothing before
 pub HistoryGrows-joined : (history new : History) → history ≡ no_history → HistoryGrows history new
 HistoryGrows-joined history new is =
     subst (λ (h : History). HistoryGrows h new) (sym is)
-    (record { qport = λ some. absurd (omega (arith, some)); host = λ some. absurd (omega (arith, some)); built = (new.built, refl); said = (new.said, refl) })
+    (record { challenge = λ some. absurd (omega (arith, some)); qport = λ some. absurd (omega (arith, some)); host = λ some. absurd (omega (arith, some)); built = (new.built, refl); said = (new.said, refl) })
 
 -- of each client
 abbrev pub Grow : List History → List History → Type 0
@@ -105,19 +108,25 @@ piece_stays header messages messages' last last' tag le stay is =
 way_stays : (profile : Profile) (old new : History) (tag : Tag) (direction : Direction) → HistoryGrows old new → IsWay profile old tag direction → IsWay profile new tag direction
 way_stays profile old new tag ToClient grows is =
     let grown = grows.built in
-    subst (λ (b : List Built). IsPiece server_header (messages_of profile b) (length b) tag) (sym grown.1)
-    (piece_stays server_header (messages_of profile old.built) (messages_of profile (old.built ++ grown.0)) (length old.built) (length (old.built ++ grown.0)) tag
-    (omega (arith, length-append old.built grown.0)) (messages_stay profile old.built grown.0) is)
+    let first = is.some in
+    let begun = is.begun in
+    let header : ℕ → Header = λ challenge. server_header (check_for profile.protocol challenge) in
+    subst (λ (challenge : ℕ). IsPiece (header challenge) (messages_of profile new.built) (length new.built) tag) (sym (grows.challenge (omega (arith, first, begun))))
+    (subst (λ (b : List Built). IsPiece (header old.challenge) (messages_of profile b) (length b) tag) (sym grown.1)
+    (piece_stays (header old.challenge) (messages_of profile old.built) (messages_of profile (old.built ++ grown.0)) (length old.built) (length (old.built ++ grown.0)) tag
+    (omega (arith, length-append old.built grown.0)) (messages_stay profile old.built grown.0) is))
 way_stays profile old new tag (ToServer from) grows is =
     let grown = grows.said in
     let first = is.1.some in
     let begun = is.1.begun in
-    let some : 1 ≤ length old.said = omega (arith, first, begun) in (
+    let some : 1 ≤ length old.said = omega (arith, first, begun) in
+    let header : ℕ → ℕ → Header = λ challenge qport. client_header (check_for profile.protocol challenge) qport in (
       is.0 ∙ sym (grows.host some),
-      subst (λ (q : ℕ). IsPiece (client_header q) (messages_said profile new.said) (length new.said) tag) (sym (grows.qport some))
-          (subst (λ (s : List Said). IsPiece (client_header old.qport) (messages_said profile s) (length s) tag) (sym grown.1)
-          (piece_stays (client_header old.qport) (messages_said profile old.said) (messages_said profile (old.said ++ grown.0)) (length old.said) (length (old.said ++ grown.0)) tag
-          (omega (arith, length-append old.said grown.0)) (messages_said_stay profile old.said grown.0) is.1)),
+      subst (λ (q : ℕ). IsPiece (header new.challenge q) (messages_said profile new.said) (length new.said) tag) (sym (grows.qport some))
+          (subst (λ (challenge : ℕ). IsPiece (header challenge old.qport) (messages_said profile new.said) (length new.said) tag) (sym (grows.challenge (omega (arith, some))))
+          (subst (λ (s : List Said). IsPiece (header old.challenge old.qport) (messages_said profile s) (length s) tag) (sym grown.1)
+          (piece_stays (header old.challenge old.qport) (messages_said profile old.said) (messages_said profile (old.said ++ grown.0)) (length old.said) (length (old.said ++ grown.0)) tag
+          (omega (arith, length-append old.said grown.0)) (messages_said_stay profile old.said grown.0) is.1))),
     )
 
 abbrev pub AllSent : Profile → List History → List Tag → Type 0

@@ -23,14 +23,14 @@ use Rattle.q3_config.specs.Laws.{piece_texts}
 use Rattle.q3_window.specs.Outgoing.{IsOutgoing, fits as has_room, total_of, with_texts}
 use Rattle.q3_clmsg.specs.declared.moves.Move.{Move}
 use Rattle.q3_clmsg.specs.Moves.{IsHeldMove}
-use Rattle.q3_client.specs.Client.{ClientState}
+use Rattle.q3_client.specs.Client.{new_client, ClientState}
 use Rattle.q3_client.specs.declared.client.MoveError.{MoveError}
 use Rattle.q3_client.specs.declared.client.MoveError.TheVariants.{NoGame, NotLater, Range}
 use Rattle.q3_client.specs.Moves.{Handed as HandedMove, is_issuable, issue}
 use Rattle.q3_map.specs.declared.map.Late.{Late}
 use Rattle.q3_map.specs.Map.{MapState, Handed as HandedMap, after_new_map, set_baseline_at, with_config, with_entity, without_entity}
 use Rattle.q3_built.specs.Built.{Built, IsHeld, IsArea}
-use Rattle.q3_slot.specs.Slot.{SlotState, is_connected, is_of, on_new_map, with_player}
+use Rattle.q3_slot.specs.Slot.{new_slot, SlotState, is_connected, is_of, on_new_map, with_player}
 use Rattle.q3_slot.specs.Slots.{changes_own, lacks_room, tells}
 use Rattle.q3_server.specs.declared.server.ConfigRefused.{ConfigRefused}
 use Rattle.q3_server.specs.declared.server.ConfigRefused.TheVariants.{Own}
@@ -51,7 +51,7 @@ use Rattle.q3_world.proofs.MoveLists.{is_move}
 use Rattle.q3_world.proofs.Growth.{Grow, HistoryGrows, HistoryGrows-same, HistoryGrows-beside}
 use Rattle.q3_world.proofs.Clients.{no_area, KeepsSlot-told}
 use Rattle.q3_world.proofs.Joined.{TakesSaid-same}
-use Rattle.q3_world.proofs.Holding.{Holds, has_client, Holds-new, same_server}
+use Rattle.q3_world.proofs.Holding.{with_new, Holds, has_client, Holds-new, same_server}
 use Rattle.q3_world.proofs.Given.{with_new_slot, Holds-player, Holds-area, with_map, Holds-map, joined_stays, Holds-issued}
 use Rattle.q3_world.proofs.EverySlot.{LeavesClient, Holds-every}
 use Rattle.q3_world.proofs.Maps.{MayGoOut, may_go_out, pieces_own}
@@ -73,15 +73,16 @@ abbrev pub noting : Whole → ℕ → EndsStep → (Answered → History) → Wh
 noting whole c step note = (with_noted whole (with_history whole.histories c (note step.answer)) step).whole
 
 pub holds_join : (profile : Profile) (whole : Whole) (c challenge qport dup : ℕ) (address : Address) → Cited profile → c < places → qport < 2 ^ 16 → Holds profile whole
-    → Holds profile (noting whole c (join profile whole.ends c challenge qport dup address) (with_joined (history_at whole.histories c) qport address))
+    → Holds profile (noting whole c (join profile whole.ends c challenge qport dup address) (with_joined (history_at whole.histories c) challenge qport address))
 holds_join profile whole c challenge qport dup address cited lt fits holds =
     let slots = whole.ends.server.slots in
     let within : nat_le (length slots) c ≡ false = lt-leb (length slots) c (omega (arith, lt, holds.facts.slots)) in
     rw within (elim (found_or (slot_at whole.ends.server c)) [
       | inl none ↦ rw none (elim (found_or (position (is_of address.host qport) slots)) [
         | inl alone ↦
-            rw alone (Holds-new cited.rings cited.windows profile whole c challenge qport dup address cited.ring cited.sends cited.gathers cited.first cited.zero lt fits none alone
-            (AreMapped-new profile challenge qport address whole.ends.server.map) holds)
+            rw alone (subst (λ (p : Profile). Holds profile (with_new whole c challenge qport address (new_slot p.protocol challenge qport address) (new_client profile challenge qport dup))) (sym holds.facts.by)
+            (Holds-new cited.rings cited.windows profile whole c challenge qport dup address cited.ring cited.sends cited.gathers cited.first cited.zero lt fits none alone
+            (AreMapped-new profile challenge qport address whole.ends.server.map) holds))
         | inr twin ↦ rw twin.1 (unnoted profile whole c holds)
       ])
       | inr found ↦ rw found.1 (unnoted profile whole c holds)
@@ -193,6 +194,7 @@ holds_new_map profile whole id feed cited least short holds =
                   of_slot = slot_on_map profile slot history.qport history.host history.built history.run history.server_commands cited.zero keeps.of_slot;
                   of_client = keeps.of_client;
                   challenge = keeps.challenge;
+                  joined = keeps.joined;
                   host = keeps.host;
                 };
             joins = λ c slot place lt had. joined_on_map profile map slot place.client (history_at whole.histories c) id feed (leb-false id map.id later) had.joined;
@@ -252,7 +254,7 @@ told_grows server texts histories count c =
     elim (cases_lt c places) [
       | inl lt ↦
           subst (HistoryGrows (history_at histories c)) (sym (told_at server texts histories c lt))
-          (HistoryGrows-beside (history_at histories c) (told_history texts (slot_at server c) (history_at histories c)) refl refl refl refl)
+          (HistoryGrows-beside (history_at histories c) (told_history texts (slot_at server c) (history_at histories c)) refl refl refl refl refl)
       | inr past ↦
           let many = told_count server texts histories in
           let before : history_at histories c ≡ no_history = get_or_past histories c no_history (omega (arith, past, count)) in
@@ -286,6 +288,7 @@ module _ (laws : WindowLaws) (profile : Profile) (slot : SlotState) (client : Cl
                   (laws.stays.tells slot.issued texts keeps.of_slot.window (has_room_of texts slot begun lacks) are) are own keeps.of_slot;
               of_client = keeps.of_client;
               challenge = keeps.challenge;
+              joined = keeps.joined;
               host = keeps.host;
             })
       ]

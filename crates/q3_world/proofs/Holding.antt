@@ -130,28 +130,28 @@ Holds-at profile c old new differ client joined holds =
 -- ---- a client joins
 
 -- the world with a client that sends from an address
-abbrev pub with_new : Whole → ℕ → ℕ → Address → SlotState → ClientState → Whole
-with_new whole c qport address slot client =
+abbrev pub with_new : Whole → ℕ → ℕ → ℕ → Address → SlotState → ClientState → Whole
+with_new whole c challenge qport address slot client =
     record whole {
       ends = record {
         server = with_slot whole.ends.server c slot;
         clients = slice_set whole.ends.clients c (Some (record { client = client; address = address; recording = None }));
       };
-      histories = with_history whole.histories c (record (history_at whole.histories c) { qport = qport; host = address.host });
+      histories = with_history whole.histories c (record (history_at whole.histories c) { challenge = challenge; qport = qport; host = address.host });
     }
 
 pub Holds-new : RingLaws → WindowLaws → (profile : Profile) (whole : Whole) (c challenge qport dup : ℕ) (address : Address) → 512 ≤ profile.parse_ring → EndsSend → EndsGather → IsApplied (new_state profile) → IsHeld profile zero_player → c < places
     → qport < 2 ^ 16 → slot_at whole.ends.server c ≡ None → position (is_of address.host qport) whole.ends.server.slots ≡ None
-    → AreMapped whole.ends.server.map (standing_of (new_slot challenge qport address)) (new_state profile) 0 0 [] [] [] [] [] → Holds profile whole
-    → Holds profile (with_new whole c qport address (new_slot challenge qport address) (new_client profile challenge qport dup))
+    → AreMapped whole.ends.server.map (standing_of (new_slot profile.protocol challenge qport address)) (new_state profile) 0 0 [] [] [] [] [] → Holds profile whole
+    → Holds profile (with_new whole c challenge qport address (new_slot profile.protocol challenge qport address) (new_client profile challenge qport dup))
 Holds-new laws windows profile whole c challenge qport dup address ring sends gathers applied first lt fits none alone mapped holds =
     let facts = holds.facts in
     let ends = whole.ends in
     let slots = ends.server.slots in
-    let slot = new_slot challenge qport address in
+    let slot = new_slot profile.protocol challenge qport address in
     let client = new_client profile challenge qport dup in
     let history = history_at whole.histories c in
-    let there = record history { qport = qport; host = address.host } in
+    let there = record history { challenge = challenge; qport = qport; host = address.host } in
     let place : Place = record { client = client; address = address; recording = None } in
     let history_is : history ≡ no_history =
     no_client profile (place_at ends c) history
@@ -159,23 +159,24 @@ Holds-new laws windows profile whole c challenge qport dup address ring sends ga
     let slot_is = set_there slots c None (Some slot) facts.slots lt in
     let place_is = set_there ends.clients c None (Some place) facts.clients lt in
     let noted = set_there whole.histories c no_history there facts.histories lt in
-    let keeps : AreEnds profile slot client address there = subst (λ (h : History). AreEnds profile slot client address (record h { qport = qport; host = address.host })) (sym history_is)
+    let keeps : AreEnds profile slot client address there = subst (λ (h : History). AreEnds profile slot client address (record h { challenge = challenge; qport = qport; host = address.host })) (sym history_is)
     (record {
       of_slot = KeepsSlot-new windows.stays profile challenge qport address sends first;
       of_client = KeepsClient-new windows.stays profile challenge qport dup applied sends fits;
       challenge = refl;
+      joined = refl;
       host = refl;
     }) in
-    let joins : AreJoined profile ends.server.map slot client there = subst (λ (h : History). AreJoined profile ends.server.map slot client (record h { qport = qport; host = address.host })) (sym history_is)
+    let joins : AreJoined profile ends.server.map slot client there = subst (λ (h : History). AreJoined profile ends.server.map slot client (record h { challenge = challenge; qport = qport; host = address.host })) (sym history_is)
     (record {
       of_client = TakesBuilt-new laws profile challenge qport dup gathers ring;
       of_slot = TakesSaid-new profile challenge qport address gathers;
-      asked = AreAsked-new challenge qport address;
+      asked = AreAsked-new profile.protocol challenge qport address;
       commanded = record { to_client = windows.flow.opens; to_server = windows.flow.opens };
       mapped = mapped;
       since = AreSince-new;
     }) in
-    Holds-at profile c whole (with_new whole c qport address slot client)
+    Holds-at profile c whole (with_new whole c challenge qport address slot client)
     (record {
       by = refl;
       own = refl;

@@ -9,7 +9,8 @@ use Rattle.std.proofs.lemmas.Bool.{cases_lt}
 use Rattle.q3_profile.specs.declared.profile.Profile.{Profile}
 use Rattle.q3_io.specs.declared.address.Address.{Address}
 use Rattle.q3_entity.specs.Entities.{most_entities}
-use Rattle.q3_chan.specs.declared.side.Side.TheVariants.{Server, Client}
+use Rattle.q3_chan.specs.Checks.{check_for}
+use Rattle.q3_chan.specs.Datagrams.{server_form, client_form}
 use Rattle.q3_chan.specs.Gathering.{Gathering}
 use Rattle.q3_chan.specs.Laws.{Gathers, EndsGather}
 use Rattle.q3_clmsg.specs.declared.moves.Move.{Move}
@@ -44,16 +45,16 @@ TakesBuilt-new laws profile challenge qport dup chan ring =
       below = omega arith;
       most = All-nil _;
       asks = (λ asks. absurd cc, λ was. absurd (All-contains (λ (s : Snapshot). ⊥) [] was.0 (All-nil (λ (s : Snapshot). ⊥)) was.1));
-      gathers = chan.begin (messages_of profile []) 0 Server;
+      gathers = chan.begin (messages_of profile []) 0 (server_form (check_for profile.protocol challenge));
       legible = refl;
     }
 
-pub AreAsked-new : (challenge qport : ℕ) (address : Address) → AreAsked (new_slot challenge qport address) [] [] []
-AreAsked-new challenge qport address = record { asks = All-nil _; delta = inl refl; bases = All-nil _ }
+pub AreAsked-new : (protocol challenge qport : ℕ) (address : Address) → AreAsked (new_slot protocol challenge qport address) [] [] []
+AreAsked-new protocol challenge qport address = record { asks = All-nil _; delta = inl refl; bases = All-nil _ }
 
-pub TakesSaid-new : (profile : Profile) (challenge qport : ℕ) (address : Address) → EndsGather → TakesSaid profile (new_slot challenge qport address) [] [] []
+pub TakesSaid-new : (profile : Profile) (challenge qport : ℕ) (address : Address) → EndsGather → TakesSaid profile (new_slot profile.protocol challenge qport address) [] [] []
 TakesSaid-new profile challenge qport address chan =
-    record { gathers = chan.begin (messages_said profile []) 0 Client; ran = All-nil (Contains []) }
+    record { gathers = chan.begin (messages_said profile []) 0 (client_form (check_for profile.protocol challenge)); ran = All-nil (Contains []) }
 
 -- another state of the client that takes as it did
 pub TakesBuilt-same : (profile : Profile) (client next : ClientState) (built : List Built) (accepted since : List Snapshot) → next.gathering ≡ client.gathering → next.state ≡ client.state

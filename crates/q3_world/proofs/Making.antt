@@ -1,5 +1,5 @@
 -- Both ends make datagrams by bytes as by tags.
-use Rattle.std.proofs.Common.{◌≡◌, ℕ, ◌+◌, ◌^◌, ◌<◌, Bool, false, List, length, Option, Some, None, Ok, refl, sym, subst, ◌∙◌, inl, inr, arith}
+use Rattle.std.proofs.Common.{IfSome, ◌≡◌, ℕ, ◌+◌, ◌^◌, ◌<◌, Bool, false, List, length, Option, Some, None, Ok, refl, sym, subst, ◌∙◌, inl, inr, arith}
 use Rattle.std.specs.Prelude.{map, nat_le, nat_lt, ◌%◌, ◌≤◌, bit_xor, true}
 use Rattle.std.proofs.lemmas.List.{length-map, map_push, set-set}
 use Rattle.std.proofs.lemmas.Bool.{cases_Bool, cond_both, leb-false, ltb-false}
@@ -10,9 +10,10 @@ use Rattle.q3_svmsg.specs.declared.error.Illegible.{Illegible}
 use Rattle.q3_chan.specs.Datagrams.{sequence_end, longest_message}
 use Rattle.q3_chan.specs.Sending.{UnderWay}
 use Rattle.q3_chan.specs.Laws.{IsSendable}
+use Rattle.q3_chan.specs.Checks.{is_checked}
 use Rattle.q3_chan.specs.declared.side.Side.{Side}
 use Rattle.q3_chan.specs.declared.side.Side.TheVariants.{Server, Client}
-use Rattle.q3_chan.specs.Keys.{Key, side_scrambled}
+use Rattle.q3_chan.specs.Keys.{start_by, Key, side_scrambled}
 use Rattle.q3_text.specs.Texts.{IsText}
 use Rattle.q3_slot.specs.declared.answer.Emitted.{Emitted}
 use Rattle.q3_slot.specs.declared.answer.Emitted.TheVariants as emitted
@@ -67,7 +68,7 @@ quiet profile whole c server answer same_as holds =
     (record { same = rw count refl; holds = unnoted profile whole c holds })
 
 -- a message of a length that fits is one that may be sent
-pub sendable : ScramblingLaws → (bits : List Bool) (side : Side) (key : Key) → MessageIsBytes → key.start < 2 ^ 8 → IsText key.text
+pub sendable : ScramblingLaws → (bits : List Bool) (side : Side) (key : Key) → MessageIsBytes → IfSome key.start (λ start. start < 2 ^ 8) → IsText key.text
     → nat_lt longest_message (message_length (length bits)) ≡ false → IsSendable (side_scrambled side key (message_bytes bits))
 sendable laws bits side key law begins is fits =
     let bytes = law bits in
@@ -79,9 +80,10 @@ sendable laws bits side key law begins is fits =
       bytes = laws.bytes side key (message_bytes bits) begins is bytes.1;
     }
 
--- keys start from a byte
-low_byte : (number : ℕ) → number % 256 < 2 ^ 8
-low_byte number = omega arith
+-- keys start from a byte, if they do
+low_byte : (protocol number : ℕ) → IfSome (start_by protocol (number % 256)) (λ start. start < 2 ^ 8)
+low_byte protocol number =
+    cond_both (is_checked protocol) None (Some (number % 256)) (λ (o : Option ℕ). IfSome o (λ start. start < 2 ^ 8)) (λ e. tt) (λ e. omega arith)
 
 -- a client as the server keeps it: one for which no gamestate was begun is connected, and one is owed on a map alone
 is_joined : (profile : Profile) (whole : Whole) (c : ℕ) (slot : SlotState) (place : Place) → Has profile whole c slot place → server_has.IsJoined profile whole.ends.server.map.id slot
@@ -98,7 +100,7 @@ slot_stands profile slot window area names = record { window = window; executed 
 -- the message with the next snapshot is one that a server builds
 next_is_built : (profile : Profile) (whole : Whole) (c : ℕ) (slot : SlotState) (place : Place) → Cited profile → c < places → Has profile whole c slot place
     → slot.sending.number + 1 < sequence_end → is_unclear profile slot.executed.executed ≡ false → Holds profile whole
-    → IsBuilt profile slot.challenge (slot.sending.number + 1) (begun_next whole.ends.server.map whole.ends.server.frames c slot)
+    → IsBuilt profile slot.challenge (slot.sending.number + 1) (begun_next profile whole.ends.server.map whole.ends.server.frames c slot)
 next_is_built profile whole c slot place cited lt had fits clear holds =
     let map = whole.ends.server.map in
     let frames = whole.ends.server.frames in
@@ -113,13 +115,13 @@ next_is_built profile whole c slot place cited lt had fits clear holds =
 pub served_built : (profile : Profile) (whole : Whole) (c : ℕ) (slot : SlotState) → Cited profile → c < places → slot_at whole.ends.server c ≡ Some slot
     → slot.sending.number + 1 < sequence_end → is_unclear profile slot.executed.executed ≡ false → Holds profile whole
     → Served profile whole c (emission_at whole.ends.server c (emit_built profile slot whole.ends.server.map (next_frames whole.ends.server.map whole.ends.server.frames c slot)
-    (begun_next whole.ends.server.map whole.ends.server.frames c slot)))
+    (begun_next profile whole.ends.server.map whole.ends.server.frames c slot)))
 served_built profile whole c slot cited lt is fits clear holds =
     let server = whole.ends.server in
     let map = server.map in
     let frames = server.frames in
     let history = history_at whole.histories c in
-    let next = begun_next map frames c slot in
+    let next = begun_next profile map frames c slot in
     let bits = built_bits profile next in
     let first : UnderWay = record { message = built_bytes profile next; next = 0 } in
     let had = has_slot profile whole c slot lt is holds in
@@ -130,9 +132,9 @@ served_built profile whole c slot cited lt is fits clear holds =
     let number = next_number map slot in
     let are = holds.facts.frames.each c lt in
     let has = asked_has slot history.said history.built history.accepted joined.of_client.accepted joined.asked in
-    let base = next_base cited.server map frames c slot history.built begun are has in
+    let base = next_base cited.server profile map frames c slot history.built begun are has in
     let names = executed_by_slot profile slot client history had.1.keeps.of_client joined.commanded in
-    let may = sendable cited.scrambles bits Server next.key cited.bytes (low_byte (bit_xor slot.challenge (slot.sending.number + 1))) names.text in
+    let may = sendable cited.scrambles bits Server next.key cited.bytes (low_byte profile.protocol (bit_xor slot.challenge (slot.sending.number + 1))) names.text in
     let count = length-map whole.sent bytes_of in
     elim (cases_Bool (nat_lt longest_message (message_length (length bits)))) [
       | inl long ↦ rw long (record { same = rw count refl; holds = Holds-too_long cited.server profile whole c slot lt is holds })
@@ -140,7 +142,7 @@ served_built profile whole c slot cited lt is fits clear holds =
           let pushed = map_push bytes_of whole.sent (handed_tag c (slot_begun profile slot next) first) in
           let built = next_is_built profile whole c slot place cited lt had.1 fits clear holds in
           let kept = KeepsFrames-built cited.server frames whole.histories c (with_built history (Some next)) (next_snapshot map slot) lt holds.facts.histories
-          (frames_begun cited.server frames c history.built (telling_of slot) map.lines next.base (next_snapshot map slot) (omega (arith, begun, number)) are) holds.facts.frames in
+          (frames_begun cited.server frames c history.built (telling_of profile slot) map.lines next.base (next_snapshot map slot) (omega (arith, begun, number)) are) holds.facts.frames in
           let mapped = mapped_snapshot map slot client history next (has_snapshot next refl) refl refl (asked_base slot next history.built (slot.sending.number + 1) base) joined.mapped in
           rw short (record {
             same = rw (count, pushed) refl;
@@ -152,13 +154,13 @@ served_built profile whole c slot cited lt is fits clear holds =
 -- a gamestate is begun, unless it is too long
 pub served_game : (profile : Profile) (whole : Whole) (c : ℕ) (slot : SlotState) → Cited profile → c < places → slot_at whole.ends.server c ≡ Some slot → slot.owed ≡ true
     → slot.sending.number + 1 < sequence_end → is_unclear profile slot.executed.executed ≡ false → Holds profile whole
-    → Served profile whole c (emission_at whole.ends.server c (emit_game profile slot whole.ends.server.map whole.ends.server.frames (next_game_built whole.ends.server.map c slot)))
+    → Served profile whole c (emission_at whole.ends.server c (emit_game profile slot whole.ends.server.map whole.ends.server.frames (next_game_built profile whole.ends.server.map c slot)))
 served_game profile whole c slot cited lt is owed fits clear holds =
     let server = whole.ends.server in
     let map = server.map in
     let frames = server.frames in
     let history = history_at whole.histories c in
-    let next = next_game_built map c slot in
+    let next = next_game_built profile map c slot in
     let bits = built_bits profile next in
     let n = slot.sending.number + 1 in
     let stands = primed slot n in
@@ -170,7 +172,7 @@ served_game profile whole c slot cited lt is owed fits clear holds =
     let keeps = had.1.keeps in
     let begun = keeps.of_slot.sending.begun in
     let names = executed_by_slot profile slot client history keeps.of_client joined.commanded in
-    let may = sendable cited.scrambles bits Server next.key cited.bytes (low_byte (bit_xor slot.challenge n)) names.text in
+    let may = sendable cited.scrambles bits Server next.key cited.bytes (low_byte profile.protocol (bit_xor slot.challenge n)) names.text in
     let count = length-map whole.sent bytes_of in
     elim (cases_Bool (nat_lt longest_message (message_length (length bits)))) [
       | inl long ↦ rw long (quiet profile whole c (with_slot server c slot) emitted.Overlong (same_server server c slot is) holds)
@@ -196,8 +198,8 @@ pub served_next : (profile : Profile) (whole : Whole) (c : ℕ) (slot : SlotStat
     → Served profile whole c (emission_at whole.ends.server c (emit_next profile whole.ends.server.map whole.ends.server.frames c slot))
 served_next profile whole c slot cited lt is fits clear holds =
     let server = whole.ends.server in
-    cond_both slot.owed (emit_game profile slot server.map server.frames (next_game_built server.map c slot))
-    (emit_built profile slot server.map (next_frames server.map server.frames c slot) (begun_next server.map server.frames c slot))
+    cond_both slot.owed (emit_game profile slot server.map server.frames (next_game_built profile server.map c slot))
+    (emit_built profile slot server.map (next_frames server.map server.frames c slot) (begun_next profile server.map server.frames c slot))
     (λ (emission : SlotEmission). Served profile whole c (emission_at server c emission))
     (λ owed. served_game profile whole c slot cited lt is owed fits clear holds)
     (λ none. served_built profile whole c slot cited lt is fits clear holds)
@@ -271,7 +273,7 @@ said_text profile whole c place cited lt found fits clear holds =
     let is : IsClient place.client = record { applied = keeps.applied; taken = taken_fits profile whole c place lt found holds; window = keeps.window; few = keeps.moves.few; moves = record { each = keeps.moves.each } } in
     let said_is : IsSaid profile place.client.challenge next = subst (λ (p : Profile). IsSaid p place.client.challenge next) keeps.by
     (cited.says.next place.client is (subst (λ (p : Profile). is_said_unclear p (next_message place.client) ≡ false) (sym keeps.by) clear)) in
-    let may = sendable cited.scrambles bits Client next.key cited.bytes (low_byte (bit_xor (bit_xor place.client.challenge place.client.state.id) place.client.gathering.taken)) keeps.applied.last in
+    let may = sendable cited.scrambles bits Client next.key cited.bytes (low_byte place.client.state.profile.protocol (bit_xor (bit_xor place.client.challenge place.client.state.id) place.client.gathering.taken)) keeps.applied.last in
     elim (cases_Bool (nat_lt longest_message (message_length (length bits)))) [
       | inl long ↦ rw long (silent profile whole c place answered_sent.Overlong found holds)
       | inr short ↦

@@ -16,7 +16,7 @@ use Rattle.q3_world.proofs.OnePlace.{OnlyAt-same, OnlyAt-set, set_there}
 is_ported : (profile : Profile) (slot : Option SlotState) (place : Place) (new : Address) (history : History) → new.host ≡ place.address.host → IsClient profile slot (Some place) history
     → IsClient profile slot (Some (record place { address = new })) history
 is_ported profile None place new history same is = absurd is
-is_ported profile (Some slot) place new history same is = record { of_slot = is.of_slot; of_client = is.of_client; challenge = is.challenge; host = same ∙ is.host }
+is_ported profile (Some slot) place new history same is = record { of_slot = is.of_slot; of_client = is.of_client; challenge = is.challenge; joined = is.joined; host = same ∙ is.host }
 
 joined_so : (profile : Profile) (map : MapState) (slot : Option SlotState) (place : Place) (new : Address) (history : History) → IsJoined profile map slot (Some place) history
     → IsJoined profile map slot (Some (record place { address = new })) history

@@ -147,6 +147,7 @@ with_asking profile place = record { is = asking_is; joined = asking_joined }
       of_slot = is.of_slot;
       of_client = asks_keeps profile place.client _ history.qport history.said history.issued history.client_commands is.of_client;
       challenge = is.challenge;
+      joined = is.joined;
       host = is.host;
     }
 

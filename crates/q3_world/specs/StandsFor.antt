@@ -5,8 +5,8 @@ use Rattle.std.specs.List.{last_or}
 use Rattle.q3_profile.specs.declared.profile.Profile.{Profile}
 use Rattle.q3_profile.specs.Profile.{IsCodec, IsProfile}
 use Rattle.q3_io.specs.declared.address.Address.{Address}
-use Rattle.q3_chan.specs.declared.side.Side.TheVariants.{Server, Client}
-use Rattle.q3_chan.specs.Datagrams.{Header, server_header, client_header, sequence_end, piece_count, datagram}
+use Rattle.q3_chan.specs.Checks.{check_for}
+use Rattle.q3_chan.specs.Datagrams.{Header, server_form, client_form, server_header, client_header, sequence_end, piece_count, datagram}
 use Rattle.q3_chan.specs.Sending.{Sending}
 use Rattle.q3_chan.specs.Laws.{IsSendable, Gathers, Sends}
 use Rattle.q3_text.specs.declared.text.Command.{Command}
@@ -95,12 +95,12 @@ AreOfBuilt frames c began = (number : ℕ) (snapshot : Snapshot) → held_frame 
 pub record KeepsSlot (profile : Profile) (slot : SlotState) (of_qport of_host : ℕ) (began : List Built) (ran : List Move) (commands : List (List ℕ)) : Type 0 where
   pub qport : slot.qport ≡ of_qport
   pub host : slot.address.host ≡ of_host
-  pub sending : BeginsMessages server_header (messages_of profile began) (length began) slot.sending
+  pub sending : BeginsMessages (server_header (check_for profile.protocol slot.challenge)) (messages_of profile began) (length began) slot.sending
   pub player : IsHeld profile slot.player
   pub area : IsArea slot.area.items
   pub built : (k : ℕ) (d : Built) → k < length began → IsBuilt profile slot.challenge (k + 1) (slice_index_or began k d)
   pub bases : All (λ (built : Built). IfSome built.base (WasBuilt began)) began
-  pub from : slot.gathering.side ≡ Client
+  pub from : slot.gathering.form ≡ client_form (check_for profile.protocol slot.challenge)
   pub last : last_time 0 ran ≤ slot.last_run
   pub rise : TimesRise 0 ran
   pub window : IsOutgoing slot.issued
@@ -126,9 +126,9 @@ pub record KeepsClient (profile : Profile) (client : ClientState) (of_qport : �
   pub by : client.state.profile ≡ profile
   pub applied : IsApplied client.state
   pub ring : client.state.held.ring ≡ profile.parse_ring
-  pub from : client.gathering.side ≡ Server
+  pub from : client.gathering.form ≡ server_form (check_for profile.protocol client.challenge)
   pub fits : of_qport < 2 ^ 16
-  pub sending : BeginsMessages (client_header of_qport) (messages_said profile began) (length began) client.sending
+  pub sending : BeginsMessages (client_header (check_for profile.protocol client.challenge) of_qport) (messages_said profile began) (length began) client.sending
   pub said : (k : ℕ) (d : Said) → k < length began → IsSaid profile client.challenge (slice_index_or began k d)
   pub last : client.last_time ≡ last_time 0 issued
   pub rise : TimesRise 0 issued
@@ -142,6 +142,7 @@ pub record AreEnds (profile : Profile) (slot : SlotState) (client : ClientState)
   pub of_slot : KeepsSlot profile slot history.qport history.host history.built history.run history.server_commands
   pub of_client : KeepsClient profile client history.qport history.said history.issued history.client_commands
   pub challenge : slot.challenge ≡ client.challenge
+  pub joined : slot.challenge ≡ history.challenge
   pub host : address.host ≡ history.host
 
 -- a client is at both ends or at none
@@ -159,9 +160,9 @@ pub record IsPiece (header : Header) (messages : ℕ → List ℕ) (last : ℕ) 
 
 -- of a message that was built for its client, or of one that its client began and sent from its host
 abbrev pub IsWay : Profile → History → Tag → Direction → Type 0
-IsWay profile history tag ToClient = IsPiece server_header (messages_of profile history.built) (length history.built) tag
+IsWay profile history tag ToClient = IsPiece (server_header (check_for profile.protocol history.challenge)) (messages_of profile history.built) (length history.built) tag
 IsWay profile history tag (ToServer from) =
-    (from.host ≡ history.host) × IsPiece (client_header history.qport) (messages_said profile history.said) (length history.said) tag
+    (from.host ≡ history.host) × IsPiece (client_header (check_for profile.protocol history.challenge) history.qport) (messages_said profile history.said) (length history.said) tag
 
 -- a tag names a message that was begun, and has its bytes
 pub record IsSent (profile : Profile) (histories : List History) (tag : Tag) : Type 0 where

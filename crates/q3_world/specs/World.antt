@@ -67,11 +67,12 @@ pub record Played : Type 0 where
 abbrev pub bytes_of : Tag → SentBytes
 bytes_of tag = record { client = tag.client; direction = tag.direction; bytes = tag.bytes }
 
--- of one client: the qport and the host that it joined with, the messages that the server began for it, the one under number
+-- of one client: the challenge, the qport and the host that it joined with, the messages that the server began for it, the one under number
 -- 1 first, the gamestates that it applied, the snapshots that it accepted, the messages that it began, the moves that it issued, and
 -- those that the server ran; the commands that the server issued for it, those of them that it executed, the commands that it issued,
 -- and those of them that the server executed
 pub record History : Type 0 where
+  pub challenge : ℕ
   pub qport : ℕ
   pub host : ℕ
   pub built : List Built
@@ -100,6 +101,7 @@ pub record Step : Type 0 where
 -- of a client that never joined
 abbrev pub no_history : History
 no_history = record {
+  challenge = 0;
   qport = 0;
   host = 0;
   built = [];
@@ -124,7 +126,7 @@ with_history histories c history = slice_set histories c history
 
 -- by what nothing is scrambled
 abbrev pub no_key : Key
-no_key = record { start = 0; text = [] }
+no_key = record { start = None; text = [] }
 
 -- what stands where no message was built
 abbrev pub no_message : Built
@@ -144,9 +146,9 @@ said_at said number = slice_index_or said (number - 1) no_said
 -- ---- what is noted of a client
 
 -- how it joined, if it did
-abbrev pub with_joined : History → ℕ → Address → Answered → History
-with_joined history qport address (Given (handed.Client c (Ok x))) = record history { qport = qport; host = address.host }
-with_joined history qport address other = history
+abbrev pub with_joined : History → ℕ → ℕ → Address → Answered → History
+with_joined history challenge qport address (Given (handed.Client c (Ok x))) = record history { challenge = challenge; qport = qport; host = address.host }
+with_joined history challenge qport address other = history
 
 -- a message that the server began for it, if it did
 abbrev pub with_built : History → Option Built → History
@@ -223,7 +225,7 @@ with_run history ran =
 
 -- what is noted of a line that hands something in, by its answer
 abbrev pub noted : ServerState → List History → Event → Answered → List History
-noted server histories (events.Client c challenge qport dup address) answer = with_history histories c (with_joined (history_at histories c) qport address answer)
+noted server histories (events.Client c challenge qport dup address) answer = with_history histories c (with_joined (history_at histories c) challenge qport address answer)
 noted server histories (events.Config index text) answer = with_told server index text answer histories
 noted server histories (events.Say c text) answer = with_history histories c (with_spoken (history_at histories c) text answer)
 noted server histories (events.TypeText c text) answer = with_history histories c (with_typed (history_at histories c) text answer)
