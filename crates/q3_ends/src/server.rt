@@ -4,10 +4,13 @@ ghost use Rattle.std.specs.Prelude.{◌≡◌, option_map};
 ghost use Rattle.q3_script.specs.Grammar.{IsInRange};
 ghost use Rattle.q3_server.specs.Taking.{take_at};
 ghost use Rattle.q3_report.specs.Tellings.{answered_of};
-ghost use Rattle.q3_ends.specs.AtServer.{server_line, server_behind, taken_by_server};
+ghost use Rattle.q3_report.specs.declared.answer.HandedIn.TheVariants as answers;
+ghost use Rattle.q3_ends.specs.AtServer.{baseline_line, entity_line, remove_line, server_line, server_behind, taken_by_server};
 
+use q3_entity::EntityState;
 use q3_io::Address;
-use q3_report::{Answer, Front, HandedIn, Taker};
+use q3_map::Late;
+use q3_report::{Answer, BaselineRefused, Front, HandedIn, OutOfRange, Taker};
 use q3_script::Event;
 use q3_server::{Heard, Server};
 
@@ -23,29 +26,22 @@ pub fn server_line(server: &mut Server, event: &Event) -> Option<HandedIn>
             id: *id,
             outcome: server.new_map(*id, *feed),
         }),
-        Event::Baseline { state } => {
-            // a script's numbers are below the least end mark
-            prove!(state.number < server.end());
-            Some(HandedIn::Baseline {
-                number: state.number,
-                outcome: server.set_baseline(state),
-            })
-        }
+        Event::Baseline { state } => Some(HandedIn::Baseline {
+            number: state.number,
+            outcome: set_baseline(server, state),
+        }),
         Event::Config { index, text } => Some(HandedIn::Config {
             index: *index,
             outcome: server.set_config(*index, text.bytes()),
         }),
-        Event::Entity { state } => {
-            prove!(state.number < server.end());
-            server.set_entity(state);
-            Some(HandedIn::Entity {
-                number: state.number,
-            })
-        }
-        Event::Remove { number } => {
-            server.remove_entity(*number);
-            Some(HandedIn::Remove { number: *number })
-        }
+        Event::Entity { state } => Some(HandedIn::Entity {
+            number: state.number,
+            outcome: set_entity(server, state),
+        }),
+        Event::Remove { number } => Some(HandedIn::Remove {
+            number: *number,
+            outcome: remove_entity(server, *number),
+        }),
         Event::Player { c, player } => Some(HandedIn::Player {
             c: *c,
             outcome: server.set_player(*c, player),
@@ -64,6 +60,44 @@ pub fn server_line(server: &mut Server, event: &Event) -> Option<HandedIn>
         }),
         _ => None,
     }
+}
+
+/// Takes over a baseline, whose number has to be below the end mark.
+fn set_baseline(server: &mut Server, state: &EntityState) -> Result<(), BaselineRefused>
+    ensures server { server.new ≡ (baseline_line server.old state.now).server }
+    ensures answer { answers.Baseline state.now.number result ≡ (baseline_line server.old state.now).answer }
+{
+    if state.number >= server.end() {
+        return Err(BaselineRefused::OutOfRange);
+    }
+    match server.set_baseline(state) {
+        Ok(()) => Ok(()),
+        Err(Late) => Err(BaselineRefused::Late),
+    }
+}
+
+/// Takes over an entity, whose number has to be below the end mark.
+fn set_entity(server: &mut Server, state: &EntityState) -> Result<(), OutOfRange>
+    ensures server { server.new ≡ (entity_line server.old state.now).server }
+    ensures answer { answers.Entity state.now.number result ≡ (entity_line server.old state.now).answer }
+{
+    if state.number >= server.end() {
+        return Err(OutOfRange);
+    }
+    server.set_entity(state);
+    Ok(())
+}
+
+/// Takes an entity away, whose number has to be below the end mark.
+fn remove_entity(server: &mut Server, number: u16) -> Result<(), OutOfRange>
+    ensures server { server.new ≡ (remove_line server.old number).server }
+    ensures answer { answers.Remove number result ≡ (remove_line server.old number).answer }
+{
+    if number >= server.end() {
+        return Err(OutOfRange);
+    }
+    server.remove_entity(number);
+    Ok(())
 }
 
 /// A server takes bytes from an address. What it executed and ran is in the answer; `heard` may hold anything before.

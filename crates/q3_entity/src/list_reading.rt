@@ -211,7 +211,7 @@ fn read_number(r: &mut Reader, table: &Table, least: u16) -> Result<u16, EntityE
     ensures least { IfOk result (λ number. least ≤ number) }
     ensures most { IfOk result (λ number. number ≤ end_mark table.now) }
 {
-    let number = get_number(r, table.number_bits())? as u16;
+    let number = get_number(r, u32::from(table.bits()))? as u16;
     if number < least {
         return Err(EntityError::Order(number));
     }

@@ -66,7 +66,7 @@ fn write_end(w: &mut Writer, table: &Table, base: Run) -> Result<(), Overflow>
     laws::texts_are_written();
     let end = table.end();
     write_gone(w, table, base, end)?;
-    w.put(u32::from(end), table.number_bits())
+    w.put(u32::from(end), u32::from(table.bits()))
 }
 
 /// Writes an entity, and in front of it what is gone below its number. Lends what is left of the base behind it.

@@ -54,7 +54,7 @@ fn write_changed(
 {
     write_numbered(
         w,
-        (u32::from(to.number), table.number_bits()),
+        (u32::from(to.number), u32::from(table.bits())),
         (CHANGED, 2),
         StateKind::Entity,
         table,
@@ -69,7 +69,7 @@ fn write_opening(w: &mut Writer, table: &Table, number: u16, marks: u32) -> Resu
     ensures { Writes w.old w.new (opening w.old.words table.now number ((marks % 2, 1) ∷ (marks / 2, 1) ∷ [])) result }
 {
     laws::texts_are_written();
-    w.put(u32::from(number), table.number_bits())?;
+    w.put(u32::from(number), u32::from(table.bits()))?;
     w.put(marks, 2)
 }
 
@@ -79,5 +79,5 @@ fn write_opening(w: &mut Writer, table: &Table, number: u16, marks: u32) -> Resu
 pub fn write_removal(w: &mut Writer, table: &Table, number: u16) -> Result<(), Overflow>
     ensures { Writes w.old w.new (removal w.old.words table.now number) result }
 {
-    w.put_all(&[(u32::from(number), table.number_bits()), (1, 1)])
+    w.put_all(&[(u32::from(number), u32::from(table.bits())), (1, 1)])
 }

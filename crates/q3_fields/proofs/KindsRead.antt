@@ -8,7 +8,7 @@ use Rattle.q3_fields.specs.declared.kind.Kind.{Kind}
 use Rattle.q3_fields.specs.declared.table.TableError.{TableError}
 use Rattle.q3_fields.specs.declared.table.TableError.TheVariants.{Width}
 use Rattle.q3_bits.specs.ResultBind.{◌>>=◌}
-use Rattle.q3_fields.specs.Kinds.{Layout, IsKind, kind_of, kinds_from, table_of, least_number_bits}
+use Rattle.q3_fields.specs.Kinds.{Layout, IsKind, kind_of, kinds_from, numbered_table}
 
 -- what was read before, and what is still read
 abbrev pub with_front : List Kind → Result (List Kind) TableError → Result (List Kind) TableError
@@ -77,9 +77,9 @@ HasKinds-all widths k kinds h past =
     sym h.reads ∙ one
 
 -- 1 to 64 widths are read from the first on
-abbrev pub laid_out : List Kind → Result Layout TableError
-laid_out kinds = Ok (record { kinds = kinds; number_bits = least_number_bits })
+abbrev pub laid_out : ℕ → List Kind → Result Layout TableError
+laid_out bits kinds = Ok (record { kinds = kinds; number_bits = bits })
 
-pub table_of-some : (widths : List ℤ) → 1 ≤ length widths → length widths ≤ 64 → table_of widths ≡ (kinds_from 0 widths >>= laid_out)
-unfolding table_of
-table_of-some widths some few = rw (le-leb 1 (length widths) some, le-leb (length widths) 64 few) refl
+pub numbered_table-some : (widths : List ℤ) (bits : ℕ) → 1 ≤ length widths → length widths ≤ 64 → numbered_table widths bits ≡ (kinds_from 0 widths >>= laid_out bits)
+unfolding numbered_table
+numbered_table-some widths bits some few = rw (le-leb 1 (length widths) some, le-leb (length widths) 64 few) refl

@@ -30,12 +30,12 @@ kinds_from i (width ∷ widths) = do
   kinds ← kinds_from (i + 1) widths
   Ok (kind ∷ kinds)
 
--- how many bits a number of an entity has in this protocol: at least and at most
+-- how many bits a number of an entity has: at least, as in the engine, and at most
 abbrev pub least_number_bits : ℕ
 least_number_bits = 10
 
 abbrev pub most_number_bits : ℕ
-most_number_bits = 10
+most_number_bits = 12
 
 -- so many bits are in that range
 abbrev pub HasNumberBits : ℕ → Type 0
@@ -46,11 +46,15 @@ pub record Layout : Type 0 where
   pub kinds : List Kind
   pub number_bits : ℕ
 
--- the table of 1 to 64 widths; entity numbers have the least number of bits
-unfoldable pub table_of : List ℤ → Result Layout TableError
-table_of widths = do
+-- the table of 1 to 64 widths, in which the number of an entity has so many bits
+unfoldable pub numbered_table : List ℤ → ℕ → Result Layout TableError
+numbered_table widths bits = do
   kinds ← if nat_le 1 (length widths) && nat_le (length widths) 64 then kinds_from 0 widths else Err Fields
-  Ok (record { kinds = kinds; number_bits = least_number_bits })
+  Ok (record { kinds = kinds; number_bits = bits })
+
+-- that in which it has the least number of bits
+abbrev pub table_of : List ℤ → Result Layout TableError
+table_of widths = numbered_table widths least_number_bits
 
 -- 1 to 64 fields of allowed kinds
 pub record AreKinds (kinds : List Kind) : Type 0 where

@@ -7,7 +7,7 @@ use Rattle.q3_fields.specs.Kinds.{Layout, IsTable, HasNumberBits}
 abbrev pub layout_of : Inside → Layout
 layout_of t = record { kinds = take t.count t.kinds; number_bits = t.number_bits }
 
--- they are a table, whose numbers have as many bits as this protocol's, and there is a place for each
+-- they are a table, whose numbers have as many bits as are allowed, and there is a place for each
 pub record IsFilled (t : Inside) : Type 0 where
   pub places : length t.kinds ≡ 64
   pub count : t.count ≡ length (take t.count t.kinds)

@@ -16,5 +16,5 @@ pub use delta::{
 pub use float::{pattern_of, small_of};
 pub use kind::{Kind, norm};
 pub use reading::{read_entity_field, read_player_field};
-pub use table::{MOST_END, Table, TableError};
+pub use table::{LEAST_NUMBER_BITS, MOST_END, MOST_NUMBER_BITS, Table, TableError};
 pub use writing::{write_entity_field, write_player_field};

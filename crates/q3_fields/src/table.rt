@@ -1,7 +1,7 @@
 //! Tables of fields. Keeps the rule "field tables", the engine's `entityStateFields` and `playerStateFields`.
 
 ghost use Rattle.std.specs.Prelude.{◌≡◌, ◌≤◌, length, slice_get, IfOk, IfSome};
-ghost use Rattle.q3_fields.specs.Kinds.{HasNumberBits, IsKind, IsTable, kind_of, table_of, end_mark, least_number_bits, most_number_bits, least_end, most_end};
+ghost use Rattle.q3_fields.specs.Kinds.{HasNumberBits, IsKind, IsTable, kind_of, table_of, numbered_table, end_mark, least_number_bits, most_number_bits, least_end, most_end};
 
 use crate::kind::Kind;
 use std::marker::Model;
@@ -15,11 +15,11 @@ pub enum TableError {
     Width(usize),
 }
 
-/// How many bits a number of an entity has at least.
-const LEAST_NUMBER_BITS: u32 = 10;
+/// How many bits a number of an entity has at least: the engine's `GENTITYNUM_BITS`.
+pub const LEAST_NUMBER_BITS: u8 = 10;
 
-/// How many bits a number of an entity has at most.
-const MOST_NUMBER_BITS: u32 = 10;
+/// How many bits a number of an entity has at most. This project's own.
+pub const MOST_NUMBER_BITS: u8 = 12;
 
 /// The end mark of the widest entity numbers: each entity's number is below it.
 pub const MOST_END: u16 = (1 << MOST_NUMBER_BITS) - 1;
@@ -30,7 +30,7 @@ pub const MOST_END: u16 = (1 << MOST_NUMBER_BITS) - 1;
 pub struct Table {
     count: usize,
     kinds: [Kind; 64],
-    number_bits: u32,
+    number_bits: u8,
 }
 
 impl Model for Table {
@@ -45,11 +45,22 @@ impl Model for Table {
 }
 
 impl Table {
-    /// The table of these widths: 0 is a float, 1 to 32 an unsigned field, -8, -16 and -24 a signed one.
+    /// The table of these widths: 0 is a float, 1 to 32 an unsigned field, -8, -16 and -24 a signed one. A number of an
+    /// entity has 10 bits.
     /// `Err` is the first of: other than 1 to 64 widths; the first width that isn't allowed.
-    #[tactic(auto, unfolding(crate::specs::Kinds::table_of))]
     pub fn of(widths: &[i64]) -> Result<Table, TableError>
         ensures exact { result ≡ table_of widths.now }
+        ensures is_table { IfOk result IsTable }
+    {
+        Table::numbered(widths, LEAST_NUMBER_BITS)
+    }
+
+    /// The table of these widths as `of` takes them, in which a number of an entity has so many bits: 10 to 12.
+    /// `Err` is that of `of`.
+    #[tactic(auto, unfolding(crate::specs::Kinds::numbered_table))]
+    pub fn numbered(widths: &[i64], bits: u8) -> Result<Table, TableError>
+        requires bits { HasNumberBits bits }
+        ensures exact { result ≡ numbered_table widths.now bits }
         ensures is_table { IfOk result IsTable }
     {
         if widths.is_empty() || widths.len() > 64 {
@@ -65,7 +76,7 @@ impl Table {
         Ok(Table {
             count: widths.len(),
             kinds,
-            number_bits: LEAST_NUMBER_BITS,
+            number_bits: bits,
         })
     }
 
@@ -101,8 +112,8 @@ impl Table {
         self.count
     }
 
-    /// How many bits a number of an entity has in a message.
-    pub fn number_bits(&self) -> u32
+    /// How many bits a number of an entity has in a message: 10 to 12.
+    pub fn bits(&self) -> u8
         ensures bits { result ≡ self.now.number_bits }
         ensures some { least_number_bits ≤ result }
         ensures most { result ≤ most_number_bits }
@@ -116,7 +127,7 @@ impl Table {
         ensures least { least_end ≤ result }
         ensures most { result ≤ most_end }
     {
-        ((1u32 << self.number_bits) - 1) as u16
+        (1 << self.number_bits) - 1
     }
 }
 

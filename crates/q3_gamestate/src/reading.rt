@@ -116,7 +116,7 @@ fn read_baseline(
 ) -> Result<(), GamestateError>
     ensures { Reads r.old r.new (baseline_after (record profile.now { code = r.old.words }) baselines.old r.old.left) (holding baselines.new result) }
 {
-    let number = r.get(profile.entity.number_bits())? as u16;
+    let number = r.get(u32::from(profile.entity.bits()))? as u16;
     if number == profile.entity.end() {
         return Err(GamestateError::Entity(EntityError::Order(number)));
     }

@@ -16,7 +16,8 @@ use Rattle.q3_index.specs.declared.error.IndexError.TheVariants as opening
 use Rattle.q3_index.specs.declared.error.SeekError.{SeekError}
 use Rattle.q3_index.specs.declared.error.SeekError.TheVariants as seeking
 use Rattle.q3_index.specs.declared.index.Checkpoint.{Checkpoint}
-use Rattle.q3_index.specs.Text.{spacing, index_text, index_of}
+use Rattle.q3_index.specs.declared.opening.Version.{Version}
+use Rattle.q3_index.specs.Text.{spacing, Tells, index_by, index_text, index_of}
 use Rattle.q3_index.specs.Opening.{Heads, open_at}
 use Rattle.q3_index.specs.Seeking.{seek_at}
 
@@ -103,15 +104,17 @@ abbrev pub SeekCause : {T : Type 0} → ℕ → ℕ → Result T SeekError → T
 SeekCause before now (Err seeking.ReadFault) = (before ≤ now) × Rose before now
 SeekCause before now other = now ≡ before
 
--- these bytes are the index that is made of a demo, and it was opened with it
+-- these bytes are the index that is made of a demo by a version, and it was opened with it
 pub record IsMade (profile : Profile) (index : IndexState) (demo_bytes index_bytes : List ℕ) : Type 0 where
   pub codec : IsCodec profile
   pub ring : 512 ≤ profile.parse_ring
   pub mark : profile.mark < 2 ^ 64
   pub long : length demo_bytes < 2 ^ 64
-  pub made : index_of profile demo_bytes ≡ Ok index_bytes
+  pub version : Version
+  pub tells : Tells version profile.entity.number_bits
+  pub made : index_by version profile demo_bytes ≡ Ok index_bytes
   pub heads : Heads
-  pub opens : open_at (length demo_bytes) profile.mark index_bytes ≡ Ok heads
+  pub opens : open_at (length demo_bytes) profile.mark profile.entity.number_bits index_bytes ≡ Ok heads
   pub is : index ≡ opened index.demo index.index heads
 
 -- a seek answers what playing so many records leaves, or a read failed, or memory was wanted

@@ -1,13 +1,12 @@
 -- How an index is made, opened and sought in step by step.
 use Rattle.std.specs.Prelude.{◌≡◌, ◌⊎◌, ℕ, ◌+◌, ◌*◌, ◌/◌, ◌^◌, ◌<◌, ⊤, Bool, true, false, if◌then◌else◌, List, [], ◌∷◌, ◌++◌, length, take, drop, All, Option, Some, None, IsSome, Result, Ok, Err}
 use Rattle.std.specs.List.{concat, flat_map}
-use Rattle.std.specs.Str.{bytes_eq}
 use Rattle.q3_bits.specs.ResultBind.{◌>>=◌, fault_as}
 use Rattle.byteorder.specs.Endian.{little_bytes}
 use Rattle.q3_io.specs.Told.{Told, contents_of, contents_at, name_of}
 use Rattle.q3_entity.specs.Entities.{most_entities}
 use Rattle.q3_profile.specs.declared.profile.Profile.{Profile}
-use Rattle.q3_savestate.specs.Cursor.{Cursor, Field, field_at, number_at, end_at}
+use Rattle.q3_savestate.specs.Cursor.{Cursor, Field, field_at, number_at}
 use Rattle.q3_savestate.specs.State.{Saved, state_at}
 use Rattle.q3_clstate.specs.Saving.{IsWithin}
 use Rattle.q3_demo.specs.Player.{PlayerState}
@@ -20,9 +19,9 @@ use Rattle.q3_index.specs.declared.error.IndexError.TheVariants as opening
 use Rattle.q3_index.specs.declared.error.SeekError.{SeekError}
 use Rattle.q3_index.specs.declared.error.SeekError.TheVariants.{ReadFault, NotIndex, NoMemory, Demo}
 use Rattle.q3_index.specs.declared.index.Checkpoint.{Checkpoint}
-use Rattle.q3_index.specs.declared.opening.Head.{Head}
-use Rattle.q3_index.specs.Text.{spacing, magic, checkpoint_bytes, is_checkpoint, checkpoints}
-use Rattle.q3_index.specs.Opening.{checkpoints_at}
+use Rattle.q3_index.specs.declared.opening.Version.{Version}
+use Rattle.q3_index.specs.declared.opening.Version.TheVariants.{First, Second}
+use Rattle.q3_index.specs.Text.{spacing, checkpoint_bytes, is_checkpoint, checkpoints}
 use Rattle.q3_index.specs.Running.{LeavesIndex}
 
 -- ---- opening
@@ -36,19 +35,10 @@ abbrev pub value_of : {X : Type 0} → Field X → Result X ℕ
 value_of (Ok x) = Ok x.0
 value_of (Err at) = Err at
 
--- what an index begins with
-abbrev pub magic_at : Cursor → Field (List ℕ)
-magic_at = field_at 8 (λ found. found) (λ found. bytes_eq found magic)
-
--- its head
-unfoldable pub head_at : Cursor → Field Head
-head_at cursor = do
-  first ← magic_at cursor
-  length ← number_at 8 0 18446744073709551615 first.1
-  mark ← number_at 8 0 18446744073709551615 length.1
-  records ← number_at 4 0 4294967295 mark.1
-  count ← number_at 4 (records.0 / spacing) (records.0 / spacing) records.1
-  Ok (record { length = length.0; mark = mark.0; records = records.0; count = count.0 }, count.1)
+-- how many bytes the head of an index has
+abbrev pub head_size : Version → ℕ
+head_size First = 32
+head_size Second = 33
 
 -- the head of a checkpoint that stands behind so many records, where the next one's place is within these
 unfoldable pub numbers_at : ℕ → ℕ → ℕ → Cursor → Field Checkpoint
@@ -65,13 +55,6 @@ checkpoint_at number least most cursor = do
   state ← field_at checkpoint.0.length (λ bytes. bytes) (λ bytes. true) checkpoint.1
   Ok (checkpoint.0, state.1)
 
--- the checkpoints behind a head, and nothing behind the last state
-unfoldable pub checkpoints_of : Head → Cursor → Result (List Checkpoint) ℕ
-checkpoints_of head cursor = do
-  checkpoints ← checkpoints_at head.count spacing 0 head.length cursor
-  none ← end_at checkpoints.1
-  Ok checkpoints.0
-
 -- the least place of the next record, where none below 2^64 may be left
 abbrev pub least_of : Option ℕ → ℕ
 least_of None = 2 ^ 64
@@ -83,6 +66,7 @@ Reads value whole (Ok y) = whole ≡ Ok (value y)
 Reads value whole (Err opening.ReadFault) = ⊤
 Reads value whole (Err (opening.NotIndex place)) = whole ≡ Err place
 Reads value whole (Err (opening.OtherDemo kept found)) = ⊥
+Reads value whole (Err (opening.OtherWidth kept found)) = ⊥
 Reads value whole (Err opening.NoMemory) = ⊤
 
 -- a checkpoint was read, and what is behind its state

@@ -7,6 +7,7 @@ ghost use Rattle.q3_savestate.specs.Lending.{HasAges};
 ghost use Rattle.q3_demo.specs.Player.{step_of_all};
 ghost use Rattle.q3_demo.specs.Playing.{most_records, records_of, play_of, step};
 ghost use Rattle.q3_demo.specs.Running.{OnlyAsks};
+ghost use Rattle.q3_index.specs.declared.opening.Version.TheVariants as Version;
 ghost use Rattle.q3_index.specs.Text.{spacing, head_bytes, checkpoint_bytes};
 ghost use Rattle.q3_index.specs.Running.{Builds, BuildCause, BuildWrites};
 ghost use Rattle.q3_index.specs.Steps.{HasIndex, Extends, IsAged, Counts, CountsNext, WritesNext, numbers_bytes, checkpoints_bytes};
@@ -57,7 +58,8 @@ pub fn build_index<F: Files>(
         records,
         checkpoints: records / SPACING,
     };
-    write_head(length, profile.mark, built, files, index)?;
+    let width = profile.entity.bits();
+    write_head(length, profile.mark, width, built, files, index)?;
     write_checkpoints(alloc, profile, files, demo, index, built.checkpoints)?;
     Ok(built)
 }
@@ -105,13 +107,14 @@ fn count_next<F: Files>(player: &mut Player, files: &mut F, demo: usize) -> Resu
 fn write_head<F: Files>(
     length: u64,
     mark: u64,
+    width: u8,
     built: Built,
     files: &mut F,
     index: usize,
 ) -> Result<(), DemoError>
     requires index { index < F.given files.old }
     requires checkpoints { built.checkpoints ≡ built.records / spacing }
-    ensures writes { (told : Told) → F.told files.old ≡ Some told → Extends told (F.told files.new) index (head_bytes length mark built.records) result }
+    ensures writes { (told : Told) → F.told files.old ≡ Some told → Extends told (F.told files.new) index (head_bytes Version.Second length mark width built.records) result }
     ensures untold { F.told files.old ≡ None → F.told files.new ≡ None }
     ensures given { F.given files.new ≡ F.given files.old }
     ensures count { BuildWrites (F.write_faults files.old) (F.write_faults files.new) result }
@@ -121,6 +124,7 @@ fn write_head<F: Files>(
     append(files, index, MAGIC)?;
     append(files, index, &length.to_le_bytes())?;
     append(files, index, &mark.to_le_bytes())?;
+    append(files, index, &width.to_le_bytes())?;
     append(files, index, &built.records.to_le_bytes())?;
     append(files, index, &built.checkpoints.to_le_bytes())
 }

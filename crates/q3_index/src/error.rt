@@ -21,6 +21,9 @@ pub enum IndexError {
     /// The index is of a demo of another length, or by a profile with another mark: both, as the index keeps them and as they are.
     #[error("index: other demo")]
     OtherDemo { kept: (u64, u64), found: (u64, u64) },
+    /// The number of an entity has another number of bits in the index than by the profile, whose length and mark agree: both.
+    #[error("index: width {kept}, profile {found}")]
+    OtherWidth { kept: u8, found: u8 },
     /// Want of memory.
     #[error("no memory")]
     NoMemory,

@@ -11,4 +11,4 @@ pub mod opening;
 pub use build::{Built, build_index};
 pub use error::{IndexError, SeekError};
 pub use index::{Checkpoint, Index};
-pub use opening::open_index;
+pub use opening::{Version, open_index};

@@ -1,45 +1,76 @@
 //! Opens the index of a demo: reads its head and the heads of its checkpoints.
 
 ghost use Rattle.std.specs.Prelude.{◌≡◌, ◌+◌, ◌/◌, ◌<◌, ◌≤◌, ◌^◌, Some, length, take, drop, IfOk, IfErr};
-ghost use Rattle.std.specs.Result.{result_map_both};
 ghost use Rattle.q3_io.specs.Told.{Told, contents_at};
 ghost use Rattle.q3_savestate.specs.Cursor.{found, number_at};
 ghost use Rattle.q3_demo.specs.Running.{OnlyAsks, AsksOf};
 ghost use Rattle.q3_index.specs.Text.{spacing};
-ghost use Rattle.q3_index.specs.Opening.{open_at};
+ghost use Rattle.q3_index.specs.Opening.{version_at, width_at, head_behind, head_at, checkpoints_of, open_at};
 ghost use Rattle.q3_index.specs.Running.{Opens, OpenCause, AsksNothing};
-ghost use Rattle.q3_index.specs.Steps.{ArePlaced, IsPlaced, Reads, from_place, value_of, magic_at, head_at, numbers_at, checkpoint_at, checkpoints_of, least_of, read_to};
+ghost use Rattle.q3_index.specs.Steps.{ArePlaced, IsPlaced, Reads, from_place, value_of, head_size, numbers_at, checkpoint_at, least_of, read_to};
 
 use crate::error::IndexError;
 use crate::index::{Checkpoint, Index, SPACING};
 use q3_demo::read_whole;
+use q3_fields::{LEAST_NUMBER_BITS, MOST_NUMBER_BITS};
 use q3_io::Files;
 use q3_profile::Profile;
 use q3_savestate::Cursor;
 use std::alloc::Global;
 use std::cmp::min;
 
-/// What an index begins with.
-pub(crate) const MAGIC: &[u8] = b"Q3INDEX1";
+/// What an index begins with, by the version that is made now.
+pub(crate) const MAGIC: &[u8] = b"Q3INDEX2";
 
-/// How many bytes its head has.
-pub(crate) const HEAD_BYTES: usize = 32;
+/// And by the first.
+const FIRST_MAGIC: &[u8] = b"Q3INDEX1";
+
+/// How many bytes its head has at most.
+const HEAD_BYTES: usize = 33;
 
 /// How many bytes that of a checkpoint has.
 pub(crate) const CHECKPOINT_BYTES: usize = 16;
 
+/// The version of an index.
+#[derive(Clone, Copy, Debug, PartialEq, Eq)]
+pub enum Version {
+    /// It doesn't tell how many bits an entity's number has, which are the engine's 10.
+    First,
+    /// It does.
+    Second,
+}
+
+impl Version {
+    ghost use Rattle.std.specs.Prelude.{◌≡◌};
+    ghost use Rattle.q3_index.specs.Steps.{head_size};
+
+    /// How many bytes the head has.
+    fn head_bytes(self) -> usize
+        ensures { result ≡ head_size self }
+    {
+        match self {
+            Version::First => HEAD_BYTES - 1,
+            Version::Second => HEAD_BYTES,
+        }
+    }
+}
+
 /// The head of an index.
 #[derive(Clone, Copy)]
 pub(crate) struct Head {
+    version: Version,
     length: u64,
     mark: u64,
+    /// How many bits an entity's number has.
+    width: u8,
     records: u32,
     count: u32,
 }
 
 /// Opens the index of a demo: both are numbers of files. The demo is asked for its length alone. `Err` is `NotIndex` exactly where the heads
 /// aren't those of an index, with the place of the first field that is cut short or breaks a rule, of a state that goes beyond the file, or of
-/// the first byte behind the last checkpoint; else `OtherDemo` exactly where the demo has another length or the profile another mark.
+/// the first byte behind the last checkpoint; else `OtherDemo` exactly where the demo has another length or the profile another mark; else
+/// `OtherWidth` exactly where an entity's number has another number of bits by the profile.
 pub fn open_index<F: Files>(
     alloc: Global,
     profile: &Profile,
@@ -50,7 +81,7 @@ pub fn open_index<F: Files>(
     requires demo { demo < F.given files.old }
     requires index { index < F.given files.old }
     ensures opens { (told : Told) → F.told files.old ≡ Some told
-        → Opens demo index (open_at (length (contents_at told demo)) profile.now.mark (contents_at told index)) result }
+        → Opens demo index (open_at (length (contents_at told demo)) profile.now.mark profile.now.entity.number_bits (contents_at told index)) result }
     ensures given { F.given files.new ≡ F.given files.old }
     ensures asks { OnlyAsks (F.told files.old) (F.told files.new) }
     ensures nothing { AsksNothing demo index (F.told files.old) (F.told files.new) }
@@ -72,6 +103,13 @@ pub fn open_index<F: Files>(
             found: (length, profile.mark),
         });
     }
+    let width = profile.entity.bits();
+    if head.width != width {
+        return Err(IndexError::OtherWidth {
+            kept: head.width,
+            found: width,
+        });
+    }
     Ok(Index {
         demo,
         index,
@@ -84,7 +122,7 @@ pub fn open_index<F: Files>(
 fn read_head<F: Files>(files: &mut F, index: usize, end: u64) -> Result<Head, IndexError>
     requires index { index < F.given files.old }
     ensures reads { (told : Told) → F.told files.old ≡ Some told → end ≡ length (contents_at told index)
-        → Reads (λ head. (head, from_place (contents_at told index) 32)) (head_at (from_place (contents_at told index) 0)) result }
+        → Reads (λ head. (head, from_place (contents_at told index) (head_size head.version))) (head_at (from_place (contents_at told index) 0)) result }
     ensures count { IfOk result (λ head. head.count ≡ head.records / spacing) }
     ensures given { F.given files.new ≡ F.given files.old }
     ensures asks { OnlyAsks (F.told files.old) (F.told files.new) }
@@ -100,35 +138,60 @@ fn read_head<F: Files>(files: &mut F, index: usize, end: u64) -> Result<Head, In
     }
 }
 
-#[tactic(auto, unfolding(crate::specs::Steps::head_at))]
 /// The head that bytes are, or the place of the first field that is cut short or breaks a rule.
+#[tactic(auto, unfolding(crate::specs::Opening::head_at))]
 fn head_in(bytes: &[u8]) -> Result<Head, usize>
     ensures { result ≡ value_of (head_at (from_place bytes.now 0)) }
 {
     let mut cursor = Cursor::new(bytes, 0);
-    take_magic(&mut cursor)?;
+    let version = take_version(&mut cursor)?;
+    take_head(version, &mut cursor)
+}
+
+/// The version of an index, by what it begins with.
+#[tactic(auto, unfolding(crate::specs::Opening::version_at))]
+fn take_version(cursor: &mut Cursor) -> Result<Version, usize>
+    ensures { found result cursor.new ≡ version_at cursor.old }
+{
+    let place = cursor.place();
+    let bytes = cursor.take(MAGIC.len())?;
+    if bytes == FIRST_MAGIC {
+        return Ok(Version::First);
+    }
+    if bytes == MAGIC {
+        return Ok(Version::Second);
+    }
+    Err(place)
+}
+
+/// The head behind that.
+#[tactic(auto, unfolding(crate::specs::Opening::head_behind))]
+fn take_head(version: Version, cursor: &mut Cursor) -> Result<Head, usize>
+    ensures { found result cursor.new ≡ head_behind version cursor.old }
+{
     let length = cursor.wide(0, u64::MAX)?;
     let mark = cursor.wide(0, u64::MAX)?;
+    let width = take_width(version, cursor)?;
     let records = cursor.long(0, u32::MAX)?;
     let count = cursor.long(records / SPACING, records / SPACING)?;
     Ok(Head {
+        version,
         length,
         mark,
+        width,
         records,
         count,
     })
 }
 
-/// What an index begins with.
-fn take_magic<'a>(cursor: &mut Cursor<'a>) -> Result<&'a [u8], usize>
-    ensures { found (result_map_both (λ bytes. bytes.now) (λ place. place) result) cursor.new ≡ magic_at cursor.old }
+/// How many bits an entity's number has.
+fn take_width(version: Version, cursor: &mut Cursor) -> Result<u8, usize>
+    ensures { found result cursor.new ≡ width_at version cursor.old }
 {
-    let place = cursor.place();
-    let bytes = cursor.take(MAGIC.len())?;
-    if bytes != MAGIC {
-        return Err(place);
+    match version {
+        Version::First => Ok(LEAST_NUMBER_BITS),
+        Version::Second => cursor.byte(LEAST_NUMBER_BITS, MOST_NUMBER_BITS),
     }
-    Ok(bytes)
 }
 
 /// Reads the heads of the checkpoints of an index of so many bytes, behind the last of which nothing stands.
@@ -142,7 +205,7 @@ fn read_checkpoints<F: Files>(
     requires index { index < F.given files.old }
     requires count { head.count ≡ head.records / spacing }
     ensures reads { (told : Told) → F.told files.old ≡ Some told → end ≡ length (contents_at told index)
-        → Reads (λ checkpoints. checkpoints.items) (checkpoints_of head (from_place (contents_at told index) 32)) result }
+        → Reads (λ checkpoints. checkpoints.items) (checkpoints_of head (from_place (contents_at told index) (head_size head.version))) result }
     ensures placed { IfOk result (λ checkpoints. ArePlaced checkpoints.items) }
     ensures given { F.given files.new ≡ F.given files.old }
     ensures asks { OnlyAsks (F.told files.old) (F.told files.new) }
@@ -151,7 +214,7 @@ fn read_checkpoints<F: Files>(
     ensures others { F.write_faults files.new ≡ F.write_faults files.old }
 {
     let mut checkpoints = Vec::new(alloc);
-    let mut at = HEAD_BYTES as u64;
+    let mut at = head.version.head_bytes() as u64;
     let mut least = Some(0);
     for k in 0..head.count {
         let found = read_checkpoint(files, index, end, at, (k + 1) * SPACING, least, head.length)?;

@@ -18,7 +18,6 @@ use Rattle.q3_slot.specs.declared.taking.ServerTook.TheVariants as took
 use Rattle.q3_server.specs.declared.server.ConfigRefused.{ConfigRefused}
 use Rattle.q3_server.specs.declared.server.ConfigRefused.TheVariants as config
 use Rattle.q3_map.specs.declared.map.NotLater.{NotLater}
-use Rattle.q3_map.specs.declared.map.Late.{Late}
 
 -- why a client can't join
 abbrev pub slot_error_text : SlotError → List ℕ
@@ -37,12 +36,9 @@ say_error_text refused.Own = codes "own"
 say_error_text refused.NotPrimed = codes "notprimed"
 say_error_text refused.WindowFull = codes "windowfull"
 
--- why there can't be a new map, or a baseline
+-- why there can't be a new map
 abbrev pub not_later_text : NotLater → List ℕ
 not_later_text refusal = concat (codes "notlater " ∷ decimal refusal.last ∷ [])
-
-abbrev pub late_text : Late → List ℕ
-late_text refusal = codes "late"
 
 -- why a config string can't be changed
 abbrev pub config_refused_text : ConfigRefused → List ℕ

@@ -42,12 +42,8 @@ rise_wider limit wider least (entity ∷ others) le rise =
     (rise.0, omega (arith, rise.1, le), rise_wider limit wider (entity.number + 1) others le rise.2)
 
 -- the lowest of entities whose numbers rise are those of a snapshot
-pub lowest_listed : (table : Layout) (entities : List EntityState) → RiseFrom most_end 0 entities → most_end ≤ end_mark table → IsList table (take most_entities entities)
-lowest_listed table entities rise wide =
-    record {
-      rise = rise_wider most_end (end_mark table) 0 (take most_entities entities) wide (rise_take most_end 0 most_entities entities rise);
-      few = few_taken most_entities entities;
-    }
+pub lowest_listed : (table : Layout) (entities : List EntityState) → RiseFrom (end_mark table) 0 entities → IsList table (take most_entities entities)
+lowest_listed table entities rise = record { rise = rise_take (end_mark table) 0 most_entities entities rise; few = few_taken most_entities entities }
 
 pub lowest_rise : (entities : List EntityState) → RiseFrom most_end 0 entities → Rises (take most_entities entities)
 lowest_rise entities rise =

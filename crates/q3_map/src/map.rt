@@ -5,8 +5,8 @@
 ghost use Rattle.std.specs.Prelude.{◌≡◌, ◌==◌, ◌^◌, ◌<◌, ◌≤◌, ◌+◌, ◌++◌, not, length, take, None, IfOk};
 ghost use Rattle.arrayvec.specs.ArrayVec.{array_vec_len};
 ghost use Rattle.q3_config.specs.Strings.{admit_fault, no_strings, with_string};
-ghost use Rattle.q3_fields.specs.Kinds.{Layout, end_mark, most_end};
-ghost use Rattle.q3_entity.specs.Entities.{IsList, Rises, most_entities};
+ghost use Rattle.q3_fields.specs.Kinds.{Layout, end_mark};
+ghost use Rattle.q3_entity.specs.Entities.{IsList, RiseFrom, Rises, most_entities};
 ghost use Rattle.q3_map.specs.Map.{no_map, id_text, new_map_at, is_other, set_baseline_at, with_config, begins_game, set_time_at, set_entity_at, remove_entity_at};
 
 use crate::entities::{drop_entity, front, put_entity};
@@ -228,7 +228,7 @@ impl Map {
     pub fn lowest(&self) -> &[EntityState]
         ensures front { result.now ≡ take most_entities self.now.entities }
         ensures rises { Rises result.now }
-        ensures listed { (table : Layout) → most_end ≤ end_mark table → IsList table result.now }
+        ensures listed { (table : Layout) → RiseFrom (end_mark table) 0 self.now.entities → IsList table result.now }
     {
         front(&self.entities)
     }

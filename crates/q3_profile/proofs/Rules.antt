@@ -2,7 +2,7 @@
 use Rattle.std.proofs.Common.{◌≡◌, ℕ, ℤ, ◌+◌, Bool, true, false, cond, List, [], ◌∷◌, length, eqb, ltb, map, Option, Some, None, Result, Ok, Err, inl, inr, ◌⊎◌, subst}
 use Rattle.std.specs.Prelude.{IfSome, IfErr, pos, negsuc}
 use Rattle.std.specs.List.{list_all}
-use Rattle.std.specs.Option.{ok_or, option_or, option_map, option_map_or}
+use Rattle.std.specs.Option.{ok_or, option_or, option_map, option_map_or, is_none}
 use Rattle.std.specs.Result.{result_map_both}
 use Rattle.toml.specs.Data.{Data, Members, get_member, as_integer, as_str, as_array}
 use Rattle.q3_bits.specs.declared.words.CodeError.{CodeError}
@@ -10,7 +10,7 @@ use Rattle.q3_bits.specs.declared.words.CodeError.TheVariants as codes
 use Rattle.q3_bits.specs.CodeWords.{is_bit, bits_of_text, word_fault, words_fault, first_clash, clash_at, code_fault}
 use Rattle.q3_fields.specs.declared.table.TableError.{TableError}
 use Rattle.q3_fields.specs.declared.table.TableError.TheVariants as table
-use Rattle.q3_fields.specs.Kinds.{table_of}
+use Rattle.q3_fields.specs.Kinds.{numbered_table, least_number_bits}
 use Rattle.q3_bits.specs.ResultBind.{◌>>=◌}
 use Rattle.q3_profile.specs.declared.error.Key.{Key}
 use Rattle.q3_profile.specs.declared.error.Key.TheVariants as keys
@@ -19,7 +19,7 @@ use Rattle.q3_profile.specs.declared.error.ProfileError.TheVariants as errors
 use Rattle.q3_profile.specs.Items.{items_as}
 use Rattle.q3_profile.specs.Document.{key_name, document_of, value_at, integer_at, array_at}
 use Rattle.q3_profile.specs.Mark.{mark_of}
-use Rattle.q3_profile.specs.Profile.{longest_profile, is_protocol, is_server_ring, is_parse_ring, ruled, number_at, table_error, table_at, code_of, profile_at, checked}
+use Rattle.q3_profile.specs.Profile.{longest_profile, is_protocol, is_server_ring, is_parse_ring, is_entity_bits, ruled, number_at, number_or, table_error, table_at, code_of, profile_at, checked}
 use Rattle.q3_profile.specs.Seen.{Gives}
 use Rattle.q3_profile.specs.Laws.{NamesRule}
 
@@ -99,13 +99,20 @@ are_ruled key rule (negsuc n) = tt
 numbers : (key : Key) (rule : ℕ → Bool) (document : Members) → Names (number_at key rule document)
 numbers key rule document = in_turn (integer_at key document) (ruled key rule) (integers key document) (are_ruled key rule)
 
+unless_missing : (missing : Bool) (number : ℕ) (r : Result ℕ ProfileError) → Names r → Names (cond missing (Ok number) r)
+unless_missing true number r names = tt
+unless_missing false number r names = names
+
+numbers_or : (missing : ℕ) (key : Key) (rule : ℕ → Bool) (document : Members) → Names (number_or missing key rule document)
+numbers_or missing key rule document = unless_missing (is_none (get_member (key_name key) document)) missing (number_at key rule document) (numbers key rule document)
+
 tables_of : {A : Type 0} (key : Key) (r : Result A TableError) → Names (result_map_both (λ x. x) (table_error key) r)
 tables_of key (Ok x) = tt
 tables_of key (Err table.Fields) = tt
 tables_of key (Err (table.Width i)) = tt
 
-tables : (key : Key) (document : Members) → Names (table_at key document)
-tables key document = in_turn (array_at as_integer key document) _ (arrays as_integer key document) (λ widths. tables_of key (table_of widths))
+tables : (key : Key) (bits : ℕ) (document : Members) → Names (table_at key bits document)
+tables key bits document = in_turn (array_at as_integer key document) _ (arrays as_integer key document) (λ widths. tables_of key (numbered_table widths bits))
 
 codes_of : (texts : List (List ℕ)) → Names (code_of texts)
 codes_of texts = unless_fault (code_fault texts) (map bits_of_text texts) (code_faults texts)
@@ -116,10 +123,11 @@ profiles mark document =
     in_turn (number_at keys.Protocol is_protocol document) _ (numbers keys.Protocol is_protocol document) (λ protocol.
     in_turn (number_at keys.ServerRing is_server_ring document) _ (numbers keys.ServerRing is_server_ring document) (λ server_ring.
     in_turn (number_at keys.ParseRing is_parse_ring document) _ (numbers keys.ParseRing is_parse_ring document) (λ parse_ring.
-    in_turn (table_at keys.Entity document) _ (tables keys.Entity document) (λ entity.
-    in_turn (table_at keys.Player document) _ (tables keys.Player document) (λ player.
+    in_turn (number_or least_number_bits keys.EntityBits is_entity_bits document) _ (numbers_or least_number_bits keys.EntityBits is_entity_bits document) (λ bits.
+    in_turn (table_at keys.Entity bits document) _ (tables keys.Entity bits document) (λ entity.
+    in_turn (table_at keys.Player least_number_bits document) _ (tables keys.Player least_number_bits document) (λ player.
     in_turn (array_at as_str keys.Code document) _ (arrays as_str keys.Code document) (λ texts.
-    in_turn (code_of texts) _ (codes_of texts) (λ code. tt)))))))
+    in_turn (code_of texts) _ (codes_of texts) (λ code. tt))))))))
 
 if_small : (b : Bool) (document : Option Members) → Names (cond b (Err (errors.Limit keys.File)) (ok_or document errors.NotToml))
 if_small true document = tt

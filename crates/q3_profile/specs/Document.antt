@@ -21,6 +21,7 @@ key_name keys.File = []
 key_name keys.Protocol = codes "protocol"
 key_name keys.ServerRing = codes "server_ring"
 key_name keys.ParseRing = codes "parse_ring"
+key_name keys.EntityBits = codes "entity_bits"
 key_name keys.Entity = codes "entity"
 key_name keys.Player = codes "player"
 key_name keys.Code = codes "code"

@@ -1,13 +1,15 @@
-//! The numbers of a profile, each with its rule: the protocol, and what the engine fixes as `numSnapshotEntities`
-//! and `MAX_PARSE_ENTITIES`. The bounds are this project's own.
+//! The numbers of a profile, each with its rule: the protocol, and what the engine fixes as `numSnapshotEntities`,
+//! `MAX_PARSE_ENTITIES` and `GENTITYNUM_BITS`. The bounds are this project's own.
 
-ghost use Rattle.std.specs.Prelude.{◌≡◌, ◌&&◌, nat_le};
+ghost use Rattle.std.specs.Prelude.{◌≡◌, ◌&&◌, nat_le, IfOk};
 ghost use Rattle.toml.specs.View.{table_view};
 ghost use Rattle.q3_profile.specs.declared.error.Key.TheVariants as keys;
-ghost use Rattle.q3_profile.specs.Profile.{number_at, is_protocol, is_server_ring, is_parse_ring};
+ghost use Rattle.q3_profile.specs.Profile.{number_at, number_or, is_protocol, is_server_ring, is_parse_ring, is_entity_bits};
+ghost use Rattle.q3_fields.specs.Kinds.{HasNumberBits, least_number_bits};
 
 use crate::document::integer_at;
 use crate::error::{Key, ProfileError};
+use q3_fields::{LEAST_NUMBER_BITS, MOST_NUMBER_BITS};
 use toml::Table;
 
 /// The number under a key, which is `least` to `most`.
@@ -48,4 +50,17 @@ pub(crate) fn parse_ring_at(document: &Table) -> Result<u32, ProfileError>
         return Err(ProfileError::Limit(Key::ParseRing));
     }
     Ok(number)
+}
+
+/// How many bits the number of an entity has, which is the engine's 10 where the key is missing.
+pub(crate) fn entity_bits_at(document: &Table) -> Result<u8, ProfileError>
+    ensures number { result ≡ number_or least_number_bits keys.EntityBits is_entity_bits (table_view document.now) }
+    ensures bits { IfOk result HasNumberBits }
+{
+    if document.get(Key::EntityBits.name()).is_none() {
+        return Ok(LEAST_NUMBER_BITS);
+    }
+    let least = u32::from(LEAST_NUMBER_BITS);
+    let most = u32::from(MOST_NUMBER_BITS);
+    Ok(number_at(document, Key::EntityBits, least, most)? as u8)
 }

@@ -11,7 +11,7 @@ use q3_fields::Table;
 #[derive(Drop)]
 pub struct Profile {
     pub code: Code,
-    /// The fields of entities.
+    /// The fields of entities, and how many bits an entity's number has.
     pub entity: Table,
     /// The fields of players.
     pub player: Table,
@@ -19,7 +19,7 @@ pub struct Profile {
     pub server_ring: u32,
     /// How many entities a client's ring has room for: a power of two from 512 to 65,536.
     pub parse_ring: u32,
-    /// The protocol: 68, or 71, by which a check stands in front of each datagram and nothing is scrambled.
+    /// The protocol: 68, or 71, by which each datagram has a check in its header and nothing is scrambled.
     pub protocol: u32,
     /// A number over the file's bytes.
     pub mark: u64,

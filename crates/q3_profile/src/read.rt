@@ -6,6 +6,7 @@ ghost use Rattle.toml.specs.View.{table_view};
 ghost use Rattle.q3_bits.specs.CodeWords.{texts_of};
 ghost use Rattle.q3_profile.specs.declared.error.Key.TheVariants as keys;
 ghost use Rattle.q3_profile.specs.declared.error.ProfileError.TheVariants as errors;
+ghost use Rattle.q3_fields.specs.Kinds.{HasNumberBits};
 ghost use Rattle.q3_profile.specs.Document.{array_at};
 ghost use Rattle.q3_profile.specs.Profile.{checked, profile_at, table_at, code_of, IsProfile};
 ghost use Rattle.q3_profile.specs.Laws.{NamesRule};
@@ -14,10 +15,10 @@ ghost use Rattle.q3_profile.specs.Seen.{Gives};
 use crate::document::{document, integers_at, texts_at};
 use crate::error::{Key, ProfileError};
 use crate::mark::mark;
-use crate::numbers::{parse_ring_at, protocol_at, server_ring_at};
+use crate::numbers::{entity_bits_at, parse_ring_at, protocol_at, server_ring_at};
 use crate::profile::Profile;
 use q3_bits::{Code, CodeError};
-use q3_fields::{Table, TableError};
+use q3_fields::{LEAST_NUMBER_BITS, Table, TableError};
 use std::alloc::Global;
 
 /// The longest file, in bytes.
@@ -25,8 +26,9 @@ const LONGEST: usize = 1_048_576;
 
 /// The profile of a file's bytes, a TOML document in UTF-8 of at most 1,048,576 bytes. Unknown keys are passed over.
 /// `Err` is the first rule that fails, or want of memory: the length, the document, and then the keys in the order
-/// `protocol`, `server_ring`, `parse_ring`, `entity`, `player`, `code`, each with `Missing`, `Kind` and its own rule.
-/// The rules of `entity` and `player` are those of `Table::of`, and that of `code` is `Code::from_words`'s.
+/// `protocol`, `server_ring`, `parse_ring`, `entity_bits`, `entity`, `player`, `code`, each with `Missing`, `Kind` and its own
+/// rule. `entity_bits` alone may be missing, and is then 10. The rules of `entity` and `player` are those of `Table::numbered`,
+/// and that of `code` is `Code::from_words`'s.
 #[tactic(auto, unfolding(crate::specs::Profile::checked))]
 pub fn read_profile(alloc: Global, bytes: &[u8]) -> Result<Profile, ProfileError>
     ensures exact { MatchResult result (λ profile. checked bytes.now ≡ Ok profile)
@@ -50,8 +52,9 @@ fn profile_at(alloc: Global, document: &toml::Table, mark: u64) -> Result<Profil
     let protocol = protocol_at(document)?;
     let server_ring = server_ring_at(document)?;
     let parse_ring = parse_ring_at(document)?;
-    let entity = table_at(alloc, document, Key::Entity)?;
-    let player = table_at(alloc, document, Key::Player)?;
+    let entity_bits = entity_bits_at(document)?;
+    let entity = table_at(alloc, document, Key::Entity, entity_bits)?;
+    let player = table_at(alloc, document, Key::Player, LEAST_NUMBER_BITS)?;
     let texts = texts_at(alloc, document, Key::Code)?;
     let code = code_of(alloc, &texts)?;
     Ok(Profile {
@@ -65,12 +68,18 @@ fn profile_at(alloc: Global, document: &toml::Table, mark: u64) -> Result<Profil
     })
 }
 
-/// The table of the widths under a key.
-fn table_at(alloc: Global, document: &toml::Table, key: Key) -> Result<Table, ProfileError>
-    ensures exact { Gives (λ table. table) result (table_at key (table_view document.now)) }
+/// The table of the widths under a key, in which the number of an entity has so many bits.
+fn table_at(
+    alloc: Global,
+    document: &toml::Table,
+    key: Key,
+    bits: u8,
+) -> Result<Table, ProfileError>
+    requires bits { HasNumberBits bits }
+    ensures exact { Gives (λ table. table) result (table_at key bits (table_view document.now)) }
 {
     let widths = integers_at(alloc, document, key)?;
-    match Table::of(&widths) {
+    match Table::numbered(&widths, bits) {
         Ok(table) => Ok(table),
         Err(TableError::Fields) => Err(ProfileError::Fields(key)),
         Err(TableError::Width(i)) => Err(ProfileError::Width(key, i)),

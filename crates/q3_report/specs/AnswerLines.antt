@@ -3,8 +3,11 @@ use Rattle.std.specs.Prelude.{ℕ, Bool, true, false, List, [], ◌∷◌, ◌++
 use Rattle.std.specs.List.{concat}
 use Rattle.q3_io.specs.Print.{hex_word}
 use Rattle.q3_clstate.specs.Report.{snapshot_text}
-use Rattle.q3_lines.specs.ServerLines.{slot_error_text, not_later_text, late_text, no_client_text, config_refused_text, say_error_text, serve_text, server_text}
+use Rattle.q3_lines.specs.ServerLines.{slot_error_text, not_later_text, no_client_text, config_refused_text, say_error_text, serve_text, server_text}
 use Rattle.q3_lines.specs.ClientLines.{client_text, window_full_text, move_error_text, send_text}
+use Rattle.q3_report.specs.declared.answer.OutOfRange.{OutOfRange}
+use Rattle.q3_report.specs.declared.answer.BaselineRefused.{BaselineRefused}
+use Rattle.q3_report.specs.declared.answer.BaselineRefused.TheVariants as unset
 use Rattle.q3_report.specs.declared.answer.MoveRefused.{MoveRefused}
 use Rattle.q3_report.specs.declared.answer.MoveRefused.TheVariants as refused
 use Rattle.q3_report.specs.declared.answer.TypeRefused.{TypeRefused}
@@ -31,6 +34,14 @@ abbrev pub issued_text : {E : Type 0} → (E → List ℕ) → Result ℕ E → 
 issued_text error_text (Ok number) = concat (codes " ok " ∷ decimal number ∷ codes "\n" ∷ [])
 issued_text error_text (Err e) = concat (codes " refused " ∷ error_text e ∷ codes "\n" ∷ [])
 
+-- why an entity isn't taken over or away, and why a baseline isn't taken over
+abbrev pub out_of_range_text : OutOfRange → List ℕ
+out_of_range_text refusal = codes "range"
+
+abbrev pub baseline_refused_text : BaselineRefused → List ℕ
+baseline_refused_text unset.OutOfRange = codes "range"
+baseline_refused_text unset.Late = codes "late"
+
 -- why a client doesn't issue a command
 abbrev pub type_refused_text : TypeRefused → List ℕ
 type_refused_text untyped.NoClient = codes "noclient"
@@ -56,9 +67,9 @@ abbrev pub handed_lines : HandedIn → List ℕ
 handed_lines (handed.Client c outcome) = concat (codes "client " ∷ decimal c ∷ handed_in_text slot_error_text outcome ∷ [])
 handed_lines (handed.Port c outcome) = concat (codes "port " ∷ decimal c ∷ handed_in_text no_client_text outcome ∷ [])
 handed_lines (handed.Map id outcome) = concat (codes "map " ∷ decimal id ∷ handed_in_text not_later_text outcome ∷ [])
-handed_lines (handed.Entity number) = concat (codes "entity " ∷ decimal number ∷ codes " ok\n" ∷ [])
-handed_lines (handed.Remove number) = concat (codes "remove " ∷ decimal number ∷ codes " ok\n" ∷ [])
-handed_lines (handed.Baseline number outcome) = concat (codes "baseline " ∷ decimal number ∷ handed_in_text late_text outcome ∷ [])
+handed_lines (handed.Entity number outcome) = concat (codes "entity " ∷ decimal number ∷ handed_in_text out_of_range_text outcome ∷ [])
+handed_lines (handed.Remove number outcome) = concat (codes "remove " ∷ decimal number ∷ handed_in_text out_of_range_text outcome ∷ [])
+handed_lines (handed.Baseline number outcome) = concat (codes "baseline " ∷ decimal number ∷ handed_in_text baseline_refused_text outcome ∷ [])
 handed_lines (handed.Config index outcome) = concat (codes "config " ∷ decimal index ∷ handed_in_text config_refused_text outcome ∷ [])
 handed_lines (handed.Player c outcome) = concat (codes "player " ∷ decimal c ∷ handed_in_text no_client_text outcome ∷ [])
 handed_lines (handed.Area c outcome) = concat (codes "area " ∷ decimal c ∷ handed_in_text no_client_text outcome ∷ [])

@@ -2,7 +2,7 @@
 
 use q3_client::{Client, ClientTook, MoveError, Sent};
 use q3_clstate::Log;
-use q3_map::{Late, NotLater};
+use q3_map::NotLater;
 use q3_rings::SnapView;
 use q3_server::{ConfigRefused, Emitted, Heard, NoClient, SayError, ServerTook, SlotError};
 
@@ -44,6 +44,19 @@ pub enum StopRefused {
     NotRecording,
 }
 
+/// The number of an entity isn't below the end mark of the profile's entity table.
+#[derive(Clone, Copy, Debug, PartialEq, Eq)]
+pub struct OutOfRange;
+
+/// Why a baseline isn't taken over.
+#[derive(Clone, Copy, Debug, PartialEq, Eq)]
+pub enum BaselineRefused {
+    /// Its number isn't below the end mark of the profile's entity table.
+    OutOfRange,
+    /// A gamestate of the map was begun.
+    Late,
+}
+
 /// What was handed in to an end, and whether the end took it over.
 #[derive(Clone, Copy, Debug, PartialEq, Eq)]
 pub enum HandedIn {
@@ -62,18 +75,20 @@ pub enum HandedIn {
         id: u32,
         outcome: Result<(), NotLater>,
     },
-    /// The state of the entity of this number was taken over.
+    /// The state of the entity of this number was taken over, unless it was refused.
     Entity {
         number: u16,
+        outcome: Result<(), OutOfRange>,
     },
-    /// There is no entity of this number any more.
+    /// There is no entity of this number any more, unless that was refused.
     Remove {
         number: u16,
+        outcome: Result<(), OutOfRange>,
     },
     /// The baseline of this number was taken over, unless it was refused.
     Baseline {
         number: u16,
-        outcome: Result<(), Late>,
+        outcome: Result<(), BaselineRefused>,
     },
     /// The config string of this index has the text, unless it was refused.
     Config {

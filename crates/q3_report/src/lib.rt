@@ -7,7 +7,7 @@ mod refusals;
 mod report;
 
 pub use answer::{
-    Answer, Front, HandedIn, MoveRefused, RecordRefused, Shown, StopRefused, TakeRefused, Taker,
-    TypeRefused,
+    Answer, BaselineRefused, Front, HandedIn, MoveRefused, OutOfRange, RecordRefused, Shown,
+    StopRefused, TakeRefused, Taker, TypeRefused,
 };
 pub use report::print_answer;

@@ -4,13 +4,15 @@
 ghost use Rattle.std.specs.Prelude.{ℕ, List};
 ghost use Rattle.q3_io.specs.Faults.{HasCause};
 ghost use Rattle.q3_io.specs.Written.{Adds};
-ghost use Rattle.q3_lines.specs.ServerLines.{slot_error_text, no_client_text, say_error_text, not_later_text, late_text, config_refused_text};
-ghost use Rattle.q3_report.specs.AnswerLines.{type_refused_text, move_refused_text, record_refused_text, stop_refused_text};
+ghost use Rattle.q3_lines.specs.ServerLines.{slot_error_text, no_client_text, say_error_text, not_later_text, config_refused_text};
+ghost use Rattle.q3_report.specs.AnswerLines.{out_of_range_text, baseline_refused_text, type_refused_text, move_refused_text, record_refused_text, stop_refused_text};
 
-use crate::answer::{MoveRefused, RecordRefused, StopRefused, TypeRefused};
+use crate::answer::{
+    BaselineRefused, MoveRefused, OutOfRange, RecordRefused, StopRefused, TypeRefused,
+};
 use q3_io::{Failed, Piece, Sink, print_all};
 use q3_lines::client::print_move_error;
-use q3_map::{Late, NotLater};
+use q3_map::NotLater;
 use q3_server::{ConfigRefused, SlotError};
 use q3_slot::{NoClient, SayError};
 
@@ -87,14 +89,28 @@ impl Refusal for NotLater {
     }
 }
 
-impl Refusal for Late {
-    ghost told = { late_text };
+impl Refusal for OutOfRange {
+    ghost told = { out_of_range_text };
 
     fn print<O: Sink>(&self, out: &mut O) -> Result<(), Failed>
-        ensures adds { Adds (O.written out.old) (O.written out.new) (late_text self.now) result }
+        ensures adds { Adds (O.written out.old) (O.written out.new) (out_of_range_text self.now) result }
         ensures cause { HasCause (O.faults out.old) (O.faults out.new) result }
     {
-        out.write_all(b"late")
+        out.write_all(b"range")
+    }
+}
+
+impl Refusal for BaselineRefused {
+    ghost told = { baseline_refused_text };
+
+    fn print<O: Sink>(&self, out: &mut O) -> Result<(), Failed>
+        ensures adds { Adds (O.written out.old) (O.written out.new) (baseline_refused_text self.now) result }
+        ensures cause { HasCause (O.faults out.old) (O.faults out.new) result }
+    {
+        match self {
+            BaselineRefused::OutOfRange => out.write_all(b"range"),
+            BaselineRefused::Late => out.write_all(b"late"),
+        }
     }
 }
 

@@ -73,8 +73,12 @@ fn print_handed_in<O: Sink>(handed: &HandedIn, out: &mut O) -> Result<(), Failed
         HandedIn::Client { c, outcome } => print_outcome(b"client ", u32::from(*c), outcome, out),
         HandedIn::Port { c, outcome } => print_outcome(b"port ", u32::from(*c), outcome, out),
         HandedIn::Map { id, outcome } => print_outcome(b"map ", *id, outcome, out),
-        HandedIn::Entity { number } => print_line(b"entity ", u32::from(*number), b" ok\n", out),
-        HandedIn::Remove { number } => print_line(b"remove ", u32::from(*number), b" ok\n", out),
+        HandedIn::Entity { number, outcome } => {
+            print_outcome(b"entity ", u32::from(*number), outcome, out)
+        }
+        HandedIn::Remove { number, outcome } => {
+            print_outcome(b"remove ", u32::from(*number), outcome, out)
+        }
         HandedIn::Baseline { number, outcome } => {
             print_outcome(b"baseline ", u32::from(*number), outcome, out)
         }

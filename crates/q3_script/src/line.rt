@@ -11,8 +11,8 @@ use q3_bits::NoMemory;
 use q3_text::Text;
 use q3_words::words::{first_word, is, next_word, only_word, text_left};
 use q3_words::{
-    Bytes, LineCause, Name, area_bytes, client_word, config_bytes, entity_state, entity_word,
-    handed_bytes, number_word, player_state, read_address, text_word,
+    Bytes, LAST_ENTITY, LineCause, Name, area_bytes, client_word, config_bytes, entity_state,
+    entity_word, handed_bytes, number_word, player_state, read_address, text_word,
 };
 use std::alloc::Global;
 
@@ -87,7 +87,7 @@ fn baseline(left: &[u8]) -> Result<Event, LineCause>
     ensures { result ≡ baseline_line (words_left left.now) }
 {
     let (number, left) = next_word(left).ok_or(LineCause::Count)?;
-    let number = number_word(number, 1, 1022)? as u16;
+    let number = number_word(number, 1, LAST_ENTITY)? as u16;
     Ok(Event::Baseline {
         state: entity_state(number, left)?,
     })

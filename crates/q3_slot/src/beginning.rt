@@ -6,6 +6,8 @@ ghost use Rattle.std.specs.Prelude.{◌≡◌, ◌+◌, ◌<◌, ◌≤◌, [], 
 ghost use Rattle.q3_chan.specs.Datagrams.{longest_message, sequence_end};
 ghost use Rattle.q3_chan.specs.Gathering.{Gathering};
 ghost use Rattle.q3_chan.specs.Sending.{HandsOut, IsIdle};
+ghost use Rattle.q3_fields.specs.Kinds.{end_mark};
+ghost use Rattle.q3_entity.specs.Entities.{RiseFrom};
 ghost use Rattle.q3_frames.specs.Frames.{FramesState};
 ghost use Rattle.q3_slot.specs.Emitting.{most_placed};
 ghost use Rattle.q3_slot.specs.Slots.{HoldLists, game_emission, slot_of, snapshot_emission};
@@ -83,6 +85,7 @@ pub(crate) fn begin_snapshot(
     requires slot { to.slot < length frames.old.slots }
     requires placed { frames.old.placed ≤ most_placed }
     requires lists { HoldLists profile.now.entity frames.old }
+    requires numbers { RiseFrom (end_mark profile.now.entity) 0 map.now.entities }
     requires buffer { length buffer.old ≡ longest_message }
     requires out { out.old.items ≡ [] }
     ensures slot { (gathering : Gathering) → slot_of sender.new gathering to.entry.issued.now to.entry.client.now

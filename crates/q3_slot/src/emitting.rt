@@ -5,8 +5,8 @@ ghost use Rattle.std.specs.Prelude.{◌≡◌, ◌+◌, ◌<◌, ◌≤◌, ◌|
 ghost use Rattle.q3_chan.specs.Datagrams.{client_form, longest_message, sequence_end};
 ghost use Rattle.q3_chan.specs.Gathering.{new_gathering};
 ghost use Rattle.q3_frames.specs.Frames.{base_of, build_at};
-ghost use Rattle.q3_fields.specs.Kinds.{Layout};
-ghost use Rattle.q3_entity.specs.Entities.{IsList, Rises};
+ghost use Rattle.q3_fields.specs.Kinds.{Layout, end_mark};
+ghost use Rattle.q3_entity.specs.Entities.{IsList, RiseFrom, Rises};
 ghost use Rattle.q3_svmsg.specs.Values.{base_viewed, base_from, base_entities, IsNamed};
 ghost use Rattle.q3_built.specs.Built.{built_of, number_of};
 ghost use Rattle.q3_built.specs.Writing.{HoldsBuilt};
@@ -18,7 +18,6 @@ use q3_bits::Overflow;
 use q3_built::{SnapshotParts, TellingParts, Written, write_snapshot};
 use q3_chan::{SEQUENCE_END, Sender};
 use q3_entity::EntityState;
-use q3_fields::MOST_END;
 use q3_frames::{Frames, laws};
 use q3_map::Map;
 use q3_player::SnapHead;
@@ -73,6 +72,7 @@ pub(crate) fn write_next(
     requires slot { to.slot < length frames.old.slots }
     requires placed { frames.old.placed ≤ most_placed }
     requires lists { HoldLists profile.now.entity frames.old }
+    requires numbers { RiseFrom (end_mark profile.now.entity) 0 map.now.entities }
     requires buffer { length buffer.old ≡ longest_message }
     ensures written { HoldsBuilt profile.now (begun_next profile.now map.now frames.old to.entry.slot (slot_of sender.now (new_gathering (client_form None)) to.entry.issued.now to.entry.client.now))
         buffer.new result }
@@ -81,8 +81,6 @@ pub(crate) fn write_next(
     ensures lists { HoldLists profile.now.entity frames.new }
 {
     to.client.fill(sender, map, head);
-    // so each number that a map keeps is below the profile's end mark
-    prove!(profile.entity.end() >= MOST_END);
     let entities = to.client.seen(map);
     build(frames, to.slot, head, entities);
     write_against(frames, to, profile, map, head, entities, buffer)

@@ -9,8 +9,8 @@ ghost use Rattle.q3_chan.specs.Datagrams.{client_form};
 ghost use Rattle.q3_chan.specs.Gathering.{Gathering, new_gathering};
 ghost use Rattle.q3_chan.specs.Sending.{Sending};
 ghost use Rattle.q3_clmsg.specs.Values.{said_of};
-ghost use Rattle.q3_fields.specs.Kinds.{Layout, end_mark, most_end};
-ghost use Rattle.q3_entity.specs.Entities.{IsList, Rises};
+ghost use Rattle.q3_fields.specs.Kinds.{Layout, end_mark};
+ghost use Rattle.q3_entity.specs.Entities.{IsList, RiseFrom, Rises};
 ghost use Rattle.q3_player.specs.State.{normal_player, zero_player};
 ghost use Rattle.q3_window.specs.Incoming.{executes, fresh_of};
 ghost use Rattle.q3_window.specs.Outgoing.{OutgoingState, acknowledge_at, new_outgoing};
@@ -326,7 +326,7 @@ impl Joined {
         ensures seen { (sending : Sending) (gathering : Gathering) (issued : OutgoingState)
             → result.now ≡ (next_snapshot map.now (slot_of sending gathering issued self.now)).entities }
         ensures rises { Rises result.now }
-        ensures listed { (table : Layout) → most_end ≤ end_mark table → IsList table result.now }
+        ensures listed { (table : Layout) → RiseFrom (end_mark table) 0 map.now.entities → IsList table result.now }
     {
         if self.stage.is_active() {
             map.lowest()

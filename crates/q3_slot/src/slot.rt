@@ -6,6 +6,8 @@
 ghost use Rattle.std.specs.Prelude.{◌≡◌, ◌<◌, ◌≤◌, ◌+◌, [], false, true, None, Some, All, IfOk, IfSome, IsSome, IsTrue, length, option_map, is_some};
 ghost use Rattle.q3_chan.specs.Datagrams.{longest_message, sequence_end};
 ghost use Rattle.q3_chan.specs.Sending.{HandsOut, IsIdle};
+ghost use Rattle.q3_fields.specs.Kinds.{end_mark};
+ghost use Rattle.q3_entity.specs.Entities.{RiseFrom};
 ghost use Rattle.q3_frames.specs.Frames.{FramesState};
 ghost use Rattle.q3_config.specs.Strings.{is_config_byte, places};
 ghost use Rattle.q3_config.specs.Laws.{piece_texts};
@@ -310,6 +312,7 @@ impl Slot {
         requires out { out.old.items ≡ [] }
         requires slot { slot < length frames.old.slots }
         requires lists { HoldLists profile.now.entity frames.old }
+        requires numbers { RiseFrom (end_mark profile.now.entity) 0 map.old.entities }
         requires buffer { length buffer.old ≡ longest_message }
         ensures slot { self.new ≡ slot_after profile.now map.old frames.old slot self.old }
         ensures map { map.new ≡ map_after profile.now map.old frames.old slot self.old }

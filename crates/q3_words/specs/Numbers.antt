@@ -5,9 +5,9 @@ use Rattle.q3_words.specs.declared.cause.LineCause.{LineCause}
 use Rattle.q3_words.specs.declared.cause.LineCause.TheVariants as causes
 use Rattle.q3_text.specs.Decimals.{number_at}
 
--- the greatest number of an entity
+-- the greatest number of an entity, by the widest table
 abbrev pub last_entity : ℕ
-last_entity = 1022
+last_entity = 4094
 
 -- the greatest number of a client
 abbrev pub last_client : ℕ

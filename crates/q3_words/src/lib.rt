@@ -17,5 +17,5 @@ pub use bytes::Bytes;
 pub use cause::LineCause;
 pub use fields::{entity_state, player_state};
 pub use name::Name;
-pub use numbers::{client_word, entity_word, number_word};
+pub use numbers::{LAST_ENTITY, client_word, entity_word, number_word};
 pub use quotes::{config_bytes, text_word};

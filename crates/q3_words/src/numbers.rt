@@ -4,7 +4,11 @@ ghost use Rattle.std.specs.Prelude.{◌≡◌, ◌≤◌, IfOk};
 ghost use Rattle.q3_words.specs.Numbers.{number_word, entity_word, client_word};
 
 use crate::cause::LineCause;
+use q3_fields::MOST_END;
 use q3_text::decimal_within;
+
+/// The greatest number of an entity, by the widest table.
+pub const LAST_ENTITY: u32 = MOST_END as u32 - 1;
 
 /// The number that a word spells, if it is one from `low` to `high`.
 pub fn number_word(word: &[u8], low: u32, high: u32) -> Result<u32, LineCause>
@@ -14,11 +18,11 @@ pub fn number_word(word: &[u8], low: u32, high: u32) -> Result<u32, LineCause>
     decimal_within(word, low, high).ok_or(LineCause::Number)
 }
 
-/// The number of an entity.
+/// The number of an entity, by the widest table.
 pub fn entity_word(word: &[u8]) -> Result<u16, LineCause>
     ensures { result ≡ entity_word word.now }
 {
-    Ok(number_word(word, 0, 1022)? as u16)
+    Ok(number_word(word, 0, LAST_ENTITY)? as u16)
 }
 
 /// The number of a client.

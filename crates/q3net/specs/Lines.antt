@@ -19,7 +19,7 @@ use Rattle.q3net.specs.declared.fault.Fault.{Fault}
 use Rattle.q3net.specs.declared.fault.Fault.TheVariants.{NoMemory, Usage, Read, Write, FileWrite, Profile, Script, Wire, Turns, Demo, Index, PastEnd}
 
 unfoldable pub help_text : List ℕ
-help_text = codes "q3net replays schedules of Quake III's connected protocol 68, and serves and joins by it over UDP\n\nq3net replay PROFILE SCRIPT                replays the schedule of the script by the profile, and prints its report\nq3net serve PROFILE SCRIPT ADDRESS         is a server at the address, by the script whose lines are done when they are due\nq3net join PROFILE SCRIPT ADDRESS SERVER   is a client at the address, of the server at that one, likewise\nq3net play PROFILE DEMO                    plays a demo, and prints what its records do and what they leave\nq3net index PROFILE DEMO INDEX             makes the index of a demo, by which it is sought\nq3net seek PROFILE DEMO INDEX RECORD       prints what so many records of a demo leave, by its index\nq3net make NUMBER SEED                     prints a generated script, of which so many events are drawn from the seed\nq3net trial PROFILE NUMBER SEED            replays that script by the profile, and prints what the report counts\nq3net --help                               prints this text\nq3net --version                            prints the version\n"
+help_text = codes "q3net replays schedules of Quake III's connected protocols 68 and 71, and serves and joins by them over UDP\n\nq3net replay PROFILE SCRIPT                replays the schedule of the script by the profile, and prints its report\nq3net serve PROFILE SCRIPT ADDRESS         is a server at the address, by the script whose lines are done when they are due\nq3net join PROFILE SCRIPT ADDRESS SERVER   is a client at the address, of the server at that one, likewise\nq3net play PROFILE DEMO                    plays a demo, and prints what its records do and what they leave\nq3net index PROFILE DEMO INDEX             makes the index of a demo, by which it is sought\nq3net seek PROFILE DEMO INDEX RECORD       prints what so many records of a demo leave, by its index\nq3net make NUMBER SEED                     prints a generated script, of which so many events are drawn from the seed\nq3net trial PROFILE NUMBER SEED            replays that script by the profile, and prints what the report counts\nq3net --help                               prints this text\nq3net --version                            prints the version\n"
 
 unfoldable pub version_text : List ℕ
 version_text = codes "q3net 0.1.0\n"
@@ -85,13 +85,15 @@ demo_line (demo.BadLength at) = record_line (codes "length") at
 demo_line (demo.BadNumber at) = record_line (codes "number") at
 demo_line (demo.Message at cause) = concat (codes "demo:" ∷ illegible_text (illegible_word cause) (cause_number cause) at ∷ [])
 
--- what is wrong with an index: the place of what breaks its rules, or the demo's length and the profile's mark as they are, and as it keeps them
+-- what is wrong with an index: the place of what breaks its rules; the demo's length and the profile's mark as they are, and as it keeps them;
+-- or how many bits the number of an entity has in it, and by the profile
 abbrev pub index_line : IndexError → List ℕ
 index_line opening.ReadFault = codes "read fault\n"
 index_line opening.NoMemory = no_memory_line
 index_line (opening.NotIndex at) = concat (codes "index: bad at " ∷ decimal at ∷ codes "\n" ∷ [])
 index_line (opening.OtherDemo kept found) =
     concat (codes "index: other demo " ∷ decimal found.0 ∷ codes " " ∷ decimal found.1 ∷ codes ", kept " ∷ decimal kept.0 ∷ codes " " ∷ decimal kept.1 ∷ codes "\n" ∷ [])
+index_line (opening.OtherWidth kept found) = concat (codes "index: width " ∷ decimal kept ∷ codes ", profile " ∷ decimal found ∷ codes "\n" ∷ [])
 
 -- the line that a fault prints; none is asked for where the sink failed
 abbrev pub fault_line : Fault → List ℕ

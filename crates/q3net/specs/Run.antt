@@ -19,7 +19,8 @@ use Rattle.q3_world.specs.declared.told.StepError.TheVariants as step
 use Rattle.q3_profile.specs.declared.profile.Profile.{Profile as ProfileValue}
 use Rattle.q3_demo.specs.Playing.{Played, records_of, play_state}
 use Rattle.q3_demo.specs.Report.{state_text}
-use Rattle.q3_index.specs.Text.{index_of}
+use Rattle.q3_index.specs.declared.opening.Version.{Version}
+use Rattle.q3_index.specs.Text.{Tells, index_by}
 use Rattle.q3net.specs.Command.{Command, Seek, files_of}
 use Rattle.q3net.specs.Faults.{IsOutside, node_fault, FileCause}
 use Rattle.q3net.specs.Input.{IsFront, looked_up, created, LeavesTold, LeavesFirst, Touches}
@@ -190,11 +191,11 @@ IsSought by demo records old now status =
     ((status ≡ 0) × (played : Played) × (play_state by demo records ≡ Ok played) × HandsOn old now (state_text played.state records))
     ⊎ ((status ≡ 1) ⊎ ((status ≡ 3) ⊎ (status ≡ 4)))
 
--- where a command seeks by the index that was made of a demo, by the same profile
+-- where a command seeks by an index of either version that was made of a demo, by the same profile
 abbrev pub OfMadeIndex : Option Command → Outside → (ProfileValue → List ℕ → ℕ → Type 0) → Type 0
 OfMadeIndex (Some (Seek profile demo index records)) told So =
-    (files : Told) (by : ProfileValue) (bytes made : List ℕ) → told.files ≡ Some files → profile_in (contents_of files.files profile) ≡ Ok by
-    → contents_of files.files demo ≡ Some bytes → contents_of files.files index ≡ Some made → length bytes < 2 ^ 64 → index_of by bytes ≡ Ok made
+    (files : Told) (by : ProfileValue) (version : Version) (bytes made : List ℕ) → told.files ≡ Some files → profile_in (contents_of files.files profile) ≡ Ok by
+    → contents_of files.files demo ≡ Some bytes → contents_of files.files index ≡ Some made → length bytes < 2 ^ 64 → Tells version by.entity.number_bits → index_by version by bytes ≡ Ok made
     → records ≤ length (records_of by bytes) → So by bytes records
 OfMadeIndex command told So = ⊤
 

@@ -260,7 +260,7 @@ IsIndexed told (Err cause) profile demo index verdict = verdict ≡ printing rea
 -- what so many records of a demo leave, by the bytes of an index
 abbrev pub sought_in : ProfileValue → List ℕ → List ℕ → ℕ → Result demos.Played Fault
 sought_in by demo index number = do
-  heads ← result_map_both (λ heads. heads) index_fault (open_at (length demo) by.mark index)
+  heads ← result_map_both (λ heads. heads) index_fault (open_at (length demo) by.mark by.entity.number_bits index)
   result_map_both (λ played. played) seek_fault (seek_at by demo index heads.records heads.checkpoints number)
 
 -- and what is printed, by the demo in one file and the index in another

@@ -286,6 +286,16 @@ fn print_index<O: Sink>(e: IndexError, out: &mut O) -> Result<(), Failed>
             ],
             out,
         ),
+        IndexError::OtherWidth { kept, found } => print_all(
+            &[
+                Piece::Text(b"index: width "),
+                Piece::Number(u64::from(kept)),
+                Piece::Text(b", profile "),
+                Piece::Number(u64::from(found)),
+                Piece::Text(b"\n"),
+            ],
+            out,
+        ),
     }
 }
 

@@ -6,5 +6,5 @@ pub returns : goal.returns
 returns c =
     let table = c.args.table.now in
     let gone = rw c.end-end.ensures.mark at c.in_ok-write_gone.ensures.writes in
-    let mark = rw (c.from.ensures, c.number_bits.ensures.bits, c.end-end.ensures.mark) at c.put.ensures.writes in
+    let mark = rw (c.from.ensures, c.from-2.ensures, c.bits.ensures.bits, c.end-end.ensures.mark) at c.put.ensures.writes in
     c.texts_are_written.ensures.next (λ ws. field_bits ws table.number_bits (end_mark table)) gone mark

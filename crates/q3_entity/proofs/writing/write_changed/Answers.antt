@@ -13,4 +13,4 @@ returns c =
     let to = c.args.to.now in
     let delta = counted_text Entity words table.kinds c.args.count c.args.from.now.words to.words in
     let opened : opening words table to.number ((0, 1) ∷ (1, 1) ∷ []) ≡ field_bits words table.number_bits to.number ++ field_bits words 2 2 = opening-marks words table to.number 2 in
-    rw (opened, append_assoc (field_bits words table.number_bits to.number) (field_bits words 2 2) delta) (rw (c.from.ensures, c.number_bits.ensures.bits) at c.write_numbered.ensures)
+    rw (opened, append_assoc (field_bits words table.number_bits to.number) (field_bits words 2 2) delta) (rw (c.from.ensures, c.from-2.ensures, c.bits.ensures.bits) at c.write_numbered.ensures)

@@ -10,7 +10,7 @@ returns-clause-rises c =
     subst Rises (sym front) (lowest_rise entities c.self.invariant.0)
 
 pub returns-clause-listed : goal.returns-clause-listed
-returns-clause-listed c = λ table wide.
+returns-clause-listed c = λ table rise.
     let entities = c.self.inside.entities.items in
     let front : c.front.result.now ≡ take most_entities entities = search rules in
-    subst (IsList table) (sym front) (lowest_listed table entities c.self.invariant.0 wide)
+    subst (IsList table) (sym front) (lowest_listed table entities rise)
