@@ -9,11 +9,12 @@ returns-clause-most c =
     let bits = c.self.inside.number_bits in
     let within = c.self.invariant.numbers in
     let most : 2 ^ bits ≤ 2 ^ most_number_bits = pow_mono within.1 in
-    omega (arith, most, one_shl bits 32 (omega (arith, within.1)))
+    omega (arith, most, one_shl bits 16 (omega (arith, within.1)))
 
 pub returns-clause-least : goal.returns-clause-least
 returns-clause-least c =
     let bits = c.self.inside.number_bits in
     let within = c.self.invariant.numbers in
     let least : 2 ^ least_number_bits ≤ 2 ^ bits = pow_mono within.0 in
-    omega (arith, least, one_shl bits 32 (omega (arith, within.1)))
+    let most : 2 ^ bits ≤ 2 ^ most_number_bits = pow_mono within.1 in
+    omega (arith, least, most, one_shl bits 16 (omega (arith, within.1)))
