@@ -9,6 +9,7 @@ use Rattle.q3_demo.specs.declared.error.DemoError.TheVariants.{ReadFault, Trunca
 use Rattle.q3_demo.specs.Playing.{records_of, play_of}
 use Rattle.q3_demo.specs.Running.{OnlyAsks}
 use Rattle.q3_index.specs.declared.build.Built.{Built}
+use Rattle.q3_index.specs.declared.opening.Version.TheVariants.{Second}
 use Rattle.q3_index.specs.Text.{spacing, head_bytes, index_text, index_of}
 use Rattle.q3_index.specs.Running.{LeavesIndex, BeginsIndex, Builds}
 use Rattle.q3_index.specs.Steps.{IsOutside, HasIndex, BreaksOff, Extends, Counts, checkpoints_bytes}
@@ -87,31 +88,35 @@ whole_waits profile told demo index mid empty leaves = record {
 }
 
 -- the head, as the call that writes it is given it
-abbrev pub Given : Profile → Told → ℕ → ℕ → ℕ → Type 0
-Given profile told demo size records = (size ≡ length (contents_at told demo)) × (records ≡ length (records_of profile (contents_at told demo)))
+abbrev pub Given : Profile → Told → ℕ → ℕ → ℕ → ℕ → Type 0
+Given profile told demo size width records =
+    (size ≡ length (contents_at told demo)) × (width ≡ profile.entity.number_bits) × (records ≡ length (records_of profile (contents_at told demo)))
 
 abbrev head_of : Profile → List ℕ → List ℕ
-head_of profile demo = head_bytes (length demo) profile.mark (length (records_of profile demo))
+head_of profile demo = head_bytes Second (length demo) profile.mark profile.entity.number_bits (length (records_of profile demo))
 
-same_head : (profile : Profile) (told : Told) (demo size records : ℕ) → Given profile told demo size records → head_bytes size profile.mark records ≡ head_of profile (contents_at told demo)
-same_head profile told demo size records given = ap (λ n. head_bytes n profile.mark records) given.0 ∙ ap (λ n. head_bytes (length (contents_at told demo)) profile.mark n) given.1
+same_head : (profile : Profile) (told : Told) (demo size width records : ℕ) → Given profile told demo size width records
+    → head_bytes Second size profile.mark width records ≡ head_of profile (contents_at told demo)
+same_head profile told demo size width records given =
+    ap (λ n. head_bytes Second n profile.mark width records) given.0 ∙ ap (λ n. head_bytes Second (length (contents_at told demo)) profile.mark n records) given.1
+    ∙ ap (λ n. head_bytes Second (length (contents_at told demo)) profile.mark profile.entity.number_bits n) given.2
 
-pub head_fails : (profile : Profile) (told : Told) (demo index : ℕ) (mid now : Option Told) (size records : ℕ) (e : DemoError) → IsEmpty told index → LeavesIndex told mid index [] → Given profile told demo size records
-    → (play_of profile (contents_at told demo)).ending ≡ Ok tt → ThenBreaks mid now index (head_bytes size profile.mark records) e → Builds profile told demo index now (Err e)
-head_fails profile told demo index mid now size records e empty leaves given ending off =
+pub head_fails : (profile : Profile) (told : Told) (demo index : ℕ) (mid now : Option Told) (size width records : ℕ) (e : DemoError) → IsEmpty told index → LeavesIndex told mid index [] → Given profile told demo size width records
+    → (play_of profile (contents_at told demo)).ending ≡ Ok tt → ThenBreaks mid now index (head_bytes Second size profile.mark width records) e → Builds profile told demo index now (Err e)
+head_fails profile told demo index mid now size width records e empty leaves given ending off =
     let bytes : List ℕ = contents_at told demo in
     breaks profile told demo index now e empty ending
     (put_stops told mid now index (head_of profile bytes) (checkpoints_bytes profile (records_of profile bytes)) (index_text profile bytes) e (whole_waits profile told demo index mid empty leaves)
-    (subst (λ (head : List ℕ). ThenBreaks mid now index head e) (same_head profile told demo size records given) off))
+    (subst (λ (head : List ℕ). ThenBreaks mid now index head e) (same_head profile told demo size width records given) off))
 
 -- it was put there
-head_put : (profile : Profile) (told : Told) (demo index : ℕ) (mid now : Option Told) (size records : ℕ) → IsEmpty told index → LeavesIndex told mid index [] → Given profile told demo size records
-    → ThenLeaves mid now index (head_bytes size profile.mark records)
+head_put : (profile : Profile) (told : Told) (demo index : ℕ) (mid now : Option Told) (size width records : ℕ) → IsEmpty told index → LeavesIndex told mid index [] → Given profile told demo size width records
+    → ThenLeaves mid now index (head_bytes Second size profile.mark width records)
     → HasPut told now index (checkpoints_bytes profile (records_of profile (contents_at told demo))) (index_text profile (contents_at told demo))
-head_put profile told demo index mid now size records empty leaves given put =
+head_put profile told demo index mid now size width records empty leaves given put =
     let bytes : List ℕ = contents_at told demo in
     put_more told mid now index (head_of profile bytes) (checkpoints_bytes profile (records_of profile bytes)) (index_text profile bytes) (whole_waits profile told demo index mid empty leaves)
-    (subst (λ (head : List ℕ). ThenLeaves mid now index head) (same_head profile told demo size records given) put)
+    (subst (λ (head : List ℕ). ThenLeaves mid now index head) (same_head profile told demo size width records given) put)
 
 -- what the call that writes the checkpoints says
 abbrev pub PutsPoints : Profile → Option Told → Option Told → ℕ → ℕ → ℕ → Result (Unit {0}) DemoError → Type 0
@@ -147,24 +152,24 @@ points_put profile told (Some mid) now demo index records (Err e) apart has reco
     let left : HasPut told (Some mid) index (points ++ []) all = put_same told (Some mid) index points (points ++ []) all has (sym (append-nil points)) in
     put_stops_at told mid now index points [] all e left (points_there profile told mid now demo index records points all (Err e) apart has records_is puts)
 
-pub points_fail : (profile : Profile) (told : Told) (demo index : ℕ) (mid written now : Option Told) (size records : ℕ) (e : DemoError) → IsEmpty told index → Apart told demo index → LeavesIndex told mid index []
-    → Given profile told demo size records → (play_of profile (contents_at told demo)).ending ≡ Ok tt → ThenLeaves mid written index (head_bytes size profile.mark records)
+pub points_fail : (profile : Profile) (told : Told) (demo index : ℕ) (mid written now : Option Told) (size width records : ℕ) (e : DemoError) → IsEmpty told index → Apart told demo index → LeavesIndex told mid index []
+    → Given profile told demo size width records → (play_of profile (contents_at told demo)).ending ≡ Ok tt → ThenLeaves mid written index (head_bytes Second size profile.mark width records)
     → PutsPoints profile written now demo index (records / spacing) (Err e)
     → Builds profile told demo index now (Err e)
-points_fail profile told demo index mid written now size records e empty apart leaves given ending head puts =
+points_fail profile told demo index mid written now size width records e empty apart leaves given ending head puts =
     breaks profile told demo index now e empty ending
-    (points_put profile told written now demo index records (Err e) apart (head_put profile told demo index mid written size records empty leaves given head) given.1 puts)
+    (points_put profile told written now demo index records (Err e) apart (head_put profile told demo index mid written size width records empty leaves given head) given.2 puts)
 
 -- the index was made
-pub it_is_made : (profile : Profile) (told : Told) (demo index : ℕ) (mid written now : Option Told) (size : ℕ) (built : Built) → IsEmpty told index → Apart told demo index → LeavesIndex told mid index []
-    → Given profile told demo size built.records → built.checkpoints ≡ built.records / spacing → (play_of profile (contents_at told demo)).ending ≡ Ok tt
-    → ThenLeaves mid written index (head_bytes size profile.mark built.records) → PutsPoints profile written now demo index (built.records / spacing) (Ok tt)
+pub it_is_made : (profile : Profile) (told : Told) (demo index : ℕ) (mid written now : Option Told) (size width : ℕ) (built : Built) → IsEmpty told index → Apart told demo index → LeavesIndex told mid index []
+    → Given profile told demo size width built.records → built.checkpoints ≡ built.records / spacing → (play_of profile (contents_at told demo)).ending ≡ Ok tt
+    → ThenLeaves mid written index (head_bytes Second size profile.mark width built.records) → PutsPoints profile written now demo index (built.records / spacing) (Ok tt)
     → Builds profile told demo index now (Ok built)
-it_is_made profile told demo index mid written now size built empty apart leaves given points ending head puts =
+it_is_made profile told demo index mid written now size width built empty apart leaves given points ending head puts =
     let bytes : List ℕ = contents_at told demo in
-    let put = points_put profile told written now demo index built.records (Ok tt) apart (head_put profile told demo index mid written size built.records empty leaves given head) given.1 puts in (
+    let put = points_put profile told written now demo index built.records (Ok tt) apart (head_put profile told demo index mid written size width built.records empty leaves given head) given.2 puts in (
       may_be_made profile bytes ending,
       subst (λ (before : List ℕ). LeavesIndex told now index (before ++ index_text profile bytes)) (holds_none told index empty) put,
-      given.1,
+      given.2,
       points,
     )

@@ -200,7 +200,7 @@ made_is_cheap goes whole profile state number before now costs = λ reads apart 
     let index : List ℕ = contents_at told state.index in
     let first : Played = behind profile demo (spacing * (number / spacing)) in
     let last : Played = behind profile demo number in
-    let so = goes profile demo index made.heads number made.codec made.ring made.mark made.long made.made made.opens some in
+    let so = goes made.version profile demo index made.heads number made.tells made.codec made.ring made.mark made.long made.made made.opens some in
     let starts : start_at profile index state.checkpoints number ≡ Ok first = ap (λ (s : IndexState). start_at profile index s.checkpoints number) made.is ∙ so.0 in
     let ends : seek_at profile demo index state.records state.checkpoints number ≡ Ok last = ap (λ (s : IndexState). seek_at profile demo index s.records s.checkpoints number) made.is ∙ so.1 in
     less_so (asked_of now state.demo) (asked_of before state.demo) first.at last.at (costs reads apart told is first last starts ends)
@@ -220,6 +220,6 @@ answers_so profile state demo index number played (Err (Demo e)) plays sought se
 pub made_plays : SeekingIsPlaying → (profile : Profile) (state : IndexState) (demo index : List ℕ) (number : ℕ) (result : Result AppliedState SeekError) → IsMade profile state demo index
     → number ≤ length (records_of profile demo) → Seeks profile state demo index number result → PlaysSo profile demo number result
 made_plays is_playing profile state demo index number result made some seeks =
-    let so = is_playing profile demo index made.heads number made.codec made.ring made.mark made.long made.made made.opens some in
+    let so = is_playing made.version profile demo index made.heads number made.tells made.codec made.ring made.mark made.long made.made made.opens some in
     let ends : seek_at profile demo index state.records state.checkpoints number ≡ Ok so.0 = ap (λ (s : IndexState). seek_at profile demo index s.records s.checkpoints number) made.is ∙ so.2 in
     answers_so profile state demo index number so.0 result so.1 ends seeks

@@ -53,6 +53,11 @@ value_fronted k (Err at) = refl
 pub front_value : {X : Type 0} (k : ℕ) (part whole : Field X) → IsFront k part whole → value_of part ≡ value_of whole
 front_value k part whole is = ap value_of is.same ∙ value_fronted k whole
 
+pub then_value : {X Y : Type 0} (j : ℕ) (part whole : Field X) (f : X × Cursor → Field Y) → IsFront j part whole
+    → ((x : X) (at : ℕ) (bytes : List ℕ) → value_of (f (x, record { at = at; bytes = take j bytes })) ≡ value_of (f (x, record { at = at; bytes = bytes }))) → value_of (part >>= f) ≡ value_of (whole >>= f)
+then_value j part (Ok x) f first next = rw first.same (next x.0 x.1.at x.1.bytes)
+then_value j part (Err at) f first next = rw first.same refl
+
 -- ---- places
 
 -- what is behind what was read stands at this place
@@ -81,14 +86,7 @@ pub then_leads : {X Y : Type 0} (bytes : List ℕ) (at next : ℕ) (r : Field X)
 then_leads bytes at next (Ok x) f first others = rw (sym (first.found x.0 x.1 refl)) at (others x.0)
 then_leads bytes at next (Err place) f first others = record { found = λ y cursor same. absurd cc }
 
--- a value that was read, with what is behind it
-pub leads_on : {X : Type 0} (bytes : List ℕ) (at : ℕ) (r : Field X) (x : X) → LeadsTo bytes at r → value_of r ≡ Ok x → r ≡ Ok (x, from_place bytes at)
-leads_on {X = X} bytes at (Ok y) x leads is =
-    let one : y.0 ≡ x = cc in
-    let there : y.1 ≡ from_place bytes at = leads.found y.0 y.1 refl in
-    ap (λ (z : X). Ok (z, y.1)) one ∙ ap (λ (cursor : Cursor). Ok (x, cursor)) there
-leads_on bytes at (Err place) x leads is = absurd cc
-
+-- a refusal that was told
 pub refused_on : {X : Type 0} (r : Field X) (place : ℕ) → value_of r ≡ Err place → r ≡ Err place
 refused_on (Ok y) place is = absurd cc
 refused_on {X = X} (Err at) place is =

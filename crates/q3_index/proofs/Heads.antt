@@ -8,60 +8,131 @@ use Rattle.q3_bits.specs.ResultBind.{◌>>=◌, bind_ok, bind_is}
 use Rattle.q3_savestate.specs.Cursor.{Cursor, Field, behind, field_at, number_at}
 use Rattle.q3_index.specs.declared.index.Checkpoint.{Checkpoint}
 use Rattle.q3_index.specs.declared.opening.Head.{Head}
+use Rattle.q3_index.specs.declared.opening.Version.{Version}
+use Rattle.q3_index.specs.declared.opening.Version.TheVariants.{First, Second}
 use Rattle.q3_index.specs.Text.{spacing}
-use Rattle.q3_index.specs.Steps.{from_place, value_of, magic_at, head_at, numbers_at, checkpoint_at, read_to}
-use Rattle.q3_index.proofs.Fields.{IsFront, ok_front, field_front, then_front, front_value, LeadsTo, ok_leads, field_leads, then_leads, leads_on, refused_on}
+use Rattle.q3_index.specs.Opening.{version_at, head_behind, head_at}
+use Rattle.q3_index.specs.Steps.{from_place, value_of, head_size, numbers_at, checkpoint_at, read_to}
+use Rattle.q3_index.proofs.Fields.{IsFront, ok_front, field_front, then_front, front_value, then_value, LeadsTo, ok_leads, field_leads, then_leads, refused_on}
 
--- where its mark is cut short
-pub mark_cut : (cursor behind_magic behind_length : Cursor) (magic : List ℕ) (length place : ℕ) → magic_at cursor ≡ Ok (magic, behind_magic)
-    → number_at 8 0 18446744073709551615 behind_magic ≡ Ok (length, behind_length) → number_at 8 0 18446744073709551615 behind_length ≡ Err place → value_of (head_at cursor) ≡ Err place
-unfolding head_at
-mark_cut cursor behind_magic behind_length magic length place first second stops = rw (first, second, stops) refl
+-- ---- the head of either version, of which 33 bytes are read
 
-head_front : (at : ℕ) (bytes : List ℕ) → IsFront 0 (head_at (record { at = at; bytes = take 32 bytes })) (head_at (record { at = at; bytes = bytes }))
-unfolding head_at
-head_front at bytes =
+-- what it begins with
+version_front : (at : ℕ) (bytes : List ℕ) → IsFront 25 (version_at (record { at = at; bytes = take 33 bytes })) (version_at (record { at = at; bytes = bytes }))
+unfolding version_at
+version_front at bytes = search (then_front {X = List ℕ} {Y = Version} 25, ok_front, field_front {X = List ℕ} 8 33 25 refl) depth 10
+
+-- behind that, where a byte is left in the first version
+first_front : (at : ℕ) (bytes : List ℕ) → IsFront 1 (head_behind First (record { at = at; bytes = take 25 bytes })) (head_behind First (record { at = at; bytes = bytes }))
+unfolding head_behind
+first_front at bytes =
     search (
-      then_front {X = List ℕ} {Y = Head} 24,
-      then_front {X = ℕ} {Y = Head} 16,
+      then_front {X = ℕ} {Y = Head} 17,
+      then_front {X = ℕ} {Y = Head} 9,
+      then_front {X = ℕ} {Y = Head} 5,
+      then_front {X = ℕ} {Y = Head} 1,
+      ok_front,
+      field_front {X = ℕ} 8 25 17 refl,
+      field_front {X = ℕ} 8 17 9 refl,
+      field_front {X = ℕ} 4 9 5 refl,
+      field_front {X = ℕ} 4 5 1 refl,
+    ) depth 10
+
+second_front : (at : ℕ) (bytes : List ℕ) → IsFront 0 (head_behind Second (record { at = at; bytes = take 25 bytes })) (head_behind Second (record { at = at; bytes = bytes }))
+unfolding head_behind
+second_front at bytes =
+    search (
+      then_front {X = ℕ} {Y = Head} 17,
+      then_front {X = ℕ} {Y = Head} 9,
       then_front {X = ℕ} {Y = Head} 8,
       then_front {X = ℕ} {Y = Head} 4,
       then_front {X = ℕ} {Y = Head} 0,
       ok_front,
-      field_front {X = List ℕ} 8 32 24 refl,
-      field_front {X = ℕ} 8 24 16 refl,
-      field_front {X = ℕ} 8 16 8 refl,
+      field_front {X = ℕ} 8 25 17 refl,
+      field_front {X = ℕ} 8 17 9 refl,
+      field_front {X = ℕ} 1 9 8 refl,
       field_front {X = ℕ} 4 8 4 refl,
       field_front {X = ℕ} 4 4 0 refl,
     ) depth 10
 
-head_leads : (bytes : List ℕ) → LeadsTo bytes 32 (head_at (from_place bytes 0))
+behind_front : (version : Version) (at : ℕ) (bytes : List ℕ)
+    → value_of (head_behind version (record { at = at; bytes = take 25 bytes })) ≡ value_of (head_behind version (record { at = at; bytes = bytes }))
+behind_front First at bytes = front_value 1 (head_behind First (record { at = at; bytes = take 25 bytes })) (head_behind First (record { at = at; bytes = bytes })) (first_front at bytes)
+behind_front Second at bytes = front_value 0 (head_behind Second (record { at = at; bytes = take 25 bytes })) (head_behind Second (record { at = at; bytes = bytes })) (second_front at bytes)
+
+head_front : (at : ℕ) (bytes : List ℕ) → value_of (head_at (record { at = at; bytes = take 33 bytes })) ≡ value_of (head_at (record { at = at; bytes = bytes }))
 unfolding head_at
-head_leads bytes =
+head_front at bytes =
+    then_value 25 (version_at (record { at = at; bytes = take 33 bytes })) (version_at (record { at = at; bytes = bytes })) (λ version. head_behind version.0 version.1) (version_front at bytes) behind_front
+
+-- the checkpoints stand behind as many bytes as its version's head has
+record Follows (bytes : List ℕ) (r : Field Head) : Type 0 where
+  found : (x : Head × Cursor) → r ≡ Ok x → x.1 ≡ from_place bytes (head_size x.0.version)
+
+then_follows : {X : Type 0} (bytes : List ℕ) (at : ℕ) (r : Field X) (f : X × Cursor → Field Head) → LeadsTo bytes at r → ((x : X) → Follows bytes (f (x, from_place bytes at))) → Follows bytes (r >>= f)
+then_follows bytes at (Ok x) f first others = rw (sym (first.found x.0 x.1 refl)) at (others x.0)
+then_follows bytes at (Err place) f first others = record { found = λ x e. absurd cc }
+
+last_follows : (bytes : List ℕ) (head : Head) → Follows bytes (Ok (head, from_place bytes (head_size head.version)))
+last_follows bytes head = record {
+  found = λ x e.
+      let pairs : ◌≡◌ {A = Head × Cursor} (head, from_place bytes (head_size head.version)) x = cc in
+      subst (λ (q : Head × Cursor). q.1 ≡ from_place bytes (head_size q.0.version)) pairs refl;
+}
+
+version_leads : (bytes : List ℕ) → LeadsTo bytes 8 (version_at (from_place bytes 0))
+unfolding version_at
+version_leads bytes = search (then_leads {X = List ℕ} {Y = Version} bytes 8, ok_leads, field_leads {X = List ℕ} bytes 0 8 8 refl) depth 10
+
+behind_follows : (bytes : List ℕ) (version : Version) → Follows bytes (head_behind version (from_place bytes 8))
+unfolding head_behind
+behind_follows bytes First =
     search (
-      then_leads {X = List ℕ} {Y = Head} bytes 8,
-      then_leads {X = ℕ} {Y = Head} bytes 16,
-      then_leads {X = ℕ} {Y = Head} bytes 24,
-      then_leads {X = ℕ} {Y = Head} bytes 28,
-      then_leads {X = ℕ} {Y = Head} bytes 32,
-      ok_leads,
-      field_leads {X = List ℕ} bytes 0 8 8 refl,
+      then_follows {X = ℕ} bytes 16,
+      then_follows {X = ℕ} bytes 24,
+      then_follows {X = ℕ} bytes 28,
+      then_follows {X = ℕ} bytes 32,
+      last_follows,
       field_leads {X = ℕ} bytes 8 8 16 refl,
       field_leads {X = ℕ} bytes 16 8 24 refl,
       field_leads {X = ℕ} bytes 24 4 28 refl,
       field_leads {X = ℕ} bytes 28 4 32 refl,
     ) depth 10
+behind_follows bytes Second =
+    search (
+      then_follows {X = ℕ} bytes 16,
+      then_follows {X = ℕ} bytes 24,
+      then_follows {X = ℕ} bytes 25,
+      then_follows {X = ℕ} bytes 29,
+      then_follows {X = ℕ} bytes 33,
+      last_follows,
+      field_leads {X = ℕ} bytes 8 8 16 refl,
+      field_leads {X = ℕ} bytes 16 8 24 refl,
+      field_leads {X = ℕ} bytes 24 1 25 refl,
+      field_leads {X = ℕ} bytes 25 4 29 refl,
+      field_leads {X = ℕ} bytes 29 4 33 refl,
+    ) depth 10
+
+head_follows : (bytes : List ℕ) → Follows bytes (head_at (from_place bytes 0))
+unfolding head_at
+head_follows bytes = then_follows bytes 8 (version_at (from_place bytes 0)) (λ version. head_behind version.0 version.1) (version_leads bytes) (behind_follows bytes)
+
+-- a head that was read, with what is behind it
+follows_on : (bytes : List ℕ) (r : Field Head) (head : Head) → Follows bytes r → value_of r ≡ Ok head → r ≡ Ok (head, from_place bytes (head_size head.version))
+follows_on bytes (Ok x) head follows is =
+    let one : x.0 ≡ head = cc in
+    ap (λ (c : Cursor). Ok (x.0, c)) (follows.found x refl) ∙ ap (λ (head : Head). Ok (head, from_place bytes (head_size head.version))) one
+follows_on bytes (Err at) head follows is = absurd cc
 
 -- what is read of the first bytes of a file is its head
-head_value : (bytes part : List ℕ) (r : Result Head ℕ) → part ≡ take 32 bytes → r ≡ value_of (head_at (from_place part 0)) → value_of (head_at (from_place bytes 0)) ≡ r
-head_value bytes part r same is =
-    sym (is ∙ ap (λ (p : List ℕ). value_of (head_at (record { at = 0; bytes = p }))) same
-    ∙ front_value 0 (head_at (record { at = 0; bytes = take 32 bytes })) (head_at (record { at = 0; bytes = bytes })) (head_front 0 bytes))
+head_value : (bytes part : List ℕ) (r : Result Head ℕ) → part ≡ take 33 bytes → r ≡ value_of (head_at (from_place part 0)) → value_of (head_at (from_place bytes 0)) ≡ r
+head_value bytes part r same is = sym (is ∙ ap (λ (p : List ℕ). value_of (head_at (record { at = 0; bytes = p }))) same ∙ head_front 0 bytes)
 
-pub head_found : (bytes part : List ℕ) (head : Head) → part ≡ take 32 bytes → Ok head ≡ value_of (head_at (from_place part 0)) → head_at (from_place bytes 0) ≡ Ok (head, from_place bytes 32)
-head_found bytes part head same is = leads_on bytes 32 (head_at (from_place bytes 0)) head (head_leads bytes) (head_value bytes part (Ok head) same is)
+pub head_found : (bytes part : List ℕ) (head : Head) → part ≡ take 33 bytes → Ok head ≡ value_of (head_at (from_place part 0))
+    → head_at (from_place bytes 0) ≡ Ok (head, from_place bytes (head_size head.version))
+head_found bytes part head same is = follows_on bytes (head_at (from_place bytes 0)) head (head_follows bytes) (head_value bytes part (Ok head) same is)
 
-pub head_refused : (bytes part : List ℕ) (place : ℕ) → part ≡ take 32 bytes → Err place ≡ value_of (head_at (from_place part 0)) → head_at (from_place bytes 0) ≡ Err place
+pub head_refused : (bytes part : List ℕ) (place : ℕ) → part ≡ take 33 bytes → Err place ≡ value_of (head_at (from_place part 0)) → head_at (from_place bytes 0) ≡ Err place
 head_refused bytes part place same is = refused_on (head_at (from_place bytes 0)) place (head_value bytes part (Err place) same is)
 
 -- ---- how many checkpoints
@@ -87,18 +158,18 @@ then_counts : {X : Type 0} (r : Field X) (f : X × Cursor → Field Head) → ((
 then_counts (Ok x) f all = all x
 then_counts (Err at) f all = record { found = λ x e. absurd cc }
 
-last_counts : (length mark records : ℕ) (cursor : Cursor)
-    → Counts (number_at 4 (records / spacing) (records / spacing) cursor >>= λ count. Ok (record { length = length; mark = mark; records = records; count = count.0 }, count.1))
-last_counts length mark records cursor = record {
+last_counts : (version : Version) (length mark width records : ℕ) (cursor : Cursor)
+    → Counts (number_at 4 (records / spacing) (records / spacing) cursor >>= λ count. Ok (record { version = version; length = length; mark = mark; width = width; records = records; count = count.0 }, count.1))
+last_counts version length mark width records cursor = record {
   found = λ x e.
-      let on : ℕ × Cursor → Field Head = λ count. Ok (record { length = length; mark = mark; records = records; count = count.0 }, count.1) in
+      let on : ℕ × Cursor → Field Head = λ count. Ok (record { version = version; length = length; mark = mark; width = width; records = records; count = count.0 }, count.1) in
       let p = bind_ok (number_at 4 (records / spacing) (records / spacing) cursor) on x e in
-      let pairs : ◌≡◌ {A = Head × Cursor} (record { length = length; mark = mark; records = records; count = p.0.0 }, p.0.1) x = cc in
+      let pairs : ◌≡◌ {A = Head × Cursor} (record { version = version; length = length; mark = mark; width = width; records = records; count = p.0.0 }, p.0.1) x = cc in
       subst (λ (q : Head × Cursor). q.0.count ≡ q.0.records / spacing) pairs (number_exact 4 (records / spacing) cursor p.0 p.1);
 }
 
 head_counts : (cursor : Cursor) → Counts (head_at cursor)
-unfolding head_at
+unfolding head_at head_behind
 head_counts cursor = search (then_counts, last_counts) depth 10
 
 value_counts : (r : Field Head) (head : Head) → Counts r → Ok head ≡ value_of r → head.count ≡ head.records / spacing

@@ -1,17 +1,21 @@
 -- The heads of an index are read as they were written, and what stands between them are the states.
 use Rattle.std.proofs.Common.{◌≡◌, ℕ, zero, suc, ◌+◌, ◌/◌, ◌^◌, ◌<◌, ◌≤◌, true, List, [], ◌∷◌, ◌++◌, length, take, drop, Some, Result, Ok, refl, sym, ap, subst, ◌∙◌, append_assoc, arith, length-append}
 use Rattle.std.specs.List.{flat_map, slice_get}
-use Rattle.std.specs.Str.{bytes_eq}
 use Rattle.std.proofs.lemmas.List.{append-nil, take_at, drop_at}
 use Rattle.byteorder.specs.Endian.{little_bytes}
 use Rattle.q3_bits.specs.ResultBind.{◌>>=◌, bind_is}
+use Rattle.q3_fields.specs.Kinds.{HasNumberBits, least_number_bits, most_number_bits}
 use Rattle.q3_profile.specs.declared.profile.Profile.{Profile}
 use Rattle.q3_savestate.specs.Cursor.{Cursor}
 use Rattle.q3_savestate.proofs.Fields.{field_back, number_back}
 use Rattle.q3_demo.specs.Playing.{Played}
 use Rattle.q3_index.specs.declared.index.Checkpoint.{Checkpoint}
-use Rattle.q3_index.specs.Text.{spacing, magic, head_bytes, state_of, checkpoint_bytes}
-use Rattle.q3_index.specs.Opening.{checkpoints_at, heads_at}
+use Rattle.q3_index.specs.declared.opening.Head.{Head}
+use Rattle.q3_index.specs.declared.opening.Version.{Version}
+use Rattle.q3_index.specs.declared.opening.Version.TheVariants.{First, Second}
+use Rattle.q3_index.specs.Text.{spacing, magic, width_bytes, Tells, head_bytes, state_of, checkpoint_bytes}
+use Rattle.q3_index.specs.Opening.{checkpoints_at, is_magic, version_at, head_behind, head_at, checkpoints_of, heads_at}
+use Rattle.q3_index.specs.Steps.{head_size}
 use Rattle.q3_index.proofs.Points.{ArePoints}
 
 -- ---- checkpoints
@@ -74,23 +78,65 @@ checkpoints_back profile (played ∷ others) number least most at rest wide are 
 
 -- ---- heads
 
--- the head is read, and behind it the heads of the checkpoints
-pub heads_back : (length mark records end : ℕ) (text : List ℕ) (checkpoints : List Checkpoint) → length < 2 ^ 64 → mark < 2 ^ 64 → records < 2 ^ 32
-    → checkpoints_at (records / spacing) spacing 0 length (record { at = 32; bytes = text }) ≡ Ok (checkpoints, record { at = end; bytes = [] })
-    → heads_at (head_bytes length mark records ++ text) ≡ Ok (record { length = length; mark = mark; records = records; checkpoints = checkpoints })
-unfolding heads_at
-heads_back length mark records end text checkpoints long fits few more =
+-- how long a head is
+pub length-head_bytes : (version : Version) (length_is mark width records : ℕ) → length (head_bytes version length_is mark width records) ≡ head_size version
+length-head_bytes First length_is mark width records = refl
+length-head_bytes Second length_is mark width records = refl
+
+-- what it begins with is read
+version_back : (version : Version) (rest : List ℕ) → version_at (record { at = 0; bytes = magic version ++ rest }) ≡ Ok (version, record { at = 8; bytes = rest })
+unfolding version_at
+version_back First rest = bind_is _ _ (magic First, record { at = 8; bytes = rest }) _ (field_back 8 (λ found. found) is_magic (magic First) (magic First) rest 0 refl refl refl) refl
+version_back Second rest = bind_is _ _ (magic Second, record { at = 8; bytes = rest }) _ (field_back 8 (λ found. found) is_magic (magic Second) (magic Second) rest 0 refl refl refl) refl
+
+-- and what is behind that
+behind_back : (version : Version) (length mark width records : ℕ) (text : List ℕ) → Tells version width → HasNumberBits width → length < 2 ^ 64 → mark < 2 ^ 64 → records < 2 ^ 32
+    → head_behind version (record { at = 8; bytes = little_bytes 8 length ++ (little_bytes 8 mark ++ (width_bytes version width ++ (little_bytes 4 records ++ (little_bytes 4 (records / spacing) ++ text)))) })
+    ≡ Ok (record { version = version; length = length; mark = mark; width = width; records = records; count = records / spacing }, record { at = head_size version; bytes = text })
+unfolding head_behind
+behind_back First length mark width records text tells fits long marked few =
     let count : ℕ = records / spacing in
     let fourth : List ℕ = little_bytes 4 count ++ text in
     let third : List ℕ = little_bytes 4 records ++ fourth in
     let second : List ℕ = little_bytes 8 mark ++ third in
-    let first : List ℕ = little_bytes 8 length ++ second in
-    bind_is _ _ (magic, record { at = 8; bytes = first }) _ (field_back 8 (λ found. found) (λ found. bytes_eq found magic) magic magic first 0 refl refl refl)
-    (bind_is _ _ (length, record { at = 16; bytes = second }) _ (number_back 8 0 18446744073709551615 length 8 second (omega arith) (omega arith) (omega arith))
+    bind_is _ _ (length, record { at = 16; bytes = second }) _ (number_back 8 0 18446744073709551615 length 8 second (omega arith) (omega arith) (omega arith))
     (bind_is _ _ (mark, record { at = 24; bytes = third }) _ (number_back 8 0 18446744073709551615 mark 16 third (omega arith) (omega arith) (omega arith))
     (bind_is _ _ (records, record { at = 28; bytes = fourth }) _ (number_back 4 0 4294967295 records 24 fourth (omega arith) (omega arith) (omega arith))
     (bind_is _ _ (count, record { at = 32; bytes = text }) _ (number_back 4 count count count 28 text (omega arith) (omega arith) (omega arith))
-    (bind_is _ _ (checkpoints, record { at = end; bytes = [] }) _ more refl)))))
+    (ap (λ (width : ℕ). Ok (record { version = First; length = length; mark = mark; width = width; records = records; count = count }, record { at = 32; bytes = text })) (sym tells)))))
+behind_back Second length mark width records text tells fits long marked few =
+    let count : ℕ = records / spacing in
+    let fifth : List ℕ = little_bytes 4 count ++ text in
+    let fourth : List ℕ = little_bytes 4 records ++ fifth in
+    let third : List ℕ = little_bytes 1 width ++ fourth in
+    let second : List ℕ = little_bytes 8 mark ++ third in
+    bind_is _ _ (length, record { at = 16; bytes = second }) _ (number_back 8 0 18446744073709551615 length 8 second (omega arith) (omega arith) (omega arith))
+    (bind_is _ _ (mark, record { at = 24; bytes = third }) _ (number_back 8 0 18446744073709551615 mark 16 third (omega arith) (omega arith) (omega arith))
+    (bind_is _ _ (width, record { at = 25; bytes = fourth }) _ (number_back 1 least_number_bits most_number_bits width 24 fourth (omega (arith, fits.1)) fits.0 fits.1)
+    (bind_is _ _ (records, record { at = 29; bytes = fifth }) _ (number_back 4 0 4294967295 records 25 fifth (omega arith) (omega arith) (omega arith))
+    (bind_is _ _ (count, record { at = 33; bytes = text }) _ (number_back 4 count count count 29 text (omega arith) (omega arith) (omega arith)) refl))))
+
+-- so is the whole of it
+head_back : (version : Version) (length mark width records : ℕ) (text : List ℕ) → Tells version width → HasNumberBits width → length < 2 ^ 64 → mark < 2 ^ 64 → records < 2 ^ 32
+    → head_at (record { at = 0; bytes = head_bytes version length mark width records ++ text })
+    ≡ Ok (record { version = version; length = length; mark = mark; width = width; records = records; count = records / spacing }, record { at = head_size version; bytes = text })
+unfolding head_at
+head_back First length mark width records text tells fits long marked few =
+    let rest : List ℕ = little_bytes 8 length ++ (little_bytes 8 mark ++ (little_bytes 4 records ++ (little_bytes 4 (records / spacing) ++ text))) in
+    bind_is _ _ (First, record { at = 8; bytes = rest }) _ (version_back First rest) (behind_back First length mark width records text tells fits long marked few)
+head_back Second length mark width records text tells fits long marked few =
+    let rest : List ℕ = little_bytes 8 length ++ (little_bytes 8 mark ++ (little_bytes 1 width ++ (little_bytes 4 records ++ (little_bytes 4 (records / spacing) ++ text)))) in
+    bind_is _ _ (Second, record { at = 8; bytes = rest }) _ (version_back Second rest) (behind_back Second length mark width records text tells fits long marked few)
+
+-- and behind it the heads of the checkpoints
+pub heads_back : (version : Version) (length mark width records end : ℕ) (text : List ℕ) (checkpoints : List Checkpoint) → Tells version width → HasNumberBits width → length < 2 ^ 64 → mark < 2 ^ 64
+    → records < 2 ^ 32 → checkpoints_at (records / spacing) spacing 0 length (record { at = head_size version; bytes = text }) ≡ Ok (checkpoints, record { at = end; bytes = [] })
+    → heads_at (head_bytes version length mark width records ++ text) ≡ Ok (record { length = length; mark = mark; width = width; records = records; checkpoints = checkpoints })
+unfolding heads_at checkpoints_of
+heads_back version length mark width records end text checkpoints tells fits long marked few more =
+    let head : Head = record { version = version; length = length; mark = mark; width = width; records = records; count = records / spacing } in
+    bind_is _ _ (head, record { at = head_size version; bytes = text }) _ (head_back version length mark width records text tells fits long marked few)
+    (bind_is _ _ checkpoints _ (bind_is _ _ (checkpoints, record { at = end; bytes = [] }) _ more refl) refl)
 
 -- ---- states
 

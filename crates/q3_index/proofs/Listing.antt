@@ -7,12 +7,12 @@ use Rattle.q3_io.specs.Told.{Told, contents_at}
 use Rattle.q3_demo.specs.Running.{OnlyAsks}
 use Rattle.q3_savestate.specs.Cursor.{Cursor, Field, field_at, number_at, end_at}
 use Rattle.q3_index.specs.declared.error.IndexError.{IndexError}
-use Rattle.q3_index.specs.declared.error.IndexError.TheVariants.{ReadFault, NotIndex, OtherDemo, NoMemory}
+use Rattle.q3_index.specs.declared.error.IndexError.TheVariants.{ReadFault, NotIndex, OtherDemo, OtherWidth, NoMemory}
 use Rattle.q3_index.specs.declared.index.Checkpoint.{Checkpoint}
 use Rattle.q3_index.specs.declared.opening.Head.{Head}
 use Rattle.q3_index.specs.Text.{spacing}
-use Rattle.q3_index.specs.Opening.{checkpoints_at}
-use Rattle.q3_index.specs.Steps.{from_place, numbers_at, checkpoint_at, checkpoints_of, least_of, Reads, read_to}
+use Rattle.q3_index.specs.Opening.{checkpoints_at, checkpoints_of}
+use Rattle.q3_index.specs.Steps.{from_place, head_size, numbers_at, checkpoint_at, least_of, Reads, read_to}
 use Rattle.q3_index.proofs.Seeking.{told_later}
 
 -- an answer that is a refusal stays one where the definitions refuse alike
@@ -21,6 +21,7 @@ pub reads_so : {X Y X' Y' : Type 0} (value : Y → X) (value' : Y' → X') (whol
 reads_so value value' whole whole' ReadFault alike reads = tt
 reads_so value value' whole whole' (NotIndex place) alike reads = alike place reads
 reads_so value value' whole whole' (OtherDemo kept found) alike reads = absurd reads
+reads_so value value' whole whole' (OtherWidth kept found) alike reads = absurd reads
 reads_so value value' whole whole' NoMemory alike reads = tt
 
 -- ---- one checkpoint, and then the others
@@ -73,13 +74,13 @@ behind_none (Err at) = refl
 
 -- so many were found, and the others are there where the bytes from this place on have them
 pub record FoundSo (bytes : List ℕ) (head : Head) (count : ℕ) (found : List Checkpoint) (least at : ℕ) : Type 0 where
-  pub all : checkpoints_at head.count spacing 0 head.length (from_place bytes 32)
+  pub all : checkpoints_at head.count spacing 0 head.length (from_place bytes (head_size head.version))
       ≡ behind_others found (checkpoints_at (head.count - count) ((count + 1) * spacing) least head.length (from_place bytes at))
 
-pub found_none : (bytes : List ℕ) (head : Head) → FoundSo bytes head 0 [] 0 32
+pub found_none : (bytes : List ℕ) (head : Head) → FoundSo bytes head 0 [] 0 (head_size head.version)
 found_none bytes head =
     let same : head.count - 0 ≡ head.count = omega arith in
-    record { all = rw same (sym (behind_none (checkpoints_at head.count spacing 0 head.length (from_place bytes 32)))) }
+    record { all = rw same (sym (behind_none (checkpoints_at head.count spacing 0 head.length (from_place bytes (head_size head.version))))) }
 
 more_found : (bytes : List ℕ) (left number least most at : ℕ) (found : Checkpoint) → checkpoint_at number least most (from_place bytes at) ≡ Ok (read_to bytes found)
     → checkpoints_at (suc left) number least most (from_place bytes at)
@@ -118,14 +119,14 @@ unfolding checkpoints_of ended
 of_is head cursor = refl
 
 pub found_wrong : (bytes : List ℕ) (head : Head) (count : ℕ) (found : List Checkpoint) (least at number place : ℕ) → FoundSo bytes head count found least at → count < head.count
-    → number ≡ (count + 1) * spacing → checkpoint_at number least head.length (from_place bytes at) ≡ Err place → checkpoints_of head (from_place bytes 32) ≡ Err place
+    → number ≡ (count + 1) * spacing → checkpoint_at number least head.length (from_place bytes at) ≡ Err place → checkpoints_of head (from_place bytes (head_size head.version)) ≡ Err place
 unfolding ended
 found_wrong bytes head count found least at number place so less number_is is =
     let left : ℕ = head.count - (count + 1) in
     let more : head.count - count ≡ suc left = omega arith in
     let here : checkpoint_at ((count + 1) * spacing) least head.length (from_place bytes at) ≡ Err place =
     ap (λ (n : ℕ). checkpoint_at n least head.length (from_place bytes at)) (sym number_is) ∙ is in
-    of_is head (from_place bytes 32) ∙ ap ended so.all
+    of_is head (from_place bytes (head_size head.version)) ∙ ap ended so.all
     ∙ ap (λ (n : ℕ). ended (behind_others found (checkpoints_at n ((count + 1) * spacing) least head.length (from_place bytes at)))) more
     ∙ ap (λ (r : Field (List Checkpoint)). ended (behind_others found r)) (one_then left ((count + 1) * spacing) least head.length (from_place bytes at))
     ∙ ap (λ (r : Field Checkpoint). ended (behind_others found (r >>= others_behind left ((count + 1) * spacing) head.length))) here
@@ -136,23 +137,23 @@ unfolding checkpoints_at
 none_left number least most cursor = refl
 
 all_found : (bytes : List ℕ) (head : Head) (count : ℕ) (found : List Checkpoint) (least at : ℕ) → FoundSo bytes head count found least at → head.count ≤ count
-    → checkpoints_of head (from_place bytes 32) ≡ ended (Ok (found, from_place bytes at))
+    → checkpoints_of head (from_place bytes (head_size head.version)) ≡ ended (Ok (found, from_place bytes at))
 all_found bytes head count found least at so all =
     let none : head.count - count ≡ 0 = omega arith in
-    of_is head (from_place bytes 32) ∙ ap ended so.all
+    of_is head (from_place bytes (head_size head.version)) ∙ ap ended so.all
     ∙ ap (λ (n : ℕ). ended (behind_others found (checkpoints_at n ((count + 1) * spacing) least head.length (from_place bytes at)))) none
     ∙ ap (λ (r : Field (List Checkpoint)). ended (behind_others found r)) (none_left ((count + 1) * spacing) least head.length (from_place bytes at))
     ∙ ap (λ (xs : List Checkpoint). ended (Ok (xs, from_place bytes at))) (append-nil found)
 
 pub found_all : (bytes : List ℕ) (head : Head) (count : ℕ) (found : List Checkpoint) (least at : ℕ) → FoundSo bytes head count found least at → head.count ≤ count → length bytes ≤ at
-    → checkpoints_of head (from_place bytes 32) ≡ Ok found
+    → checkpoints_of head (from_place bytes (head_size head.version)) ≡ Ok found
 unfolding ended
 found_all bytes head count found least at so all within =
     let none : (length (drop at bytes) == 0) ≡ true = eq-eqb (length (drop at bytes)) 0 (omega (arith, length-drop at bytes)) in
     all_found bytes head count found least at so all ∙ rw none refl
 
 pub found_beyond : (bytes : List ℕ) (head : Head) (count : ℕ) (found : List Checkpoint) (least at : ℕ) → FoundSo bytes head count found least at → head.count ≤ count → at < length bytes
-    → checkpoints_of head (from_place bytes 32) ≡ Err at
+    → checkpoints_of head (from_place bytes (head_size head.version)) ≡ Err at
 unfolding ended
 found_beyond bytes head count found least at so all less =
     let some : (length (drop at bytes) == 0) ≡ false = ne_eqb (length (drop at bytes)) 0 (λ none. omega (arith, length-drop at bytes)) in
@@ -187,9 +188,9 @@ reads_found before mid index end head count found least at one number next behin
 
 pub reads_wrong : {Y : Type 0} (value : Y → List Checkpoint) (before mid : Option Told) (index end : ℕ) (head : Head) (count : ℕ) (found : List Checkpoint) (least at number : ℕ) (e : IndexError) → OnlyAsks before mid
     → AreFound before index end head count found least at → count < head.count → number ≡ (count + 1) * spacing → ReadsOne mid index end number least head.length at (Err e)
-    → (told : Told) → before ≡ Some told → end ≡ length (contents_at told index) → Reads value (checkpoints_of head (from_place (contents_at told index) 32)) (Err e)
+    → (told : Told) → before ≡ Some told → end ≡ length (contents_at told index) → Reads value (checkpoints_of head (from_place (contents_at told index) (head_size head.version))) (Err e)
 reads_wrong value before mid index end head count found least at number e asks so less number_is reads told is whole =
     let later = told_later before mid told asks is in
     let bytes : List ℕ = contents_at told index in
-    reads_so (read_to bytes) value (checkpoint_at number least head.length (from_place bytes at)) (checkpoints_of head (from_place bytes 32)) e
+    reads_so (read_to bytes) value (checkpoint_at number least head.length (from_place bytes at)) (checkpoints_of head (from_place bytes (head_size head.version))) e
     (λ place stops. found_wrong bytes head count found least at number place (so told is whole) less number_is stops) (reads (record told { asked = later.0 }) later.1 whole)

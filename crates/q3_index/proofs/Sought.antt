@@ -16,13 +16,15 @@ use Rattle.q3_index.specs.declared.index.Checkpoint.{Checkpoint}
 use Rattle.q3_index.specs.declared.error.IndexError.TheVariants.{NotIndex}
 use Rattle.q3_index.specs.declared.error.SeekError.{SeekError}
 use Rattle.q3_index.specs.declared.error.SeekError.TheVariants as seeking
-use Rattle.q3_index.specs.Text.{spacing, head_bytes, checkpoint_bytes, index_text, index_of, state_of}
+use Rattle.q3_index.specs.declared.opening.Version.{Version}
+use Rattle.q3_index.specs.Text.{spacing, Tells, head_bytes, checkpoint_bytes, text_by, index_by, state_of}
 use Rattle.q3_index.specs.Opening.{Heads, checkpoints_at, heads_at, matching, open_at}
 use Rattle.q3_index.specs.Seeking.{restored, restored_if, start_at, seek_at, behind}
+use Rattle.q3_index.specs.Steps.{head_size}
 use Rattle.q3_index.specs.Laws.{IndexOpens, SeekingIsPlaying, SeekingGoesOn}
 use Rattle.q3_index.proofs.Standing.{Stands, none_stands, follow_from, few_from, some_stand, play_more}
 use Rattle.q3_index.proofs.Points.{points_of, length-points_of, point_at, checkpoints_are, ArePoints, are_points}
-use Rattle.q3_index.proofs.HeadsBack.{places_of, checkpoints_back, heads_back, point_back}
+use Rattle.q3_index.proofs.HeadsBack.{places_of, checkpoints_back, length-head_bytes, heads_back, point_back}
 
 -- ---- opening
 
@@ -31,27 +33,33 @@ abbrev points_in : Profile → List ℕ → List Played
 points_in profile demo = points_of spacing (length (records_of profile demo) / spacing) (unplayed profile) (records_of profile demo)
 
 -- what the heads of its index say
-abbrev heads_of : Profile → List ℕ → Heads
-heads_of profile demo = record { length = length demo; mark = profile.mark; records = length (records_of profile demo); checkpoints = places_of profile 32 (points_in profile demo) }
+abbrev heads_of : Version → Profile → List ℕ → Heads
+heads_of version profile demo = record {
+  length = length demo;
+  mark = profile.mark;
+  width = profile.entity.number_bits;
+  records = length (records_of profile demo);
+  checkpoints = places_of profile (head_size version) (points_in profile demo);
+}
 
 -- its head
-abbrev head_of : Profile → List ℕ → List ℕ
-head_of profile demo = head_bytes (length demo) profile.mark (length (records_of profile demo))
+abbrev head_of : Version → Profile → List ℕ → List ℕ
+head_of version profile demo = head_bytes version (length demo) profile.mark profile.entity.number_bits (length (records_of profile demo))
 
 -- the text of an index, as what stands behind every 256th record
-text_is : ApplyStays → WithinStays → (profile : Profile) (demo index : List ℕ) → IsCodec profile → 512 ≤ profile.parse_ring → index_of profile demo ≡ Ok index
-    → index ≡ head_of profile demo ++ flat_map (checkpoint_bytes profile) (points_in profile demo)
-text_is stays within profile demo index codec room is =
-    let made = bind_ok (play_of profile demo).ending (λ none. Ok (index_text profile demo)) index is in
-    let text : index_text profile demo ≡ index = let e = made.2 in cc in
+text_is : ApplyStays → WithinStays → (version : Version) (profile : Profile) (demo index : List ℕ) → IsCodec profile → 512 ≤ profile.parse_ring → index_by version profile demo ≡ Ok index
+    → index ≡ head_of version profile demo ++ flat_map (checkpoint_bytes profile) (points_in profile demo)
+text_is stays within version profile demo index codec room is =
+    let made = bind_ok (play_of profile demo).ending (λ none. Ok (text_by version profile demo)) index is in
+    let text : text_by version profile demo ≡ index = let e = made.2 in cc in
     let points = checkpoints_are stays within profile (length (records_of profile demo) / spacing) spacing demo (unplayed profile) (records_of profile demo) refl
     (follow_from most_records demo (unplayed profile)) (none_stands stays within profile demo codec room) refl refl in
-    sym text ∙ ap (λ (points : List Played). head_of profile demo ++ flat_map (checkpoint_bytes profile) points) points
+    sym text ∙ ap (λ (points : List Played). head_of version profile demo ++ flat_map (checkpoint_bytes profile) points) points
 
 -- its heads are read
-heads_are : ApplyStays → WithinStays → (profile : Profile) (demo index : List ℕ) → IsCodec profile → 512 ≤ profile.parse_ring → profile.mark < 18446744073709551616
-    → length demo < 18446744073709551616 → index_of profile demo ≡ Ok index → heads_at index ≡ Ok (heads_of profile demo)
-heads_are stays within profile demo index codec room mark long is =
+heads_are : ApplyStays → WithinStays → (version : Version) (profile : Profile) (demo index : List ℕ) → Tells version profile.entity.number_bits → IsCodec profile → 512 ≤ profile.parse_ring → profile.mark < 18446744073709551616
+    → length demo < 18446744073709551616 → index_by version profile demo ≡ Ok index → heads_at index ≡ Ok (heads_of version profile demo)
+heads_are stays within version profile demo index tells codec room mark long is =
     let records : List Stepped = records_of profile demo in
     let left : ℕ = length records / spacing in
     let points : List Played = points_in profile demo in
@@ -60,24 +68,24 @@ heads_are stays within profile demo index codec room mark long is =
     let are : ArePoints profile spacing 0 (length demo) points =
     are_points stays within profile left spacing 0 demo (unplayed profile) records refl (follow_from most_records demo (unplayed profile))
     (none_stands stays within profile demo codec room) (omega arith) (omega arith) (omega arith) in
-    let back = checkpoints_back profile points spacing 0 (length demo) 32 [] (omega arith) are in
-    let read : checkpoints_at left spacing 0 (length demo) (record { at = 32; bytes = text }) ≡ Ok (places_of profile 32 points, record { at = back.0; bytes = [] }) =
-    ap (λ n. checkpoints_at n spacing 0 (length demo) (record { at = 32; bytes = text })) (sym (length-points_of spacing left (unplayed profile) records))
-    ∙ ap (λ (bytes : List ℕ). checkpoints_at (length points) spacing 0 (length demo) (record { at = 32; bytes = bytes })) (sym (append-nil text)) ∙ back.1 in
-    ap heads_at (text_is stays within profile demo index codec room is)
-    ∙ heads_back (length demo) profile.mark (length records) back.0 text (places_of profile 32 points) (omega arith) (omega arith) (omega arith) read
+    let back = checkpoints_back profile points spacing 0 (length demo) (head_size version) [] (omega arith) are in
+    let read : checkpoints_at left spacing 0 (length demo) (record { at = head_size version; bytes = text }) ≡ Ok (places_of profile (head_size version) points, record { at = back.0; bytes = [] }) =
+    ap (λ n. checkpoints_at n spacing 0 (length demo) (record { at = head_size version; bytes = text })) (sym (length-points_of spacing left (unplayed profile) records))
+    ∙ ap (λ (bytes : List ℕ). checkpoints_at (length points) spacing 0 (length demo) (record { at = head_size version; bytes = bytes })) (sym (append-nil text)) ∙ back.1 in
+    ap heads_at (text_is stays within version profile demo index codec room is)
+    ∙ heads_back version (length demo) profile.mark profile.entity.number_bits (length records) back.0 text (places_of profile (head_size version) points) tells codec.numbers (omega arith) (omega arith) (omega arith) read
 
 -- and they match
-opened : ApplyStays → WithinStays → (profile : Profile) (demo index : List ℕ) → IsCodec profile → 512 ≤ profile.parse_ring → profile.mark < 18446744073709551616
-    → length demo < 18446744073709551616 → index_of profile demo ≡ Ok index → open_at (length demo) profile.mark index ≡ Ok (heads_of profile demo)
-opened stays within profile demo index codec room mark long is =
-    bind_is (fault_as NotIndex (heads_at index)) (matching (length demo) profile.mark) (heads_of profile demo) (Ok (heads_of profile demo))
-    (ap (fault_as NotIndex) (heads_are stays within profile demo index codec room mark long is))
-    (rw (eq-eqb (length demo) (length demo) refl, eq-eqb profile.mark profile.mark refl) refl)
+opened : ApplyStays → WithinStays → (version : Version) (profile : Profile) (demo index : List ℕ) → Tells version profile.entity.number_bits → IsCodec profile → 512 ≤ profile.parse_ring → profile.mark < 18446744073709551616
+    → length demo < 18446744073709551616 → index_by version profile demo ≡ Ok index → open_at (length demo) profile.mark profile.entity.number_bits index ≡ Ok (heads_of version profile demo)
+opened stays within version profile demo index tells codec room mark long is =
+    bind_is (fault_as NotIndex (heads_at index)) (matching (length demo) profile.mark profile.entity.number_bits) (heads_of version profile demo) (Ok (heads_of version profile demo))
+    (ap (fault_as NotIndex) (heads_are stays within version profile demo index tells codec room mark long is))
+    (rw (eq-eqb (length demo) (length demo) refl, eq-eqb profile.mark profile.mark refl, eq-eqb profile.entity.number_bits profile.entity.number_bits refl) refl)
 
 -- the law on opening
 pub index_opens : ApplyStays → WithinStays → IndexOpens
-index_opens stays within profile demo index codec room mark long is = (heads_of profile demo, opened stays within profile demo index codec room mark long is, refl)
+index_opens stays within version profile demo index tells codec room mark long is = (heads_of version profile demo, opened stays within version profile demo index tells codec room mark long is, refl)
 
 -- ---- seeking
 
@@ -103,16 +111,16 @@ restores written profile demo index records checkpoint played stands count few p
     bind_is _ _ (saved_in played.state) _ (ap (fault_as fault) read) (ap (λ (again : Played). Ok again) (same_played profile played records checkpoint.place stands.by count stands.number place))
 
 -- where to begin
-record Begins (profile : Profile) (demo index : List ℕ) (number : ℕ) : Type 0 where
+record Begins (version : Version) (profile : Profile) (demo index : List ℕ) (number : ℕ) : Type 0 where
   start : Played
   there : start ≡ behind profile demo (spacing * (number / spacing))
-  begins : start_at profile index (heads_of profile demo).checkpoints number ≡ Ok start
+  begins : start_at profile index (heads_of version profile demo).checkpoints number ≡ Ok start
   goes_on : play_first number demo (unplayed profile) ≡ play_first (number - start.records) demo start
 
 -- with no record played
-begins_new : (profile : Profile) (demo index : List ℕ) (number : ℕ) → number < spacing → Begins profile demo index number
+begins_new : (version : Version) (profile : Profile) (demo index : List ℕ) (number : ℕ) → number < spacing → Begins version profile demo index number
 unfolding last_of
-begins_new profile demo index number few =
+begins_new version profile demo index number few =
     let all : number ≡ number - 0 = omega arith in
     let none : 0 ≡ spacing * (number / spacing) = omega arith in
     record {
@@ -123,9 +131,9 @@ begins_new profile demo index number few =
     }
 
 -- or behind a checkpoint
-begins_behind : FirstRecordsLeave → WrittenIsRead → ApplyStays → WithinStays → (profile : Profile) (demo index : List ℕ) (number : ℕ) → IsCodec profile → 512 ≤ profile.parse_ring
-    → index_of profile demo ≡ Ok index → number ≤ length (records_of profile demo) → spacing ≤ number → Begins profile demo index number
-begins_behind first written stays within profile demo index number codec room is some above =
+begins_behind : FirstRecordsLeave → WrittenIsRead → ApplyStays → WithinStays → (version : Version) (profile : Profile) (demo index : List ℕ) (number : ℕ) → IsCodec profile → 512 ≤ profile.parse_ring
+    → index_by version profile demo ≡ Ok index → number ≤ length (records_of profile demo) → spacing ≤ number → Begins version profile demo index number
+begins_behind first written stays within version profile demo index number codec room is some above =
     let records : List Stepped = records_of profile demo in
     let left : ℕ = length records / spacing in
     let i : ℕ = number / spacing - 1 in
@@ -135,7 +143,8 @@ begins_behind first written stays within profile demo index number codec room is
     let more = some_stand stays within profile demo (unplayed profile) count records (omega arith) (follow_from most_records demo (unplayed profile)) (none_stands stays within profile demo codec room) in
     let further = more.behind.records in
     let point = point_at spacing left (unplayed profile) records i (omega arith) in
-    let there = point_back profile (points_in profile demo) i 32 (head_of profile demo) index start refl (text_is stays within profile demo index codec room is) point in
+    let there = point_back profile (points_in profile demo) i (head_size version) (head_of version profile demo) index start
+    (length-head_bytes version (length demo) profile.mark profile.entity.number_bits (length records)) (text_is stays within version profile demo index codec room is) point in
     let restores_it = restores written profile demo index (spacing * (number / spacing)) there.checkpoint start more.stands (omega arith) (omega arith) there.place there.state in
     let same : count ≡ spacing * (number / spacing) = omega arith in
     record {
@@ -146,43 +155,43 @@ begins_behind first written stays within profile demo index number codec room is
     }
 
 -- either way
-begins : FirstRecordsLeave → WrittenIsRead → ApplyStays → WithinStays → (profile : Profile) (demo index : List ℕ) (number : ℕ) → IsCodec profile → 512 ≤ profile.parse_ring
-    → index_of profile demo ≡ Ok index → number ≤ length (records_of profile demo) → Begins profile demo index number
-begins first written stays within profile demo index number codec room is some = elim (cases_lt number spacing) [
-  | inl few ↦ begins_new profile demo index number few
-  | inr above ↦ begins_behind first written stays within profile demo index number codec room is some above
+begins : FirstRecordsLeave → WrittenIsRead → ApplyStays → WithinStays → (version : Version) (profile : Profile) (demo index : List ℕ) (number : ℕ) → IsCodec profile → 512 ≤ profile.parse_ring
+    → index_by version profile demo ≡ Ok index → number ≤ length (records_of profile demo) → Begins version profile demo index number
+begins first written stays within version profile demo index number codec room is some = elim (cases_lt number spacing) [
+  | inl few ↦ begins_new version profile demo index number few
+  | inr above ↦ begins_behind first written stays within version profile demo index number codec room is some above
 ]
 
 -- what is sought
-sought : FirstRecordsLeave → WrittenIsRead → ApplyStays → WithinStays → (profile : Profile) (demo index : List ℕ) (number : ℕ) (played : Played) → IsCodec profile → 512 ≤ profile.parse_ring
-    → index_of profile demo ≡ Ok index → number ≤ length (records_of profile demo) → play_first number demo (unplayed profile) ≡ Ok played
-    → seek_at profile demo index (heads_of profile demo).records (heads_of profile demo).checkpoints number ≡ Ok played
+sought : FirstRecordsLeave → WrittenIsRead → ApplyStays → WithinStays → (version : Version) (profile : Profile) (demo index : List ℕ) (number : ℕ) (played : Played) → IsCodec profile → 512 ≤ profile.parse_ring
+    → index_by version profile demo ≡ Ok index → number ≤ length (records_of profile demo) → play_first number demo (unplayed profile) ≡ Ok played
+    → seek_at profile demo index (heads_of version profile demo).records (heads_of version profile demo).checkpoints number ≡ Ok played
 unfolding seek_at
-sought first written stays within profile demo index number played codec room is some plays =
-    let from = begins first written stays within profile demo index number codec room is some in
+sought first written stays within version profile demo index number played codec room is some plays =
+    let from = begins first written stays within version profile demo index number codec room is some in
     rw (le-ltb (length (records_of profile demo)) number some)
     (bind_is _ _ from.start _ from.begins (ap (fault_as seeking.Demo) (sym from.goes_on ∙ plays)))
 
 -- the law on seeking
 pub seeking_is_playing : FirstRecordsLeave → WrittenIsRead → ApplyStays → WithinStays → SeekingIsPlaying
-seeking_is_playing first written stays within profile demo index heads number codec room mark long is opens some =
+seeking_is_playing first written stays within version profile demo index heads number tells codec room mark long is opens some =
     let played : Played = last_of (unplayed profile) (take number (records_of profile demo)) in
     let plays = first.first profile demo number some in
-    let same : heads_of profile demo ≡ heads = let e = sym (opened stays within profile demo index codec room mark long is) ∙ opens in cc in (
+    let same : heads_of version profile demo ≡ heads = let e = sym (opened stays within version profile demo index tells codec room mark long is) ∙ opens in cc in (
       played,
       plays,
       subst (λ (heads : Heads). seek_at profile demo index heads.records heads.checkpoints number ≡ Ok played) same
-          (sought first written stays within profile demo index number played codec room is some plays),
+          (sought first written stays within version profile demo index number played codec room is some plays),
     )
 
 -- the law on where it begins
 pub seeking_goes_on : FirstRecordsLeave → WrittenIsRead → ApplyStays → WithinStays → SeekingGoesOn
-seeking_goes_on first written stays within profile demo index heads number codec room mark long is opens some =
+seeking_goes_on first written stays within version profile demo index heads number tells codec room mark long is opens some =
     let start : Played = behind profile demo (spacing * (number / spacing)) in
     let last : Played = behind profile demo number in
-    let from = begins first written stays within profile demo index number codec room is some in
-    let same : heads_of profile demo ≡ heads = let e = sym (opened stays within profile demo index codec room mark long is) ∙ opens in cc in
+    let from = begins first written stays within version profile demo index number codec room is some in
+    let same : heads_of version profile demo ≡ heads = let e = sym (opened stays within version profile demo index tells codec room mark long is) ∙ opens in cc in
     subst (λ (heads : Heads). (start_at profile index heads.checkpoints number ≡ Ok start) × (seek_at profile demo index heads.records heads.checkpoints number ≡ Ok last)) same (
-      subst (λ (played : Played). start_at profile index (heads_of profile demo).checkpoints number ≡ Ok played) from.there from.begins,
-      sought first written stays within profile demo index number last codec room is some (first.first profile demo number some),
+      subst (λ (played : Played). start_at profile index (heads_of version profile demo).checkpoints number ≡ Ok played) from.there from.begins,
+      sought first written stays within version profile demo index number last codec room is some (first.first profile demo number some),
     )

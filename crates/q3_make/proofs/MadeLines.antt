@@ -116,7 +116,7 @@ pub baseline_good : (number place word : ℕ) → 1 ≤ number → number ≤ 10
 unfolding zero_entity
 baseline_good number place word some few small =
     let is = state_is number place word few small in
-    good (Baseline (entity_with number place word)) (some, few, is.words) is.short
+    good (Baseline (entity_with number place word)) (some, omega (arith, few), is.words) is.short
 
 pub entity_good : (number place word : ℕ) → number ≤ 1022 → word < 1000 → IsGood (Entity (entity_with number place word))
 unfolding zero_entity
@@ -124,7 +124,7 @@ entity_good number place word few small =
     let front = number_short (codes "entity ") number (omega arith) (omega arith) in
     let fields = one_short [] 64 place word (omega arith) (omega arith) small in
     let e = length-append (number_text (codes "entity ") number) (fields_text (entity_with number place word).words) in
-    good (Entity (entity_with number place word)) (few, one_are_words 64 place word small) (omega arith)
+    good (Entity (entity_with number place word)) (omega (arith, few), one_are_words 64 place word small) (omega arith)
 
 -- ---- players
 

@@ -2,7 +2,7 @@
 use Rattle.std.proofs.Common.{◌≡◌, ℕ, ℤ, ◌+◌, Bool, true, false, cond, List, [], ◌∷◌, length, eqb, ltb, map, Option, Some, None, Result, Ok, Err, inl, inr, ◌⊎◌, subst}
 use Rattle.std.specs.Prelude.{IfSome, IfErr, pos, negsuc}
 use Rattle.std.specs.List.{list_all}
-use Rattle.std.specs.Option.{ok_or, option_or, option_map, option_map_or, is_none}
+use Rattle.std.specs.Option.{ok_or, option_or, option_map, option_map_or, is_some}
 use Rattle.std.specs.Result.{result_map_both}
 use Rattle.toml.specs.Data.{Data, Members, get_member, as_integer, as_str, as_array}
 use Rattle.q3_bits.specs.declared.words.CodeError.{CodeError}
@@ -99,12 +99,12 @@ are_ruled key rule (negsuc n) = tt
 numbers : (key : Key) (rule : ℕ → Bool) (document : Members) → Names (number_at key rule document)
 numbers key rule document = in_turn (integer_at key document) (ruled key rule) (integers key document) (are_ruled key rule)
 
-unless_missing : (missing : Bool) (number : ℕ) (r : Result ℕ ProfileError) → Names r → Names (cond missing (Ok number) r)
-unless_missing true number r names = tt
-unless_missing false number r names = names
+if_there : (there : Bool) (number : ℕ) (r : Result ℕ ProfileError) → Names r → Names (cond there r (Ok number))
+if_there true number r names = names
+if_there false number r names = tt
 
 numbers_or : (missing : ℕ) (key : Key) (rule : ℕ → Bool) (document : Members) → Names (number_or missing key rule document)
-numbers_or missing key rule document = unless_missing (is_none (get_member (key_name key) document)) missing (number_at key rule document) (numbers key rule document)
+numbers_or missing key rule document = if_there (is_some (get_member (key_name key) document)) missing (number_at key rule document) (numbers key rule document)
 
 tables_of : {A : Type 0} (key : Key) (r : Result A TableError) → Names (result_map_both (λ x. x) (table_error key) r)
 tables_of key (Ok x) = tt

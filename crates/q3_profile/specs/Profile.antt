@@ -1,7 +1,7 @@
 -- The profile that a file's bytes spell, or the first rule that they break.
 use Rattle.std.specs.Prelude.{◌≤◌, ◌≡◌, ℕ, ◌==◌, ◌&&◌, ◌||◌, if◌then◌else◌, Bool, true, List, length, map, nat_lt, nat_le, ℤ, pos, negsuc, Result, Ok, Err}
 use Rattle.std.specs.Int.{is_power_of_two}
-use Rattle.std.specs.Option.{ok_or, option_map_or, is_none}
+use Rattle.std.specs.Option.{ok_or, option_map_or, is_some}
 use Rattle.std.specs.Result.{result_map_both}
 use Rattle.toml.specs.Data.{Members, get_member, as_integer, as_str}
 use Rattle.q3_bits.specs.CodeWords.{bits_of_text, code_fault}
@@ -51,7 +51,7 @@ number_at key rule document = do
 
 -- the number under a key that may be missing, and is this one then
 abbrev pub number_or : ℕ → Key → (ℕ → Bool) → Members → Result ℕ ProfileError
-number_or missing key rule document = if is_none (get_member (key_name key) document) then Ok missing else number_at key rule document
+number_or missing key rule document = if is_some (get_member (key_name key) document) then number_at key rule document else Ok missing
 
 abbrev pub table_error : Key → TableError → ProfileError
 table_error key table.Fields = errors.Fields key

@@ -1,10 +1,11 @@
 //! The profile's file as a document: what stands under a key.
 
 ghost use Rattle.std.specs.Prelude.{◌≡◌, ◌⊎◌, Some, None, Ok, Err, MatchResult};
-ghost use Rattle.toml.specs.Data.{as_integer, as_str};
+ghost use Rattle.std.specs.Option.{is_some};
+ghost use Rattle.toml.specs.Data.{as_integer, as_str, get_member};
 ghost use Rattle.toml.specs.View.{table_view};
 ghost use Rattle.q3_profile.specs.declared.error.ProfileError.TheVariants as errors;
-ghost use Rattle.q3_profile.specs.Document.{document_of, value_at, integer_at, array_at};
+ghost use Rattle.q3_profile.specs.Document.{document_of, key_name, value_at, integer_at, array_at};
 ghost use Rattle.q3_profile.specs.Seen.{seen, seen_items, items_at, Gives};
 ghost use Rattle.q3_bits.specs.CodeWords.{texts_of};
 ghost use Rattle.toml.specs.View.{items_view, array_view};
@@ -27,6 +28,16 @@ pub(crate) fn document(alloc: Global, bytes: &[u8]) -> Result<Table, ProfileErro
                 Err(ProfileError::NotToml)
             }
         }
+    }
+}
+
+/// Whether anything stands under a key.
+pub(crate) fn has(document: &Table, key: Key) -> bool
+    ensures { result ≡ is_some (get_member (key_name key) (table_view document.now)) }
+{
+    match document.get(key.name()) {
+        Some(_) => true,
+        None => false,
     }
 }
 

@@ -7,7 +7,7 @@ ghost use Rattle.q3_profile.specs.declared.error.Key.TheVariants as keys;
 ghost use Rattle.q3_profile.specs.Profile.{number_at, number_or, is_protocol, is_server_ring, is_parse_ring, is_entity_bits};
 ghost use Rattle.q3_fields.specs.Kinds.{HasNumberBits, least_number_bits};
 
-use crate::document::integer_at;
+use crate::document::{has, integer_at};
 use crate::error::{Key, ProfileError};
 use q3_fields::{LEAST_NUMBER_BITS, MOST_NUMBER_BITS};
 use toml::Table;
@@ -57,7 +57,7 @@ pub(crate) fn entity_bits_at(document: &Table) -> Result<u8, ProfileError>
     ensures number { result ≡ number_or least_number_bits keys.EntityBits is_entity_bits (table_view document.now) }
     ensures bits { IfOk result HasNumberBits }
 {
-    if document.get(Key::EntityBits.name()).is_none() {
+    if !has(document, Key::EntityBits) {
         return Ok(LEAST_NUMBER_BITS);
     }
     let least = u32::from(LEAST_NUMBER_BITS);

@@ -179,7 +179,7 @@ written_is_read profile saved codec room is =
 -- the end mark of entities with so few bits
 few_lines : (table : Layout) → table.number_bits ≤ most_number_bits → end_mark table ≤ most_lines
 few_lines table few =
-    let most : 2 ^ table.number_bits ≤ 2 ^ 10 = pow-le-pow_right {n = 2} (omega arith) {i = table.number_bits} {j = 10} few in
+    let most : 2 ^ table.number_bits ≤ 2 ^ most_number_bits = pow-le-pow_right {n = 2} (omega arith) {i = table.number_bits} {j = most_number_bits} few in
     omega arith
 
 -- the parts make a state

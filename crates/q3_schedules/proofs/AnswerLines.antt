@@ -16,7 +16,7 @@ use Rattle.q3_slot.specs.declared.answer.Emitted.TheVariants as emitted
 use Rattle.q3_slot.specs.declared.answer.NoClient.{NoClient}
 use Rattle.q3_client.specs.declared.client.Sent.{Sent}
 use Rattle.q3_client.specs.declared.client.Sent.TheVariants as sent
-use Rattle.q3_lines.specs.ServerLines.{slot_error_text, not_later_text, late_text, no_client_text, config_refused_text, say_error_text, emitted_text}
+use Rattle.q3_lines.specs.ServerLines.{slot_error_text, not_later_text, no_client_text, config_refused_text, say_error_text, emitted_text}
 use Rattle.q3_lines.specs.ClientLines.{sent_text}
 use Rattle.q3_report.specs.declared.answer.HandedIn.{HandedIn}
 use Rattle.q3_report.specs.declared.answer.HandedIn.TheVariants as handed
@@ -25,7 +25,7 @@ use Rattle.q3_report.specs.declared.answer.Front.TheVariants as fronts
 use Rattle.q3_report.specs.declared.answer.TakeRefused.{TakeRefused}
 use Rattle.q3_report.specs.declared.answer.TakeRefused.TheVariants as refused
 use Rattle.q3_report.specs.Answers.{Taking, Showing, ShowsNobody, ShowsNothing, ShowsNewest, Answered, Given, Served, SentOut, Took, Untaken, Shown, Bytes}
-use Rattle.q3_report.specs.AnswerLines.{handed_in_text, issued_text, type_refused_text, move_refused_text, record_refused_text, stop_refused_text, handed_lines, front_text, untaken_text, taking_text, showing_text, bytes_text, lines_of}
+use Rattle.q3_report.specs.AnswerLines.{handed_in_text, issued_text, out_of_range_text, baseline_refused_text, type_refused_text, move_refused_text, record_refused_text, stop_refused_text, handed_lines, front_text, untaken_text, taking_text, showing_text, bytes_text, lines_of}
 use Rattle.q3_words.specs.Words.{words_of}
 use Rattle.q3_world.specs.declared.counts.Counts.{Counts}
 use Rattle.q3_world.specs.Counts.{no_counts, one_event, made_served, made_sent, lines_in}
@@ -33,7 +33,7 @@ use Rattle.q3_schedules.specs.ReportLines.{is_under, has_datagram, taken_by, nam
 use Rattle.q3_schedules.proofs.PlainTexts.{lacks, lacks_both, lacks-decimal, number, hexed, indexed}
 use Rattle.q3_schedules.proofs.SpelledLines.{Spelled, in_front, newline, last}
 use Rattle.q3_schedules.proofs.PlacedLines.{Kind, count_of, tally, tally-append, tally_first, plus, plus_is, next_word, number_word, other_number, last_word}
-use Rattle.q3_schedules.proofs.LineEnds.{OneLine, behind, whole, closed, slot_error, no_client, not_later, late, config_refused, say_error, type_refused, move_refused, record_refused, stop_refused, handed_in, issued}
+use Rattle.q3_schedules.proofs.LineEnds.{OneLine, behind, whole, closed, slot_error, no_client, not_later, out_of_range, baseline_refused, config_refused, say_error, type_refused, move_refused, record_refused, stop_refused, handed_in, issued}
 use Rattle.q3_schedules.proofs.LinesUnder.{counts_each, Beneath, none_beneath, both_beneath, each_beneath, other_beneath}
 use Rattle.q3_schedules.proofs.TakenLines.{next_is, slot_number, taking_lines}
 
@@ -81,15 +81,15 @@ given_is (handed.Port c outcome) =
 given_is (handed.Map id outcome) =
     given_line (handed.Map id outcome) (codes "map ") (decimal id ++ (handed_in_text not_later_text outcome ++ [])) refl refl
     (counted id (handed_in_text not_later_text outcome) (handed_in not_later_text not_later outcome)) (λ line. refl) (λ line. refl)
-given_is (handed.Entity n) =
-    given_line (handed.Entity n) (codes "entity ") (decimal n ++ codes " ok\n") refl refl
-    (counted n (codes " ok\n") (whole (codes " ok") refl)) (λ line. refl) (λ line. refl)
-given_is (handed.Remove n) =
-    given_line (handed.Remove n) (codes "remove ") (decimal n ++ codes " ok\n") refl refl
-    (counted n (codes " ok\n") (whole (codes " ok") refl)) (λ line. refl) (λ line. refl)
+given_is (handed.Entity n outcome) =
+    given_line (handed.Entity n outcome) (codes "entity ") (decimal n ++ (handed_in_text out_of_range_text outcome ++ [])) refl refl
+    (counted n (handed_in_text out_of_range_text outcome) (handed_in out_of_range_text out_of_range outcome)) (λ line. refl) (λ line. refl)
+given_is (handed.Remove n outcome) =
+    given_line (handed.Remove n outcome) (codes "remove ") (decimal n ++ (handed_in_text out_of_range_text outcome ++ [])) refl refl
+    (counted n (handed_in_text out_of_range_text outcome) (handed_in out_of_range_text out_of_range outcome)) (λ line. refl) (λ line. refl)
 given_is (handed.Baseline n outcome) =
-    given_line (handed.Baseline n outcome) (codes "baseline ") (decimal n ++ (handed_in_text late_text outcome ++ [])) refl refl
-    (counted n (handed_in_text late_text outcome) (handed_in late_text late outcome)) (λ line. refl) (λ line. refl)
+    given_line (handed.Baseline n outcome) (codes "baseline ") (decimal n ++ (handed_in_text baseline_refused_text outcome ++ [])) refl refl
+    (counted n (handed_in_text baseline_refused_text outcome) (handed_in baseline_refused_text baseline_refused outcome)) (λ line. refl) (λ line. refl)
 given_is (handed.Config index outcome) =
     given_line (handed.Config index outcome) (codes "config ") (decimal index ++ (handed_in_text config_refused_text outcome ++ [])) refl refl
     (counted index (handed_in_text config_refused_text outcome) (handed_in config_refused_text config_refused outcome)) (λ line. refl) (λ line. refl)

@@ -60,13 +60,17 @@ use Rattle.q3_window.specs.declared.outgoing.WindowFull.{WindowFull}
 use Rattle.q3_lines.specs.ServerLines.{Run}
 use Rattle.q3_clstate.specs.State.{AppliedState}
 use Rattle.q3_client.specs.declared.client.ClientTook.{ClientTook}
+use Rattle.q3_report.specs.declared.answer.HandedIn.{HandedIn}
 use Rattle.q3_report.specs.declared.answer.HandedIn.TheVariants as handed
+use Rattle.q3_report.specs.declared.answer.BaselineRefused.TheVariants as unset
 use Rattle.q3_report.specs.declared.answer.MoveRefused.TheVariants as unmoving
 use Rattle.q3_report.specs.declared.answer.TypeRefused.TheVariants as untyped
 use Rattle.q3_report.specs.declared.answer.Front.TheVariants as fronts
 use Rattle.q3_report.specs.declared.answer.TakeRefused.{TakeRefused}
 use Rattle.q3_report.specs.Answers.{ByClient, ByServer, Given, Took, Untaken}
-use Rattle.q3_ends.specs.AtServer.{ran_of, server_line}
+use Rattle.q3_ends.specs.AtServer as at_server
+use Rattle.q3_ends.specs.AtServer.{ServerStep, in_range, ran_of, server_line}
+use Rattle.q3_world.proofs.Ranged.{in_range_or}
 use Rattle.q3_ends.specs.AtClient.{add_move, moved, type_text, typed}
 use Rattle.q3_world.specs.declared.places.Place.{Place}
 use Rattle.q3_ends.specs.Recording.{asking}
@@ -536,12 +540,22 @@ module _ (profile : Profile) (whole : Whole) (old : List Move) (time c : ℕ) (l
   delivers number None at = is
   delivers number (Some tag) at = comes_to number tag (is_sent profile whole (number - 1) tag at holds) tag.direction refl
 
+  -- a line about an entity
+  in_range_past : (number : ℕ) (refusal : HandedIn) (step : ServerStep) → Past old time (slot_at step.server c) (history_at whole.histories c).run
+      → Past old time (slot_at (in_range whole.ends.server number refusal step).server c) (history_at whole.histories c).run
+  in_range_past number refusal step within =
+      in_range_or (λ (done : ServerStep). Past old time (slot_at done.server c) (history_at whole.histories c).run) whole.ends.server number refusal step (λ below. within) is
+
   -- every event
   past_on : (event : Event) → IsOwn event → At old time c (step profile whole event).whole
   unfolding step line_of server_line emit_at
   past_on (events.Client k challenge qport dup address) own = joins k challenge qport dup address
   past_on (events.Port k port) own = ports k port (place_at whole.ends k)
   past_on (events.Map id feed) own = maps id feed
+  past_on (events.Baseline state) own =
+      in_range_past state.number (handed.Baseline state.number (Err unset.OutOfRange)) (at_server.set_baseline whole.ends.server state) is
+  past_on (events.Entity state) own = in_range_past state.number (handed.Entity state.number (Err (record {}))) (at_server.set_entity whole.ends.server state) is
+  past_on (events.Remove number) own = in_range_past number (handed.Remove number (Err (record {}))) (at_server.remove_entity whole.ends.server number) is
   past_on (events.Config index text) own = configs index text
   past_on (events.Player k player) own = gives k (λ slot. with_player whole.ends.server.profile slot player) (λ slot. refl) (slot_at whole.ends.server k) refl
   past_on (events.Area k area) own = gives k (λ slot. with_area slot area.items) (λ slot. refl) (slot_at whole.ends.server k) refl

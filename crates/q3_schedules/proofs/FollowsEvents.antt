@@ -34,9 +34,11 @@ use Rattle.q3_window.specs.Flow.{FlowLaws}
 use Rattle.q3_window.specs.Outgoing.{issued_of}
 use Rattle.q3_window.specs.declared.outgoing.WindowFull.{WindowFull}
 use Rattle.q3_report.specs.declared.answer.HandedIn.TheVariants as answers
+use Rattle.q3_report.specs.declared.answer.BaselineRefused.TheVariants as unset
 use Rattle.q3_report.specs.declared.answer.MoveRefused.TheVariants as refused
 use Rattle.q3_report.specs.declared.answer.TypeRefused.TheVariants as untyped
 use Rattle.q3_report.specs.Answers.{Given}
+use Rattle.q3_ends.specs.AtServer as at_server
 use Rattle.q3_ends.specs.AtServer.{ran_of, server_line}
 use Rattle.q3_ends.specs.AtClient.{add_move, moved, type_text, typed}
 use Rattle.q3_ends.specs.Recording.{asking, note_taken}
@@ -50,7 +52,7 @@ use Rattle.q3_world.specs.declared.made.Direction.{Direction}
 use Rattle.q3_world.specs.declared.made.Direction.TheVariants.{ToClient, ToServer}
 use Rattle.q3_world.proofs.Holding.{Holds, has_client, has_slot}
 use Rattle.q3_schedules.proofs.Follows.{follows_built}
-use Rattle.q3_schedules.proofs.FollowsGiven.{At, Of, both_changed, configs, gives, history_changed, joins, lines, maps, noting, ports, records, same_map, same_state, says, state_in, stops, unnoted}
+use Rattle.q3_schedules.proofs.FollowsGiven.{At, Of, both_changed, configs, gives, history_changed, in_range_follows, joins, lines, maps, noting, ports, records, same_map, same_state, says, state_in, stops, unnoted}
 use Rattle.q3_schedules.proofs.FollowsHeard.{BeginsSo, TellsOf, emits_so, hears_it, take_follows}
 
 -- ---- where a state stays
@@ -242,7 +244,13 @@ module _ (profile : Profile) (whole : Whole) (old : History) (c : ℕ) (lt : c <
   follows_on flow does_so laws (events.Client k challenge qport dup address) replay none = joins profile whole old c lt holds is k challenge qport dup address (omega (arith, replay.0.0))
   follows_on flow does_so laws (events.Port k port) replay none = ports profile whole old c lt holds is k port (place_at whole.ends k) refl
   follows_on flow does_so laws (events.Map id feed) replay none = maps profile whole old c lt holds is id feed
-  follows_on flow does_so laws (events.Baseline state) replay none = lines profile whole old c lt holds is state
+  follows_on flow does_so laws (events.Baseline state) replay none =
+      in_range_follows profile whole old c lt holds is state.number (answers.Baseline state.number (Err unset.OutOfRange)) (at_server.set_baseline whole.ends.server state)
+      (lines profile whole old c lt holds is state)
+  follows_on flow does_so laws (events.Entity state) replay none =
+      in_range_follows profile whole old c lt holds is state.number (answers.Entity state.number (Err (record {}))) (at_server.set_entity whole.ends.server state) is
+  follows_on flow does_so laws (events.Remove number) replay none =
+      in_range_follows profile whole old c lt holds is number (answers.Remove number (Err (record {}))) (at_server.remove_entity whole.ends.server number) is
   follows_on flow does_so laws (events.Config index text) replay none = configs profile whole old c lt holds is laws index text
   follows_on flow does_so laws (events.Player k player) replay none = gives profile whole old c lt holds is k (λ slot. with_player whole.ends.server.profile slot player) (slot_at whole.ends.server k)
   follows_on flow does_so laws (events.Area k area) replay none = gives profile whole old c lt holds is k (λ slot. with_area slot area.items) (slot_at whole.ends.server k)

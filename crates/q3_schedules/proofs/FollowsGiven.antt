@@ -40,7 +40,10 @@ use Rattle.q3_world.specs.Games.{Carries, HasLast, Tells}
 use Rattle.q3_world.specs.Layers.{ConfigLaws}
 use Rattle.q3_world.specs.StandsFor.{IsClient}
 use Rattle.q3_world.specs.World.{History, Whole, history_at, no_history, texts_told, with_history, with_joined, with_noted, with_spoken, with_texts_told, with_told}
+use Rattle.q3_report.specs.declared.answer.HandedIn.{HandedIn}
 use Rattle.q3_report.specs.declared.answer.HandedIn.TheVariants as answers
+use Rattle.q3_ends.specs.AtServer.{ServerStep, in_range}
+use Rattle.q3_world.proofs.Ranged.{in_range_or}
 use Rattle.q3_world.proofs.Clients.{no_client}
 use Rattle.q3_world.proofs.Holding.{Holds, has_slot}
 use Rattle.q3_schedules.proofs.Follows.{Follows, follows_anew, follows_issued, follows_joined, no_commands, nothing_changes}
@@ -264,6 +267,12 @@ module _ (profile : Profile) (whole : Whole) (old : History) (c : ℕ) (lt : c <
       cond_both map.begun (record { map = map; answer = Err (record {}) })
       (record { map = record map { lines = with_line map.lines (normal_entity whole.ends.server.profile.entity state) }; answer = Ok tt })
       (λ (handed : of_map.Handed Late). Of old handed.map (place_at whole.ends c) (history_at whole.histories c)) (λ e. is) (λ e. is)
+
+  -- a line about an entity
+  pub in_range_follows : (number : ℕ) (refusal : HandedIn) (step : ServerStep) → Of old step.server.map (place_at whole.ends c) (history_at whole.histories c)
+      → Of old (in_range whole.ends.server number refusal step).server.map (place_at whole.ends c) (history_at whole.histories c)
+  in_range_follows number refusal step within =
+      in_range_or (λ (done : ServerStep). Of old done.server.map (place_at whole.ends c) (history_at whole.histories c)) whole.ends.server number refusal step (λ below. within) is
 
   -- a config change: its client is told, unless no gamestate of the map was begun for it
   told_follows : ConfigLaws → (index : ℕ) (text : List ℕ) → admit_fault whole.ends.server.map.strings index text ≡ None → (found : Option SlotState) → slot_at whole.ends.server c ≡ found

@@ -18,7 +18,6 @@ use Rattle.q3_rings.specs.declared.rings.NoBase.{NoBase}
 use Rattle.q3_rings.specs.declared.rings.NoBase.TheVariants as bases
 use Rattle.q3_clstate.specs.Report.{cause_text}
 use Rattle.q3_map.specs.declared.map.NotLater.{NotLater}
-use Rattle.q3_map.specs.declared.map.Late.{Late}
 use Rattle.q3_slot.specs.declared.answer.NoClient.{NoClient}
 use Rattle.q3_slot.specs.declared.answer.SayError.{SayError}
 use Rattle.q3_slot.specs.declared.answer.SayError.TheVariants as unsaid
@@ -28,8 +27,11 @@ use Rattle.q3_server.specs.declared.server.ConfigRefused.{ConfigRefused}
 use Rattle.q3_server.specs.declared.server.ConfigRefused.TheVariants as config
 use Rattle.q3_client.specs.declared.client.MoveError.{MoveError}
 use Rattle.q3_client.specs.declared.client.MoveError.TheVariants as unmoved
-use Rattle.q3_lines.specs.ServerLines.{slot_error_text, not_later_text, late_text, no_client_text, config_refused_text, say_error_text}
+use Rattle.q3_lines.specs.ServerLines.{slot_error_text, not_later_text, no_client_text, config_refused_text, say_error_text}
 use Rattle.q3_lines.specs.ClientLines.{move_error_text}
+use Rattle.q3_report.specs.declared.answer.OutOfRange.{OutOfRange}
+use Rattle.q3_report.specs.declared.answer.BaselineRefused.{BaselineRefused}
+use Rattle.q3_report.specs.declared.answer.BaselineRefused.TheVariants as unset
 use Rattle.q3_report.specs.declared.answer.MoveRefused.{MoveRefused}
 use Rattle.q3_report.specs.declared.answer.MoveRefused.TheVariants as refused
 use Rattle.q3_report.specs.declared.answer.TypeRefused.{TypeRefused}
@@ -38,7 +40,7 @@ use Rattle.q3_report.specs.declared.answer.RecordRefused.{RecordRefused}
 use Rattle.q3_report.specs.declared.answer.RecordRefused.TheVariants as unrecorded
 use Rattle.q3_report.specs.declared.answer.StopRefused.{StopRefused}
 use Rattle.q3_report.specs.declared.answer.StopRefused.TheVariants as unstopped
-use Rattle.q3_report.specs.AnswerLines.{handed_in_text, issued_text, type_refused_text, move_refused_text, record_refused_text, stop_refused_text}
+use Rattle.q3_report.specs.AnswerLines.{handed_in_text, issued_text, out_of_range_text, baseline_refused_text, type_refused_text, move_refused_text, record_refused_text, stop_refused_text}
 use Rattle.q3_schedules.proofs.PlainTexts.{lacks, lacks_both, number}
 use Rattle.q3_schedules.proofs.SpelledLines.{Spelled, nothing, in_front, newline, last}
 
@@ -78,8 +80,12 @@ no_client e = refl
 pub not_later : (e : NotLater) → lacks 10 (not_later_text e) ≡ true
 not_later e = numbered (codes "notlater ") e.last refl
 
-pub late : (e : Late) → lacks 10 (late_text e) ≡ true
-late e = refl
+pub out_of_range : (e : OutOfRange) → lacks 10 (out_of_range_text e) ≡ true
+out_of_range e = refl
+
+pub baseline_refused : (e : BaselineRefused) → lacks 10 (baseline_refused_text e) ≡ true
+baseline_refused unset.OutOfRange = refl
+baseline_refused unset.Late = refl
 
 pub config_refused : (e : ConfigRefused) → lacks 10 (config_refused_text e) ≡ true
 config_refused config.Index = refl

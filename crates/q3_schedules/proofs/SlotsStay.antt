@@ -36,11 +36,14 @@ use Rattle.q3_report.specs.declared.answer.Front.{Front}
 use Rattle.q3_report.specs.declared.answer.Front.TheVariants as fronts
 use Rattle.q3_report.specs.declared.answer.HandedIn.{HandedIn}
 use Rattle.q3_report.specs.declared.answer.HandedIn.TheVariants as handed
+use Rattle.q3_report.specs.declared.answer.BaselineRefused.TheVariants as unset
 use Rattle.q3_report.specs.declared.answer.MoveRefused.TheVariants as refused
 use Rattle.q3_report.specs.declared.answer.TypeRefused.TheVariants as untyped
 use Rattle.q3_ends.specs.AtClient as at_client
 use Rattle.q3_ends.specs.AtClient.{ClientStep}
-use Rattle.q3_ends.specs.AtServer.{server_line}
+use Rattle.q3_ends.specs.AtServer as at_server
+use Rattle.q3_ends.specs.AtServer.{ServerStep, in_range, server_line}
+use Rattle.q3_world.proofs.Ranged.{in_range_or}
 use Rattle.q3_ends.specs.Recording.{asking, begin_at, new_recording, note_taken, stop_at}
 use Rattle.q3_world.specs.declared.made.Direction.{Direction}
 use Rattle.q3_world.specs.declared.made.Direction.TheVariants.{ToClient, ToServer}
@@ -238,6 +241,12 @@ join_puts ends server c place (Ok x) stays taken have = λ d is. elim (cases_eq 
 ]
 join_puts ends server c place (Err e) stays taken have = by_server ends server stays have
 
+-- a line about an entity
+line_stays : (ends : Ends) (number : ℕ) (refusal : HandedIn) (step : ServerStep) → HaveSlots (record ends { server = step.server }) → HaveSlots ends
+    → HaveSlots (record ends { server = (in_range ends.server number refusal step).server })
+line_stays ends number refusal step within have =
+    in_range_or (λ (done : ServerStep). HaveSlots (record ends { server = done.server })) ends.server number refusal step (λ lt. within) have
+
 -- ---- every event
 
 pub have_slots : (kept : Kept) (event : Event) → HaveSlots kept.ends → HaveSlots (kept_step kept event).kept.ends
@@ -249,9 +258,12 @@ have_slots kept (events.Client c challenge qport dup address) have =
 have_slots kept (events.Port c port) have = port_puts kept.ends c port (place_at kept.ends c) refl have
 have_slots kept (events.Map id feed) have = by_server kept.ends (new_map_at kept.ends.server id feed).server (map_at_stays kept.ends.server id feed) have
 have_slots kept (events.Config index text) have = by_server kept.ends (set_config_at kept.ends.server index text).server (config_stays kept.ends.server index text) have
-have_slots kept (events.Baseline state) have = have
-have_slots kept (events.Entity state) have = have
-have_slots kept (events.Remove number) have = have
+have_slots kept (events.Baseline state) have =
+    line_stays kept.ends state.number (handed.Baseline state.number (Err unset.OutOfRange)) (at_server.set_baseline kept.ends.server state) have have
+have_slots kept (events.Entity state) have =
+    line_stays kept.ends state.number (handed.Entity state.number (Err (record {}))) (at_server.set_entity kept.ends.server state) have have
+have_slots kept (events.Remove number) have =
+    line_stays kept.ends number (handed.Remove number (Err (record {}))) (at_server.remove_entity kept.ends.server number) have have
 have_slots kept (events.Time time) have = have
 have_slots kept (events.Player c player) have =
     let change : SlotState → SlotState = λ slot. with_player kept.ends.server.profile slot player in

@@ -64,7 +64,6 @@ pub record Cited (profile : Profile) : Type 0 where
   pub normal : (player : PlayerState) → IsState player → IsHeld profile (normal_player profile.player.kinds player)
   pub normal_entity : (entity : EntityState) → AreWords 64 entity.words
       → AreWords 64 (normal_entity profile.entity entity).words × IsNormal profile.entity (normal_entity profile.entity entity)
-  pub end : least_end ≤ end_mark profile.entity
   pub ring : 512 ≤ profile.parse_ring
   pub tags : SentIsTagged
   pub qport : QportIsTold

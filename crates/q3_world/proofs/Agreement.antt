@@ -44,12 +44,12 @@ steps_agree profile whole (events.Port c port) cited is own holds =
 steps_agree profile whole (events.Map id feed) cited is own holds =
     handed profile whole (to_server whole.ends (at_server.new_map whole.ends.server id feed)) (holds_new_map profile whole id feed cited is.1 is.2 holds)
 steps_agree profile whole (events.Baseline state) cited is own holds =
-    handed profile whole (to_server whole.ends (at_server.set_baseline whole.ends.server state)) (holds_baseline profile whole state cited is.1 is.2 holds)
+    handed profile whole (to_server whole.ends (at_server.baseline_line whole.ends.server state)) (holds_baseline profile whole state cited is.2 holds)
 steps_agree profile whole (events.Config index text) cited is own holds = record { same = refl; holds = holds_config profile whole index text cited is.2 holds }
 steps_agree profile whole (events.Entity state) cited is own holds =
-    handed profile whole (to_server whole.ends (at_server.set_entity whole.ends.server state)) (holds_entity profile whole state cited is.0 is.1 holds)
+    handed profile whole (to_server whole.ends (at_server.entity_line whole.ends.server state)) (holds_entity profile whole state cited is.1 holds)
 steps_agree profile whole (events.Remove number) cited is own holds =
-    handed profile whole (to_server whole.ends (at_server.remove_entity whole.ends.server number)) (holds_removed profile whole number cited holds)
+    handed profile whole (to_server whole.ends (at_server.remove_line whole.ends.server number)) (holds_removed profile whole number cited holds)
 steps_agree profile whole (events.Area c area) cited is own holds =
     handed profile whole (to_server whole.ends (at_server.set_area whole.ends.server c area))
     (holds_area profile whole c area (record { bytes = is.2; short = is.1 }) (omega (arith, is.0)) holds)

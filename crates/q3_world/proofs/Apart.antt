@@ -20,7 +20,10 @@ use Rattle.q3_report.specs.declared.answer.TypeRefused.TheVariants as untyped
 use Rattle.q3_ends.specs.AtClient as at_client
 use Rattle.q3_ends.specs.AtClient.{ClientStep}
 use Rattle.q3_ends.specs.Recording.{asking, begin_at, new_recording, note_taken, stop_at}
-use Rattle.q3_ends.specs.AtServer.{server_line}
+use Rattle.q3_ends.specs.AtServer as at_server
+use Rattle.q3_ends.specs.AtServer.{ServerStep, in_range, server_line}
+use Rattle.q3_report.specs.declared.answer.BaselineRefused.TheVariants as unset
+use Rattle.q3_world.proofs.Ranged.{in_range_or}
 use Rattle.q3_world.specs.declared.made.Direction.{Direction}
 use Rattle.q3_world.specs.declared.made.Direction.TheVariants.{ToClient, ToServer}
 use Rattle.q3_world.specs.declared.places.Place.{Place}
@@ -90,6 +93,12 @@ hands_server laws ends c d bytes None other = nothing d ends
 hands_server laws ends c d bytes (Some place) other =
     of_server d ends (hears.take_at ends.server place.address bytes).server (laws.takes ends.server d place.address bytes other)
 
+-- a line about an entity
+in_range_left : (ends : Ends) (d number : ℕ) (refusal : HandedIn) (step : ServerStep) → IsLeft d ends (record ends { server = step.server })
+    → IsLeft d ends (record ends { server = (in_range ends.server number refusal step).server })
+in_range_left ends d number refusal step left =
+    in_range_or (λ (done : ServerStep). IsLeft d ends (record ends { server = done.server })) ends.server number refusal step (λ lt. left) (nothing d ends)
+
 -- ---- every event
 
 pub slots_apart : calls.SlotsApart → SlotsApart
@@ -101,9 +110,15 @@ slots_apart laws kept (events.Client c challenge qport dup address) d ne =
 slots_apart laws kept (events.Port c port) d ne = ports c d port kept.ends (place_at kept.ends c) ne
 slots_apart laws kept (events.Map id feed) d ne = absurd ne
 slots_apart laws kept (events.Config index text) d ne = absurd ne
-slots_apart laws kept (events.Baseline state) d ne = of_server d kept.ends (set_baseline_at kept.ends.server state).server (laws.baseline kept.ends.server state d)
-slots_apart laws kept (events.Entity state) d ne = of_server d kept.ends (set_entity_at kept.ends.server state) (laws.entity kept.ends.server state d)
-slots_apart laws kept (events.Remove number) d ne = of_server d kept.ends (remove_entity_at kept.ends.server number) (laws.remove kept.ends.server number d)
+slots_apart laws kept (events.Baseline state) d ne =
+    in_range_left kept.ends d state.number (handed.Baseline state.number (Err unset.OutOfRange)) (at_server.set_baseline kept.ends.server state)
+    (of_server d kept.ends (set_baseline_at kept.ends.server state).server (laws.baseline kept.ends.server state d))
+slots_apart laws kept (events.Entity state) d ne =
+    in_range_left kept.ends d state.number (handed.Entity state.number (Err (record {}))) (at_server.set_entity kept.ends.server state)
+    (of_server d kept.ends (set_entity_at kept.ends.server state) (laws.entity kept.ends.server state d))
+slots_apart laws kept (events.Remove number) d ne =
+    in_range_left kept.ends d number (handed.Remove number (Err (record {}))) (at_server.remove_entity kept.ends.server number)
+    (of_server d kept.ends (remove_entity_at kept.ends.server number) (laws.remove kept.ends.server number d))
 slots_apart laws kept (events.Time time) d ne = of_server d kept.ends (set_time_at kept.ends.server time) (laws.time kept.ends.server time d)
 slots_apart laws kept (events.Player c player) d ne =
     of_server d kept.ends (set_player_at kept.ends.server c player).server (laws.player kept.ends.server c d player ne)

@@ -40,7 +40,6 @@ cited_of below profile checked =
       zero = record { state = at_first.0; normal = at_first.1 };
       normal = λ player state. let made = below.normal profile.player.kinds player is.player.kinds state in record { state = made.0; normal = made.1 };
       normal_entity = λ state words. below.entity profile.entity state is.entity words;
-      end = let wide : 2 ^ least_number_bits ≤ 2 ^ profile.entity.number_bits = pow_mono is.numbers.0 in omega (arith, wide);
       ring = leb-true 512 n least.0;
       tags = below.tags;
       qport = below.qport;

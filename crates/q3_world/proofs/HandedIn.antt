@@ -10,7 +10,7 @@ use Rattle.q3_profile.specs.declared.profile.Profile.{Profile}
 use Rattle.q3_player.specs.State.{zero_player, normal_player}
 use Rattle.q3_player.specs.declared.state.PlayerState.{PlayerState}
 use Rattle.q3_io.specs.declared.address.Address.{Address}
-use Rattle.q3_words.specs.Numbers.{last_entity}
+use Rattle.q3_fields.specs.Kinds.{end_mark}
 use Rattle.arrayvec.specs.ArrayVec.{ArrayVec}
 use Rattle.q3_fields.specs.States.{AreWords}
 use Rattle.q3_entity.specs.declared.state.EntityState.{EntityState}
@@ -35,9 +35,12 @@ use Rattle.q3_slot.specs.Slots.{changes_own, lacks_room, tells}
 use Rattle.q3_server.specs.declared.server.ConfigRefused.{ConfigRefused}
 use Rattle.q3_server.specs.declared.server.ConfigRefused.TheVariants.{Own}
 use Rattle.q3_server.specs.Server.{ServerState, Handed, places, own_string, slot_at, with_slot, is_same, change_config, change_unless, change_or}
+use Rattle.q3_report.specs.declared.answer.HandedIn.{HandedIn}
 use Rattle.q3_report.specs.declared.answer.HandedIn.TheVariants as answers
+use Rattle.q3_report.specs.declared.answer.BaselineRefused.TheVariants as unset
 use Rattle.q3_report.specs.Answers.{Answered, Given}
 use Rattle.q3_ends.specs.AtServer as at_server
+use Rattle.q3_ends.specs.AtServer.{ServerStep}
 use Rattle.q3_ends.specs.AtClient as at_client
 use Rattle.q3_world.specs.declared.places.Place.{Place}
 use Rattle.q3_world.specs.Layers.{WindowLaws}
@@ -48,6 +51,7 @@ use Rattle.q3_server.specs.Standing.{IsMap}
 use Rattle.q3_world.specs.StandsFor.{KeepsSlot, AreEnds, AreJoined}
 use Rattle.q3_world.specs.World.{Whole, History, no_history, history_at, with_history, with_joined, with_spoken, texts_told, with_texts_told, with_told, with_typed, with_issued, with_noted}
 use Rattle.q3_world.proofs.MoveLists.{is_move}
+use Rattle.q3_world.proofs.Ranged.{in_range_or}
 use Rattle.q3_world.proofs.Growth.{Grow, HistoryGrows, HistoryGrows-same, HistoryGrows-beside}
 use Rattle.q3_world.proofs.Clients.{no_area, KeepsSlot-told}
 use Rattle.q3_world.proofs.Joined.{TakesSaid-same}
@@ -119,20 +123,30 @@ holds_time profile whole time cited short holds =
     let map = whole.ends.server.map in
     holds_given profile whole time map.entities (cited.maps.timed profile map time short holds.facts.map) holds
 
-pub holds_entity : (profile : Profile) (whole : Whole) (state : EntityState) → Cited profile → state.number ≤ last_entity → AreWords 64 state.words → Holds profile whole
-    → Holds profile (record whole { ends = (to_server whole.ends (at_server.set_entity whole.ends.server state)).ends })
-holds_entity profile whole state cited le words holds =
+-- a line about an entity, whose number is below the end mark where it does something
+in_range_holds : (profile : Profile) (whole : Whole) (number : ℕ) (refusal : HandedIn) (step : ServerStep) → Holds profile whole
+    → (number < end_mark profile.entity → Holds profile (record whole { ends = (to_server whole.ends step).ends }))
+    → Holds profile (record whole { ends = (to_server whole.ends (at_server.in_range whole.ends.server number refusal step)).ends })
+in_range_holds profile whole number refusal step holds within =
+    in_range_or (λ (done : ServerStep). Holds profile (record whole { ends = (to_server whole.ends done).ends })) whole.ends.server number refusal step
+    (λ lt. within (subst (λ (p : Profile). number < end_mark p.entity) holds.facts.by lt)) holds
+
+pub holds_entity : (profile : Profile) (whole : Whole) (state : EntityState) → Cited profile → AreWords 64 state.words → Holds profile whole
+    → Holds profile (record whole { ends = (to_server whole.ends (at_server.entity_line whole.ends.server state)).ends })
+holds_entity profile whole state cited words holds =
     let facts = holds.facts in
     let server = whole.ends.server in
     let entity = normal_entity profile.entity state in
+    in_range_holds profile whole state.number (answers.Entity state.number (Err (record {}))) (at_server.set_entity server state) holds (λ lt.
     subst (λ (p : Profile). Holds profile (with_map whole (record server.map { entities = with_entity (normal_entity p.entity state) server.map.entities }))) (sym facts.by)
-    (holds_given profile whole server.map.time (with_entity entity server.map.entities) (cited.maps.entered profile server.map state cited.codec (omega (arith, le)) words facts.map) holds)
+    (holds_given profile whole server.map.time (with_entity entity server.map.entities) (cited.maps.entered profile server.map state cited.codec lt words facts.map) holds))
 
 pub holds_removed : (profile : Profile) (whole : Whole) (number : ℕ) → Cited profile → Holds profile whole
-    → Holds profile (record whole { ends = (to_server whole.ends (at_server.remove_entity whole.ends.server number)).ends })
+    → Holds profile (record whole { ends = (to_server whole.ends (at_server.remove_line whole.ends.server number)).ends })
 holds_removed profile whole number cited holds =
-    let map = whole.ends.server.map in
-    holds_given profile whole map.time (without_entity number map.entities) (cited.maps.removed profile map number holds.facts.map) holds
+    let server = whole.ends.server in
+    in_range_holds profile whole number (answers.Remove number (Err (record {}))) (at_server.remove_entity server number) holds (λ lt.
+    holds_given profile whole server.map.time (without_entity number server.map.entities) (cited.maps.removed profile server.map number holds.facts.map) holds)
 
 -- ---- maps
 
@@ -202,18 +216,19 @@ holds_new_map profile whole id feed cited least short holds =
     ]
 
 -- a baseline, which is refused once a gamestate of the map was begun
-pub holds_baseline : (profile : Profile) (whole : Whole) (state : EntityState) → Cited profile → state.number ≤ last_entity → AreWords 64 state.words → Holds profile whole
-    → Holds profile (record whole { ends = (to_server whole.ends (at_server.set_baseline whole.ends.server state)).ends })
-holds_baseline profile whole state cited le words holds =
+pub holds_baseline : (profile : Profile) (whole : Whole) (state : EntityState) → Cited profile → AreWords 64 state.words → Holds profile whole
+    → Holds profile (record whole { ends = (to_server whole.ends (at_server.baseline_line whole.ends.server state)).ends })
+holds_baseline profile whole state cited words holds =
     let map = whole.ends.server.map in
     let entity = normal_entity profile.entity state in
     let next = record map { lines = with_line map.lines entity } in
+    in_range_holds profile whole state.number (answers.Baseline state.number (Err unset.OutOfRange)) (at_server.set_baseline whole.ends.server state) holds (λ lt.
     subst (λ (p : Profile). Holds profile (with_map whole (set_baseline_at p.entity map state).map)) (sym holds.facts.by)
     (cond_both map.begun (record { map = map; answer = Err (record {}) }) (record { map = next; answer = Ok tt })
     (λ (handed : HandedMap Late). IsMap profile handed.map → Holds profile (with_map whole handed.map))
     (λ begun is. holds)
     (λ before is. Holds-map profile whole next is (joined_stays profile map next (AreMapped-lined map (with_line map.lines entity) before)) holds)
-    (cited.maps.lined profile map state cited.codec (omega (arith, le)) words holds.facts.map))
+    (cited.maps.lined profile map state cited.codec lt words holds.facts.map)))
 
 -- ---- config strings
 

@@ -135,6 +135,7 @@ index_of_fault opening.ReadFault = tt
 index_of_fault opening.NoMemory = tt
 index_of_fault (opening.NotIndex place) = tt
 index_of_fault (opening.OtherDemo kept found) = tt
+index_of_fault (opening.OtherWidth kept found) = tt
 
 seek_of_fault : (e : SeekError) → OfFault (seek_fault e)
 seek_of_fault seeking.ReadFault = tt
@@ -157,8 +158,8 @@ file_of_input (Some bytes) = tt
 
 sought_in_of_input : (by : ProfileValue) (demo index : List ℕ) (number : ℕ) → OfInput (sought_in by demo index number)
 sought_in_of_input by demo index number =
-    bind_of_input (result_map_both (λ heads. heads) index_fault (open_at (length demo) by.mark index))
-    (λ heads. result_map_both (λ played. played) seek_fault (seek_at by demo index heads.records heads.checkpoints number)) (heads_of_input (open_at (length demo) by.mark index))
+    bind_of_input (result_map_both (λ heads. heads) index_fault (open_at (length demo) by.mark by.entity.number_bits index))
+    (λ heads. result_map_both (λ played. played) seek_fault (seek_at by demo index heads.records heads.checkpoints number)) (heads_of_input (open_at (length demo) by.mark by.entity.number_bits index))
     (λ heads. found_of_input (seek_at by demo index heads.records heads.checkpoints number))
 
 told_of_input : (by : ProfileValue) (demo index : Option (List ℕ)) (number : ℕ) → OfInput (sought by demo index number)

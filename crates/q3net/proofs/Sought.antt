@@ -154,10 +154,11 @@ open_ends opening.ReadFault = inl (inr refl)
 open_ends opening.NoMemory = inl (inl refl)
 open_ends (opening.NotIndex place) = inr (λ first second whole is. is)
 open_ends (opening.OtherDemo kept found) = inr (λ first second whole is. is)
+open_ends (opening.OtherWidth kept found) = inr (λ first second whole is. is)
 
 pub seek_unopened : (follow : TextsFollow) (told t1 t2 t3 : Option Told) (profile demo index : List ℕ) (number : ℕ) (by : Profile) (first second : ℕ) (old : Option Written) (e : IndexError)
     → GetsFrom profile_in told profile (Ok by) → Gives (Ok by) (profile ∷ []) told t1 → LooksUp t1 t2 demo (Ok first) → LooksUp t2 t3 index (Ok second)
-    → ((now : Told) → t3 ≡ Some now → Opens first second (open_at (length (contents_at now first)) by.mark (contents_at now second)) (Err e))
+    → ((now : Told) → t3 ≡ Some now → Opens first second (open_at (length (contents_at now first)) by.mark by.entity.number_bits (contents_at now second)) (Err e))
     → Executes (seeks profile demo index number) (of_files told) old old (Err (index_fault e))
 seek_unopened follow told t1 t2 t3 profile demo index number by first second old e passes gives looks then opens =
     elim (open_ends e) [
@@ -168,7 +169,7 @@ seek_unopened follow told t1 t2 t3 profile demo index number by first second old
           (seek_verdict told profile demo index number by answer passes
           (sought_so told t1 t2 t3 profile demo index number by first second answer (gave by (profile ∷ []) told t1 gives) looks then (inl (e, refl))
           (λ now is. sym (ap (heads_by by (contents_at now first) (contents_at now second) number)
-          (same first second (open_at (length (contents_at now first)) by.mark (contents_at now second)) (opens now is)))))) refl refl
+          (same first second (open_at (length (contents_at now first)) by.mark by.entity.number_bits (contents_at now second)) (opens now is)))))) refl refl
     ]
 
 -- ---- what is sought
@@ -176,11 +177,11 @@ seek_unopened follow told t1 t2 t3 profile demo index number by first second old
 -- of an index that was opened, by what the files hold
 pub record SoughtIn (by : Profile) (bytes made : List ℕ) (first second number : ℕ) (result : Result AppliedState SeekError) : Type 0 where
   pub heads : Heads
-  pub opens : open_at (length bytes) by.mark made ≡ Ok heads
+  pub opens : open_at (length bytes) by.mark by.entity.number_bits made ≡ Ok heads
   pub seeks : Seeks by (opened first second heads) bytes made number result
 
 pub sought_of : (t3 t4 : Option Told) (by : Profile) (first second number : ℕ) (index : IndexState) (result : Result AppliedState SeekError)
-    → ((now : Told) → t3 ≡ Some now → Opens first second (open_at (length (contents_at now first)) by.mark (contents_at now second)) (Ok index)) → OnlyAsks t3 t4
+    → ((now : Told) → t3 ≡ Some now → Opens first second (open_at (length (contents_at now first)) by.mark by.entity.number_bits (contents_at now second)) (Ok index)) → OnlyAsks t3 t4
     → ((now : Told) → t4 ≡ Some now → Seeks by index (contents_at now index.demo) (contents_at now index.index) number result)
     → (now : Told) → t3 ≡ Some now → SoughtIn by (contents_at now first) (contents_at now second) first second number result
 sought_of t3 t4 by first second number index result opens asks seeks now is =
@@ -201,13 +202,13 @@ seek_ends (seeking.PastEnd records) = inr (λ by bytes made number index is. is)
 seek_ends (seeking.Demo e) = inr (λ by bytes made number index is. is)
 
 -- what the files say then
-found_so : (by : Profile) (bytes made : List ℕ) (number : ℕ) (heads : Heads) (found : Result demos.Played SeekError) → open_at (length bytes) by.mark made ≡ Ok heads
+found_so : (by : Profile) (bytes made : List ℕ) (number : ℕ) (heads : Heads) (found : Result demos.Played SeekError) → open_at (length bytes) by.mark by.entity.number_bits made ≡ Ok heads
     → seek_at by bytes made heads.records heads.checkpoints number ≡ found → sought by (Some bytes) (Some made) number ≡ found_by number found
 found_so by bytes made number heads found opens is = ap (heads_by by bytes made number) opens ∙ ap (found_by number) is
 
 pub seek_refused : (follow : TextsFollow) (told t1 t2 t3 t4 : Option Told) (profile demo index : List ℕ) (number : ℕ) (by : Profile) (first second : ℕ) (state : IndexState) (old : Option Written) (e : SeekError)
     → GetsFrom profile_in told profile (Ok by) → Gives (Ok by) (profile ∷ []) told t1 → LooksUp t1 t2 demo (Ok first) → LooksUp t2 t3 index (Ok second)
-    → ((now : Told) → t3 ≡ Some now → Opens first second (open_at (length (contents_at now first)) by.mark (contents_at now second)) (Ok state)) → OnlyAsks t3 t4
+    → ((now : Told) → t3 ≡ Some now → Opens first second (open_at (length (contents_at now first)) by.mark by.entity.number_bits (contents_at now second)) (Ok state)) → OnlyAsks t3 t4
     → ((now : Told) → t4 ≡ Some now → Seeks by state (contents_at now state.demo) (contents_at now state.index) number (Err e))
     → Executes (seeks profile demo index number) (of_files told) old old (Err (seek_fault e))
 seek_refused follow told t1 t2 t3 t4 profile demo index number by first second state old e passes gives looks then opens asks sought_there =
@@ -226,7 +227,7 @@ seek_refused follow told t1 t2 t3 t4 profile demo index number by first second s
 
 pub seek_printed : (told t1 t2 t3 t4 : Option Told) (profile demo index : List ℕ) (number : ℕ) (by : Profile) (first second : ℕ) (state : IndexState) (left : AppliedState) (old now : Option Written)
     (ended : Result (Unit {0}) Fault) → GetsFrom profile_in told profile (Ok by) → Gives (Ok by) (profile ∷ []) told t1 → LooksUp t1 t2 demo (Ok first) → LooksUp t2 t3 index (Ok second)
-    → ((now : Told) → t3 ≡ Some now → Opens first second (open_at (length (contents_at now first)) by.mark (contents_at now second)) (Ok state)) → OnlyAsks t3 t4
+    → ((now : Told) → t3 ≡ Some now → Opens first second (open_at (length (contents_at now first)) by.mark by.entity.number_bits (contents_at now second)) (Ok state)) → OnlyAsks t3 t4
     → ((now : Told) → t4 ≡ Some now → Seeks by state (contents_at now state.demo) (contents_at now state.index) number (Ok left)) → PrintsAll (state_text left number) old now ended
     → Executes (seeks profile demo index number) (of_files told) old now ended
 seek_printed told t1 t2 t3 t4 profile demo index number by first second state left old now ended passes gives looks then opens asks sought_there prints =

@@ -1,9 +1,9 @@
-use Rattle.std.proofs.Common.{◌≢◌, Vec, Global, Ok, Err, refl, inl, inr, arith}
+use Rattle.std.proofs.Common.{◌≢◌, Vec, Global, Ok, Err, refl, sym, ◌∙◌, inl, inr, arith}
 use Rattle.std.specs.Prelude.{◌⊎◌}
 use Rattle.std.proofs.lemmas.Result.{err_from_is_err_and}
 use Rattle.q3_index.specs.declared.index.Checkpoint.{Checkpoint}
 use Rattle.q3_index.proofs.Asking.{asks_then, size_asks}
-use Rattle.q3_index.proofs.Opened.{no_head, no_list, other_demo, it_opens}
+use Rattle.q3_index.proofs.Opened.{no_head, no_list, other_demo, other_width, it_opens}
 use Rattle.q3_index.proofs.opening.open_index.Goals as goal
 use Rattle.q3_index.proofs.opening.open_index.Goals.{then-head-length-via-then-head-length, then-head-length-via-else-head-length+then-head-profile}
 
@@ -20,7 +20,7 @@ pub returns-in_err-head-clause-opens : goal.returns-in_err-head-clause-opens
 returns-in_err-head-clause-opens g c =
     let p = err_from_is_err_and c.from_residual.result c.from_residual.ensures.1 in
     rw (p.1, p.2)
-    (no_head (g.F.Files.told c.args.files.now) (g.F.Files.told c.size.new.self) (g.F.Files.told c.size-2.new.self) c.args.profile.now.mark c.args.demo c.args.index c.in-Ok.length c.in-Ok-size.end
+    (no_head (g.F.Files.told c.args.files.now) (g.F.Files.told c.size.new.self) (g.F.Files.told c.size-2.new.self) c.args.profile.now.mark c.args.profile.now.entity.number_bits c.args.demo c.args.index c.in-Ok.length c.in-Ok-size.end
     c.in_err-head.field-0.0 c.in-Ok.ensures.told c.in-Ok-size.ensures.told c.in_err-head.ensures.reads)
 
 pub returns-in_err-checkpoints-clause-opens : goal.returns-in_err-checkpoints-clause-opens
@@ -28,7 +28,7 @@ returns-in_err-checkpoints-clause-opens g c =
     let p = err_from_is_err_and c.from_residual-in_err-checkpoints.result c.from_residual-in_err-checkpoints.ensures.1 in
     rw (p.1, p.2)
     (no_list (λ (checkpoints : Vec Checkpoint Global). checkpoints.items) (g.F.Files.told c.args.files.now) (g.F.Files.told c.size.new.self) (g.F.Files.told c.size-2.new.self) (g.F.Files.told c.read_head.new.files)
-    c.args.profile.now.mark c.args.demo c.args.index c.in-Ok.length c.in-Ok-size.end c.in_ok-head.head c.in_err-checkpoints.field-0.0 c.in-Ok.ensures.told c.in-Ok-size.ensures.told c.in_ok-head.ensures.reads
+    c.args.profile.now.mark c.args.profile.now.entity.number_bits c.args.demo c.args.index c.in-Ok.length c.in-Ok-size.end c.in_ok-head.head c.in_err-checkpoints.field-0.0 c.in-Ok.ensures.told c.in-Ok-size.ensures.told c.in_ok-head.ensures.reads
     c.in_ok-head.ensures.asks c.in_err-checkpoints.ensures.reads)
 
 pub returns-then-head-length-clause-opens : goal.returns-then-head-length-clause-opens
@@ -38,12 +38,20 @@ returns-then-head-length-clause-opens g c =
       | then-head-length-via-else-head-length+then-head-profile w ↦ inr w.if-head-profile.true
     ] in
     other_demo (λ (checkpoints : Vec Checkpoint Global). checkpoints.items) (g.F.Files.told c.args.files.now) (g.F.Files.told c.size.new.self) (g.F.Files.told c.size-2.new.self)
-    (g.F.Files.told c.read_head.new.files) c.args.profile.now.mark c.args.demo c.args.index c.in-Ok.length c.in-Ok-size.end c.in_ok-head.head c.in_ok-checkpoints.checkpoints c.in-Ok.ensures.told
+    (g.F.Files.told c.read_head.new.files) c.args.profile.now.mark c.args.profile.now.entity.number_bits c.args.demo c.args.index c.in-Ok.length c.in-Ok-size.end c.in_ok-head.head c.in_ok-checkpoints.checkpoints c.in-Ok.ensures.told
     c.in-Ok-size.ensures.told c.in_ok-head.ensures.reads c.in_ok-head.ensures.asks c.in_ok-checkpoints.ensures.reads apart
+
+pub returns-then-head-width-clause-opens : goal.returns-then-head-width-clause-opens
+returns-then-head-width-clause-opens g c =
+    let other : c.in_ok-head.head.width ≢ c.args.profile.now.entity.number_bits = λ same. c.if-head-width.true (same ∙ sym c.bits.ensures.bits) in
+    rw c.bits.ensures.bits
+    (other_width (λ (checkpoints : Vec Checkpoint Global). checkpoints.items) (g.F.Files.told c.args.files.now) (g.F.Files.told c.size.new.self) (g.F.Files.told c.size-2.new.self)
+    (g.F.Files.told c.read_head.new.files) c.args.profile.now.mark c.args.profile.now.entity.number_bits c.args.demo c.args.index c.in-Ok.length c.in-Ok-size.end c.in_ok-head.head c.in_ok-checkpoints.checkpoints c.in-Ok.ensures.told
+    c.in-Ok-size.ensures.told c.in_ok-head.ensures.reads c.in_ok-head.ensures.asks c.in_ok-checkpoints.ensures.reads (omega arith) (omega arith) other)
 
 pub returns-clause-opens : goal.returns-clause-opens
 returns-clause-opens g c =
     it_opens (λ (checkpoints : Vec Checkpoint Global). checkpoints.items) (g.F.Files.told c.args.files.now) (g.F.Files.told c.size.new.self) (g.F.Files.told c.size-2.new.self)
-    (g.F.Files.told c.read_head.new.files) c.args.profile.now.mark c.args.demo c.args.index c.in-Ok.length c.in-Ok-size.end c.in_ok-head.head c.in_ok-checkpoints.checkpoints
+    (g.F.Files.told c.read_head.new.files) c.args.profile.now.mark c.args.profile.now.entity.number_bits c.args.demo c.args.index c.in-Ok.length c.in-Ok-size.end c.in_ok-head.head c.in_ok-checkpoints.checkpoints
     (record { demo = c.args.demo; index = c.args.index; records = c.in_ok-head.head.records; checkpoints = c.in_ok-checkpoints.checkpoints.items }) c.in-Ok.ensures.told c.in-Ok-size.ensures.told
-    c.in_ok-head.ensures.reads c.in_ok-head.ensures.asks c.in_ok-checkpoints.ensures.reads (omega arith) (omega arith) refl
+    c.in_ok-head.ensures.reads c.in_ok-head.ensures.asks c.in_ok-checkpoints.ensures.reads (omega arith) (omega arith) (omega (arith, c.bits.ensures.bits)) refl

@@ -11,6 +11,6 @@ returns-clause-rises c =
 
 pub returns-clause-listed : goal.returns-clause-listed
 returns-clause-listed c = λ table rise.
-    let entities = c.self.inside.entities.items in
+    let entities = c.args.self.now.entities in
     let front : c.front.result.now ≡ take most_entities entities = search rules in
     subst (IsList table) (sym front) (lowest_listed table entities rise)
