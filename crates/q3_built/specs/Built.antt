@@ -22,8 +22,8 @@ use Rattle.q3_ring.specs.Snapshot.{Snapshot}
 use Rattle.q3_map.specs.Map.{AreHeld}
 
 -- a message that was begun, the number of the last command issued by then, that of the gamestate under which its client played, if it
--- did, the snapshot that it is written against, if it is, the baselines of the map, and by what it is scrambled: its text is that of
--- the last client command executed
+-- did, the snapshot that it is written against, if it is, the baselines of the map, and by what it is scrambled by protocol 68: its
+-- text is that of the last client command executed
 pub record Built : Type 0 where
   pub message : Message
   pub last : ℕ
@@ -38,7 +38,8 @@ number_of None = 0
 number_of (Some base) = base.head.number
 
 -- what a message says besides its section: the number of the last client command executed, the commands that aren't acknowledged, the
--- number of the last one issued, and that of the gamestate under which the client plays, if it does; and by what it is scrambled
+-- number of the last one issued, and that of the gamestate under which the client plays, if it does; and by what it is scrambled by
+-- protocol 68
 pub record Telling : Type 0 where
   pub ack : ℕ
   pub commands : List Command
@@ -63,8 +64,8 @@ abbrev pub game_built_of : Telling → Lines → Gamestate → Built
 game_built_of telling lines game =
     record { message = game_message_of telling game; last = telling.last; under = telling.under; base = None; lines = lines; key = telling.key }
 
--- whether the leading long of a message takes more bits than stay clear, so that scrambled bytes would hide a part of it: never by a
--- protocol that scrambles nothing
+-- whether the leading long of a message takes more bits than stay clear by protocol 68, so that scrambling would hide a part of it:
+-- never by protocol 71, which scrambles nothing
 abbrev pub is_unclear : Profile → ℕ → Bool
 is_unclear profile ack = chan.is_unclear profile.protocol Server (length (row_bits profile.code ((ack, 32) ∷ [])))
 
@@ -72,11 +73,11 @@ is_unclear profile ack = chan.is_unclear profile.protocol Server (length (row_bi
 abbrev pub built_bits : Profile → Built → List Bool
 built_bits profile built = message_text profile built.lines (option_map base_from built.base) built.message
 
--- its bytes before they are scrambled
+-- its bytes before they are scrambled, if they are
 abbrev pub plain_bytes : Profile → Built → List ℕ
 plain_bytes profile built = message_bytes (built_bits profile built)
 
--- and its bytes, scrambled behind the leading long
+-- and its bytes, scrambled after the leading long by protocol 68
 abbrev pub built_bytes : Profile → Built → List ℕ
 built_bytes profile built = server_scrambled built.key (plain_bytes profile built)
 

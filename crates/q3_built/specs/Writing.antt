@@ -47,7 +47,7 @@ pub record HoldsMessage (bits : List Bool) (new : List ℕ) (answer : Result ℕ
   pub bytes : IfOk answer (λ count. take count new ≡ message_bytes bits)
   pub long : length new ≡ longest_message
 
--- the same where it is scrambled behind its leading long, with the number of the base that it names
+-- the same where by protocol 68 it is scrambled after its leading long, with the number of the base that it names
 pub record HoldsScrambled (base : ℕ) (key : Key) (bits : List Bool) (new : List ℕ) (answer : Result Written Overflow) : Type 0 where
   pub named : IfOk answer (λ written. written.base ≡ base)
   pub refused : IsErr answer ↔ (longest_message < message_length (length bits))

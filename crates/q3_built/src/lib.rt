@@ -1,4 +1,4 @@
-//! The messages that a server builds for a client: written and scrambled.
+//! The messages that a server builds for a client: written, and scrambled by protocol 68.
 #![tactic(auto)]
 
 pub mod parts;

@@ -1,7 +1,9 @@
-//! Writes the message with a client's next snapshot, or with its gamestate, and scrambles it. Keeps the rules "what the server
-//! sends" and "scrambling", by q3_svmsg and q3_chan: the engine's `SV_SendClientSnapshot` (sv_snapshot.c),
-//! `SV_SendClientGameState` (sv_client.c) and `SV_Netchan_Encode` (sv_net_chan.c). That no message is begun whose leading long
-//! would be scrambled is this project's own.
+//! Writes the message with a client's next snapshot, or with its gamestate, and scrambles it by protocol 68. By protocol 71
+//! nothing is scrambled, and no message is unclear.
+//! - Rules: "what the server sends", by q3_svmsg; "scrambling", by q3_chan.
+//! - Engine: `SV_SendClientSnapshot` (sv_snapshot.c), `SV_SendClientGameState` (sv_client.c), `SV_Netchan_Encode`
+//!   (sv_net_chan.c).
+//! - Ours: that no message is begun whose leading long would be scrambled in part.
 
 ghost use Rattle.std.specs.Prelude.{◌≡◌, ◌≤◌, length, option_map, take, None};
 ghost use Rattle.q3_chan.specs.Datagrams.{longest_message};
@@ -21,7 +23,7 @@ use q3_map::Map;
 use q3_profile::Profile;
 use q3_svmsg::{GameParts, SnapParts, write_game_parts, write_parts};
 
-/// Whether a leading long takes more bits than stay clear.
+/// Whether a leading long takes more bits than stay clear by protocol 68: never by protocol 71.
 pub fn is_unclear(profile: &Profile, ack: u32) -> bool
     ensures { result ≡ is_unclear profile.now ack }
 {
@@ -30,7 +32,8 @@ pub fn is_unclear(profile: &Profile, ack: u32) -> bool
 }
 
 /// Writes a message with a snapshot, whose entities lie in the map, against its base, if it names one, with the commands that
-/// wait for the client's acknowledgement, and scrambles it. `Overflow` comes exactly where it has more than 16,384 bytes.
+/// wait for the client's acknowledgement, and scrambles it by protocol 68. `Overflow` comes exactly where it has more than
+/// 16,384 bytes.
 pub fn write_snapshot(
     profile: &Profile,
     map: &Map,
@@ -78,7 +81,7 @@ fn write_clear(
 }
 
 /// Writes a message with the gamestate of the map for the client in a slot, with the commands that wait for the client's
-/// acknowledgement, and scrambles it. `Overflow` comes exactly where it has more than 16,384 bytes.
+/// acknowledgement, and scrambles it by protocol 68. `Overflow` comes exactly where it has more than 16,384 bytes.
 pub fn write_game(
     profile: &Profile,
     map: &Map,
@@ -120,7 +123,7 @@ fn write_clear_game(
     write_game_parts(profile, parts, buffer)
 }
 
-/// Scrambles the message that stands in the first bytes of a buffer, by what it tells, where the protocol scrambles.
+/// Scrambles by protocol 68 the message that stands in the first bytes of a buffer, by what it tells.
 fn scramble_front(protocol: u32, buffer: &mut [u8], bytes: usize, telling: TellingParts)
     requires { bytes ≤ length buffer.old }
     ensures scrambled { take bytes buffer.new

@@ -101,7 +101,7 @@ pub record Reception : Type 0 where
   pub issued : OutgoingState
   pub application : Application
 
--- what the whole value of a message of a number is to it, whose bytes are these before they are scrambled
+-- what the whole value of a message of a number is to it, whose bytes are these before they are scrambled, if they are
 abbrev pub receive_message : ClientState → ℕ → Message → List ℕ → Reception
 receive_message client number message plain = record {
   message = plain;

@@ -23,7 +23,7 @@ use Rattle.q3_client.specs.Client.{ClientState}
 use Rattle.q3_client.specs.Moves.{carried, asks_delta}
 
 -- a message that was begun, the number of the last command issued by then, the checksum feed by which its moves are written, and by
--- what it is scrambled: its text is that of the last server command executed, by which its moves are written, too
+-- what it is scrambled by protocol 68: its text is that of the last server command executed, by which its moves are written, too
 pub record Said : Type 0 where
   pub message : Message
   pub last : ℕ
@@ -45,7 +45,7 @@ next_message client =
     message_with client.state.id client.gathering.taken client.state.executed.executed (waiting_of client.issued) (wants_delta client)
     (carried (client.sending.number + 1) client.dup client.moves)
 
--- and with it what it is scrambled by
+-- and with it what it is scrambled by, by protocol 68
 abbrev pub next_said : ClientState → Said
 next_said client = record {
   message = next_message client;
@@ -58,12 +58,12 @@ next_said client = record {
 abbrev pub said_bits : Profile → Said → List Bool
 said_bits profile said = client_text profile.code (message_key said.feed said.message.acknowledged said.key.text) said.message
 
--- and its bytes, scrambled behind the three leading longs
+-- and its bytes, scrambled after the three leading longs by protocol 68
 abbrev pub said_bytes : Profile → Said → List ℕ
 said_bytes profile said = client_scrambled said.key (message_bytes (said_bits profile said))
 
--- whether the leading longs of a message take more bits than stay clear, so that scrambled bytes would hide a part of them: never by a
--- protocol that scrambles nothing
+-- whether the leading longs of a message take more bits than stay clear by protocol 68, so that scrambling would hide a part of them:
+-- never by protocol 71, which scrambles nothing
 abbrev pub is_unclear : Profile → Message → Bool
 is_unclear profile message =
     chan.is_unclear profile.protocol Client (length (row_bits profile.code ((message.id, 32) ∷ (message.acknowledged, 32) ∷ (message.command, 32) ∷ [])))

@@ -1,7 +1,8 @@
 //! A client's end: pure state, one call an event.
-//! Keeps the rules "what a receiver answers", "fragmentation" and "scrambling", by q3_chan, "layout of a client message"
-//! and "move section", by q3_clmsg, "reliable command windows", by q3_window, "which moves may be issued", "which moves a
-//! message carries", and "unclear messages" and "end of message numbers", which are this project's own.
+//! - Rules: "what a receiver answers", "fragmentation" and "scrambling", by q3_chan; "layout of a client message" and "move
+//!   section", by q3_clmsg; "reliable command windows", by q3_window; "which moves may be issued"; "which moves a message
+//!   carries"; "unclear messages"; "end of message numbers".
+//! - Ours: the last two.
 
 ghost use Rattle.std.specs.Prelude.{◌≡◌, ◌≤◌, [], length, None, IfOk, IfSome, option_map};
 ghost use Rattle.q3_window.specs.Outgoing.{issued_of};
@@ -81,8 +82,8 @@ pub enum Sent {
     Fragment { number: u32 },
     /// Message numbers have ended.
     SequenceEnd,
-    /// By protocol 68, the message's leading longs take more bits than stay clear, so that scrambling would hide a part of them; its
-    /// number is used again.
+    /// By protocol 68, the message's leading longs take more bits than stay clear, so that scrambling would hide a part of them;
+    /// its number is used again.
     Unclear,
     /// The message has more than 16,384 bytes; its number is used again.
     Overlong,
@@ -90,28 +91,45 @@ pub enum Sent {
     Message { number: u32, bytes: usize },
 }
 
-/// A client: what the messages that were applied left, with a copy of the profile, and the bytes of the last, cleared; what it
-/// gathers, a place for the bytes of a message that came whole, whether the newest message's snapshot was accepted, whether it asks for
-/// whole snapshots, what it sends, the commands and the moves that it issued, and places for the moves and the bytes of a message. After `new` no call
-/// takes memory.
+/// A client. After `new` no call takes memory.
 #[derive(Drop)]
 pub struct Client {
+    // what the messages that were applied left
+    /// With a copy of the profile.
     state: ClState,
+    /// The bytes of the last, cleared, in the first so many of 16,384.
     message: Vec<u8>,
+    /// How many they are, 0 before the first.
     message_length: usize,
+
+    // how it joined
     challenge: u32,
     qport: u16,
+    /// Of how many messages before it each message repeats the moves.
     dup: u8,
+
+    // what it takes
     gatherer: Gatherer,
+    /// A place for the bytes of a message that came whole: 16,384.
     whole: Vec<u8>,
+    /// Whether the snapshot of the last message that was applied was accepted.
     delta: bool,
+    /// Whether it asks for whole snapshots, whatever was accepted.
     asks_whole: bool,
+    /// The cause for which it was dropped, if it was: from then on it takes and sends nothing.
     dropped: Option<Illegible>,
+
+    // what it sends
     sender: Sender,
+    /// The commands that it issued.
     outgoing: Outgoing,
+    /// The moves that it issued since the last gamestate: the newest 32.
     moves: HeapCircularBuffer<Issued>,
+    /// The time of the last move that it issued on any map, in milliseconds, 0 for none.
     last_time: u32,
+    /// A place for the moves of a message.
     carried: ArrayVec<Move, 32>,
+    /// A place for the bytes of a message that is written: 16,384.
     buffer: Vec<u8>,
 }
 
@@ -186,9 +204,13 @@ impl Client {
         })
     }
 
-    /// Takes a datagram, any bytes, and tells which of the server's commands it executed. A message that came whole is read;
-    /// by one that isn't legible the client is dropped, and nothing else changes. `Dropped` comes exactly where it was dropped
-    /// before, and nothing changes then.
+    /// Takes a datagram, any bytes, and tells which of the server's commands it executed. The answer is the first that fits:
+    /// - `Dropped`: the client was dropped before. Nothing changes.
+    /// - `Runt`, `Connectionless`, `BadCheck`, `Old`: as the gathering answers.
+    /// - `OutOfOrder`, `BadFragment`, `Partial`: likewise, no message came whole by it.
+    /// - `Illegible`: a message that came whole isn't legible. The client is dropped, and beside the number taken and what was
+    ///   gathered nothing else changes.
+    /// - `Applied`: the message was applied, and what became of it.
     #[tactic(auto, unfolding(crate::specs::Client::take_at))]
     pub fn take(&mut self, datagram: &[u8], log: &mut Log) -> ClientTook
         ensures client { self.new ≡ (take_at self.old datagram.now).client }
@@ -243,9 +265,11 @@ impl Client {
         }
     }
 
-    /// Issues a move: the messages that are begun next carry it. `Err` is the first of: `NoGame` exactly where no gamestate was
-    /// applied; `NotLater` exactly where its time isn't above that of the last move issued, also of one before the last
-    /// gamestate, or 0 before the first; `Range` exactly where forward, right or up is -128, or the time is 2^31 or above.
+    /// Issues a move: the messages that are begun next carry it. `Err` is the first of these that fits, and nothing changes then:
+    /// - `NoGame`: no gamestate was applied.
+    /// - `NotLater`: its time isn't above that of the last move issued, also of one before the last gamestate, or 0 before the
+    ///   first.
+    /// - `Range`: forward, right or up is -128, or the time is 2^31 or above.
     pub fn add_move(&mut self, one: &Move) -> Result<(), MoveError>
         ensures { add_move_at self.old one.now ≡ record { client = self.new; answer = result } }
     {
@@ -288,8 +312,15 @@ impl Client {
         self.asks_whole = on;
     }
 
-    /// Makes the next datagram for the server: it is empty where nothing is handed out. `Dropped` comes exactly where the
-    /// client was dropped. A message that it begins is well formed, whatever the client took before.
+    /// Makes the next datagram for the server: it is empty where nothing is handed out. A message that it begins is well formed,
+    /// whatever the client took before. The answer is the first that fits, and after each but `Fragment` and `Message` nothing
+    /// has changed:
+    /// - `Dropped`: the client was dropped.
+    /// - `Fragment`: pieces of a message are left, of which the next is handed out.
+    /// - `SequenceEnd`: message numbers have ended.
+    /// - `Unclear`: by protocol 68, the next message's leading longs take more bits than stay clear.
+    /// - `Overlong`: the next message has more than 16,384 bytes.
+    /// - `Message`: one is begun.
     #[tactic(auto, unfolding(crate::specs::Sending::emit_at))]
     pub fn emit(&mut self, out: &mut Datagram) -> Sent
         ensures client { self.new ≡ (emit_at self.old).client }

@@ -13,8 +13,8 @@ pub fn begins_said()
     strings::numbered_are_commands();
 }
 
-/// A client is well formed once it joined, and stays so, whatever move or command is issued, whatever it emits and whatever bytes it
-/// takes; what the messages left stays so too, where a message is received from its bytes.
+/// A client is well formed once it joined, and stays so, whatever move or command is issued, whatever it emits and whatever
+/// bytes it takes; what the messages left stays so too, where a message is received from its bytes.
 pub fn client_stays()
     ensures { ClientStays }
 {
@@ -22,7 +22,8 @@ pub fn client_stays()
     window::stays_outgoing();
 }
 
-/// A message that a client applied is kept, cleared: its bytes do under its number, which is newer than all before, what was answered.
+/// A message that a client applied is kept, cleared: its bytes do under its number, which is newer than all before, what was
+/// answered.
 #[tactic(auto, using(crate::proofs::Applies::was_applied))]
 pub fn applies_its_message()
     ensures { AppliesItsMessage }

@@ -1,6 +1,6 @@
 //! The moves that a client issued, and which of them a message carries.
-//! Keeps the rules "which moves may be issued" and "which moves a message carries", the engine's `CL_WritePacket`
-//! (cl_input.c).
+//! - Rules: "which moves may be issued", "which moves a message carries".
+//! - Engine: `CL_WritePacket` (cl_input.c).
 
 ghost use Rattle.std.specs.Prelude.{◌≡◌, ◌≤◌, length, true};
 ghost use Rattle.q3_clmsg.specs.Moves.{IsMove};

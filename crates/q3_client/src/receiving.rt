@@ -1,5 +1,6 @@
-//! A message that came whole, as a client receives it. Keeps the rules "reliable command windows" and "scrambling", the engine's
-//! `CL_Netchan_Decode` (cl_net_chan.c) and `CL_ParseServerMessage` (cl_parse.c).
+//! A message that came whole, as a client receives it.
+//! - Rules: "reliable command windows", "scrambling".
+//! - Engine: `CL_Netchan_Decode` (cl_net_chan.c), `CL_ParseServerMessage` (cl_parse.c).
 
 ghost use Rattle.std.specs.Prelude.{◌≡◌, ◌≤◌, [], length, take, IfOk};
 ghost use Rattle.q3_chan.specs.Datagrams.{longest_message};
@@ -27,9 +28,9 @@ pub(crate) fn gather(gatherer: &mut Gatherer, datagram: &[u8], whole: &mut Vec<u
     gatherer.take(datagram, whole)
 }
 
-/// Receives the message of a number that stands in the first bytes of `whole`, so many: its acknowledgement is read, they are
-/// cleared by the text of the command that it acknowledges, what they say is applied, and only then the acknowledgement is taken.
-/// `Err` is why it isn't legible; nothing changes then but the bytes.
+/// Receives the message of a number that stands in the first bytes of `whole`, so many: its acknowledgement is read, by protocol
+/// 68 they are cleared by the text of the command that it acknowledges, what they say is applied, and only then the
+/// acknowledgement is taken. `Err` is why it isn't legible; nothing changes then but the bytes.
 pub(crate) fn receive(
     state: &mut ClState,
     outgoing: &mut Outgoing,
@@ -63,8 +64,8 @@ pub(crate) fn receive(
     Ok(applied)
 }
 
-/// Clears the message that stands in the first of these bytes, so many. It is apart since its `cleared` tells the caller of the front
-/// what a slice that the caller itself lends for the call leaves unknown.
+/// Clears by protocol 68 the message that stands in the first of these bytes, so many. It is apart since its `cleared` tells the
+/// caller of the front what a slice that the caller itself lends for the call leaves unknown.
 fn clear_front(
     bytes: &mut [u8],
     count: usize,

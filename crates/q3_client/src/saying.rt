@@ -1,6 +1,7 @@
-//! A message as a client says it. Keeps the rules "layout of a client message", "scrambling" and "unclear messages": the
-//! engine's `CL_WritePacket` (cl_input.c) and `CL_Netchan_Encode` (cl_net_chan.c). That an unclear message isn't sent is
-//! this project's own.
+//! A message as a client says it.
+//! - Rules: "layout of a client message", "scrambling", "unclear messages".
+//! - Engine: `CL_WritePacket` (cl_input.c), `CL_Netchan_Encode` (cl_net_chan.c).
+//! - Ours: that an unclear message isn't sent.
 
 ghost use Rattle.std.specs.Prelude.{◌≡◌, ◌≤◌, [], ◌∷◌, length};
 ghost use Rattle.q3_bits.specs.Words.{row_bits};
@@ -22,7 +23,8 @@ use q3_clmsg::{Move, SaidParts, message_key, write_said};
 use q3_clstate::ClState;
 use q3_window::Outgoing;
 
-/// Whether the leading longs of the message that goes to the server next take more bits than stay clear.
+/// Whether by protocol 68 the leading longs of the message that goes to the server next take more bits than stay clear: never by
+/// protocol 71.
 pub(crate) fn is_unclear(state: &ClState, acknowledged: u32) -> bool
     ensures { result ≡ is_unclear state.now.profile.protocol Client (length (row_bits state.now.profile.code ((state.now.id, 32) ∷ (acknowledged, 32) ∷ (state.now.executed.executed, 32) ∷ []))) }
 {
@@ -36,8 +38,8 @@ pub(crate) fn is_unclear(state: &ClState, acknowledged: u32) -> bool
 }
 
 /// Writes the message that goes to the server next, with these moves, to the front of a buffer, and answers how many bytes it
-/// has, scrambled where the protocol scrambles. It has the map's id, by which the keys start too, and its moves are hidden by the checksum feed.
-/// `Overflow` comes exactly where the message is longer than 16,384 bytes.
+/// has, scrambled by protocol 68. It has the map's id, by which the keys start too, and its moves are hidden by the checksum
+/// feed. `Overflow` comes exactly where the message is longer than 16,384 bytes.
 pub(crate) fn write_scrambled(
     state: &ClState,
     outgoing: &Outgoing,

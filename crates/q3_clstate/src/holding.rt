@@ -15,10 +15,12 @@ use q3_svmsg::{BaseView, Bases, ServerMessage};
 use std::alloc::Global;
 use std::mem::swap;
 
-/// The snapshots that are held, and the baselines of the last gamestate.
+/// What a message is read against.
 #[derive(Drop)]
 pub(crate) struct Holding {
+    /// The snapshots that are held, each accepted since the last gamestate.
     pub rings: Rings,
+    /// Those of the last gamestate.
     pub baselines: Baselines,
 }
 

@@ -9,7 +9,7 @@ use q3_rings::laws as rings;
 use q3_savestate::laws as saving;
 use q3_svmsg::laws as svmsg;
 
-/// All that a state holds is well formed and in range: at first, and behind any bytes as a message of any number.
+/// All that a state holds is well formed and in range: at first, and after any bytes as a message of any number.
 pub fn apply_stays()
     ensures { ApplyStays }
 {

@@ -16,8 +16,8 @@ use q3_player::print_words;
 use q3_rings::{NoBase, SnapView};
 use q3_window::print_commands;
 
-/// Prints the lines under an applied message, by the state behind it: one for each command that was executed, and those of its
-/// gamestate and of its snapshot, where it has one. `Failed` comes where the sink failed, behind a front of them.
+/// Prints the lines under an applied message, by the state after it: one for each command that was executed, and those of its
+/// gamestate and of its snapshot, where it has one. `Failed` comes where the sink failed, after a front of them.
 pub fn print_applied<O: Sink>(
     state: &ClState,
     applied: &Applied,
@@ -148,8 +148,8 @@ fn print_cause<O: Sink>(cause: NoBase, out: &mut O) -> Result<(), Failed>
     }
 }
 
-/// Prints a snapshot, behind the words for whose it is: its number, time, flags and area, its player in a line of its own, and each
-/// entity in one. `Failed` comes where the sink failed, behind a front of the lines.
+/// Prints a snapshot, after the words for whose it is: its number, time, flags and area, its player in a line of its own, and
+/// each entity in one. `Failed` comes where the sink failed, after a front of the lines.
 pub fn print_snapshot<O: Sink>(snapshot: SnapView, out: &mut O) -> Result<(), Failed>
     ensures adds { Adds (O.written out.old) (O.written out.new) (snapshot_text (snapshot_of snapshot.entry)) result }
     ensures cause { HasCause (O.faults out.old) (O.faults out.new) result }

@@ -1,6 +1,7 @@
-//! The config strings, and the id of the map that they tell. Keeps the rules "config commands at the client" and "info strings
-//! and the server id": the engine's `CL_GetServerCommand` and `CL_ConfigstringModified` (cl_cgame.c) with
-//! `CL_SystemInfoChanged` (cl_parse.c). That the id is kept where string 1 has none is this project's own.
+//! The config strings, and the id of the map that they tell.
+//! - Rules: "config commands at the client", "info strings and the server id".
+//! - Engine: `CL_GetServerCommand` and `CL_ConfigstringModified` (cl_cgame.c) with `CL_SystemInfoChanged` (cl_parse.c).
+//! - Ours: that the id is kept where string 1 has none.
 
 ghost use Rattle.std.specs.Prelude.{◌≡◌, IfOk};
 ghost use Rattle.q3_config.specs.Strings.{no_strings};
@@ -18,10 +19,12 @@ use std::mem::swap;
 /// The index of the config string that tells the map's id, the engine's `CS_SYSTEMINFO` (q_shared.h).
 const SYSTEM_INFO: u32 = 1;
 
-/// The config strings, and the id of the server's map, 0 before one was told.
+/// What gamestates and commands told of the map.
 #[derive(Drop)]
 pub(crate) struct MapSettings {
+    /// The config strings of the last gamestate, with the changes that commands made.
     configs: Configs,
+    /// The id of the server's map, 0 before one was told.
     id: u32,
 }
 

@@ -1,8 +1,9 @@
-//! What a client has of the messages that were applied. Keeps the rules "held snapshots of a client", "snapshot whose base
-//! is not held", "gaps in command numbers", "config commands at the client" and "what a gamestate resets": the engine's
-//! `CL_ParseServerMessage`, `CL_ParseCommandString`, `CL_ParseSnapshot` and `CL_ParseGamestate` (cl_parse.c). This project's
-//! own is which bases are held, that a snapshot without its base changes nothing, that config commands change strings as
-//! messages are applied, and that the last text becomes empty where a gamestate's command number isn't the last executed.
+//! What a client has of the messages that were applied.
+//! - Rules: "held snapshots of a client", "snapshot whose base is not held", "gaps in command numbers", "config commands at the
+//!   client", "what a gamestate resets".
+//! - Engine: `CL_ParseServerMessage`, `CL_ParseCommandString`, `CL_ParseSnapshot` and `CL_ParseGamestate` (cl_parse.c).
+//! - Ours: which bases are held; that a snapshot without its base changes nothing; that config commands change strings as
+//!   messages are applied; that the last text becomes empty where a gamestate's command number isn't the last executed.
 
 ghost use Rattle.std.specs.Prelude.{◌≡◌, ◌<◌, ◌≤◌, All, option_map, slice_index_or, None, IfOk, IfSome};
 ghost use Rattle.q3_entity.specs.Entities.{Rises, run_of};
@@ -32,20 +33,29 @@ use q3_window::Incoming;
 use std::alloc::Global;
 use std::marker::Model;
 
-/// What the messages that were applied left: a copy of the profile by which they are read, the number of the last, the server's
-/// commands that were executed, whether a gamestate was among them, the client's slot and the checksum feed that the last one
-/// told, the config strings with the id of the map, and what others are read against; and a place to read into. After `new` no
-/// call takes memory.
+/// What the messages that were applied left. After `new` no call takes memory.
 #[derive(Drop)]
 pub struct ClState {
+    /// A copy of the one by which messages are read.
     profile: Profile,
+
+    // of the messages that were applied
+    /// The number of the last, 0 for none.
     number: u32,
+    /// The server's commands that were executed.
     incoming: Incoming,
+    /// Whether a gamestate was among them.
     has_game: bool,
+    /// The client's slot that the last gamestate told, 0 before one.
     slot: u32,
+    /// The checksum feed that it told, 0 before one.
     feed: u32,
+    /// The config strings with the id of the map.
     settings: MapSettings,
+    /// What others are read against: the snapshots that are held, and the baselines.
     holding: Holding,
+
+    /// A place to read a message into.
     message: ServerMessage,
 }
 
@@ -86,9 +96,14 @@ impl ClState {
     /// also across a gap. `Err` is why it isn't legible; nothing changes then, and nothing was executed. The commands that are
     /// executed change the config strings, one after the other, and a change of string 1 sets the map's id where it tells one.
     ///
-    /// Of its snapshot `Stale` is told exactly where the number isn't above the newest accepted since the last gamestate, else
-    /// `Skipped` exactly where its base isn't held, and why, else `Accepted`. A gamestate ends what was held before: its id,
-    /// slot, feed, config strings and baselines take the place of others, and the commands up to its number count as executed.
+    /// A gamestate ends what was held before: its id, slot, feed, config strings and baselines take the place of others, and the
+    /// commands up to its number count as executed.
+    ///
+    /// Of a snapshot the answer tells the first of these that fits:
+    /// - `NoSnap`: the message has none.
+    /// - `Stale`: the number isn't above the newest accepted since the last gamestate. All that was held stays.
+    /// - `Skipped`: its base isn't held, and why. All that was held stays.
+    /// - `Accepted`: it is held from now on, and is the newest.
     pub fn apply(
         &mut self,
         number: u32,
@@ -138,8 +153,8 @@ impl ClState {
         })
     }
 
-    /// Puts the state behind bytes, as an index of a demo keeps it. The ages of all snapshots that are held are below 2^32, as they
-    /// are behind 1,048,576 messages at most. `Err` is want of memory; the bytes are as they were then.
+    /// Puts the state after bytes, as an index of a demo keeps it. The ages of all snapshots that are held are below 2^32, as
+    /// they are after 1,048,576 messages at most. `Err` is want of memory; the bytes are as they were then.
     pub fn write_state(&self, into: &mut Vec<u8>) -> Result<(), NoMemory>
         requires ages { HasAges self.now.held }
         ensures { Appends into.old.items into.new.items (state_bytes self.now.profile (saved_in self.now)) result }
@@ -158,9 +173,9 @@ impl ClState {
         append_state(&self.profile, parts, into)
     }
 
-    /// The state that bytes are, by a profile whose ring for a client's entities has 512 to 65,536 places. `Err` is want of memory, or
-    /// `NotState` exactly where they are none, with the place of the first field that is cut short or breaks a rule, or of the first
-    /// byte behind the state.
+    /// The state that bytes are, by a profile whose ring for a client's entities has 512 to 65,536 places. `Err` is want of
+    /// memory, or `NotState` exactly where they are none, with the place of the first field that is cut short or breaks a rule,
+    /// or of the first byte after the state.
     pub fn read_state(alloc: Global, profile: &Profile, bytes: &[u8]) -> Result<ClState, StateError>
         requires least { 512 ≤ profile.now.parse_ring }
         requires most { profile.now.parse_ring ≤ 65536 }
@@ -208,7 +223,7 @@ impl ClState {
         self.incoming.executed()
     }
 
-    /// The text of the last server command executed, empty for none, and behind a gamestate with another command's number.
+    /// The text of the last server command executed, empty for none, and after a gamestate with another command's number.
     pub fn last_text(&self) -> &Text
         ensures { result.now ≡ self.now.executed.last }
     {

@@ -92,6 +92,7 @@ behind_follows bytes First =
       then_follows {X = ℕ} bytes 24,
       then_follows {X = ℕ} bytes 28,
       then_follows {X = ℕ} bytes 32,
+      ok_leads,
       last_follows,
       field_leads {X = ℕ} bytes 8 8 16 refl,
       field_leads {X = ℕ} bytes 16 8 24 refl,

@@ -1,10 +1,11 @@
 -- Bytes are put behind those of the index.
-use Rattle.std.proofs.Common.{◌≡◌, ◌≢◌, ℕ, List, [], ◌∷◌, ◌++◌, length, Option, Some, None, Result, Ok, Err, IsSome, unwrap_or, false, refl, sym, ap, ap₂, subst, ◌∙◌, append_assoc, inl, inr, arith}
+use Rattle.std.proofs.Common.{◌≡◌, ◌≢◌, ℕ, ◌%◌, ◌<◌, List, [], ◌∷◌, ◌++◌, length, Option, Some, None, Result, Ok, Err, IsSome, unwrap_or, false, refl, sym, ap, ap₂, subst, ◌∙◌, append_assoc, inl, inr, arith}
 use Rattle.std.specs.Prelude.{if◌then◌else◌, slice_index_or}
 use Rattle.std.specs.Str.{bytes_eq}
 use Rattle.std.proofs.lemmas.Bool.{cases_Bool, cond_both}
 use Rattle.std.proofs.lemmas.List.{append-nil}
 use Rattle.std.proofs.lemmas.Slice.Eq.{bytes_eq-Decides}
+use Rattle.byteorder.specs.Endian.{little_bytes}
 use Rattle.q3_io.specs.Told.{File, Told, contents_of, with_contents, name_of, contents_at}
 use Rattle.q3_profile.specs.declared.profile.Profile.{Profile}
 use Rattle.q3_demo.specs.declared.error.DemoError.{DemoError}
@@ -196,6 +197,12 @@ pub put_last : {X : Type 0} (told : Told) (mid now : Option Told) (index : ℕ) 
     → ((t : Told) → mid ≡ Some t → Extends t now index bytes result) → Extends told now index all result
 put_last told mid now index bytes all (Ok x) has extends = put_all told now index all (put_more told mid now index bytes [] all has extends)
 put_last told mid now index bytes all (Err e) has extends = put_stops told mid now index bytes [] all e has extends
+
+-- ---- a byte
+
+-- it is a number of one byte
+pub byte_is : (n : ℕ) → n < 256 → n ∷ [] ≡ little_bytes 1 n
+byte_is n fits = let same : n ≡ n % 256 = omega arith in ap (λ (byte : ℕ). byte ∷ []) same
 
 -- ---- a checkpoint
 

@@ -55,8 +55,9 @@ pub fn slots_apart()
     q3_frames::laws::held_was_built();
 }
 
-/// What a datagram does to a client's slot, and what is answered, depends on the map, on the slot, and on who the clients are, and not on what the
-/// other slots hold; any datagram leaves the map and all frames, and one for another slot, or for none, leaves the slot.
+/// What a datagram does to a client's slot, and what is answered, depends on the map, on the slot, and on who the clients are,
+/// and not on what the other slots hold; any datagram leaves the map and all frames, and one for another slot, or for none,
+/// leaves the slot.
 pub fn slots_isolated()
     ensures { SlotsIsolated }
 {

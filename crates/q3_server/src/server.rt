@@ -1,8 +1,9 @@
-//! The server's end: pure state, one call an event.
-//! Keeps the rules "how a datagram finds its slot" and "config changes as commands", the engine's `SV_PacketEvent` (sv_main.c) and
-//! `SV_SetConfigstring` (sv_init.c). That config string 1 can't be changed so, that a change is refused whose text a command can't
-//! carry, or for which a client has no room, is this project's own. What is sent and what is done with a datagram is q3_slot's,
-//! and what the game hands in for all clients is q3_map's.
+//! The server's end: pure state, one call an event. What is sent and what is done with a datagram is q3_slot's, and what the game
+//! hands in for all clients is q3_map's.
+//! - Rules: "how a datagram finds its slot", "config changes as commands".
+//! - Engine: `SV_PacketEvent` (sv_main.c), `SV_SetConfigstring` (sv_init.c).
+//! - Ours: that config string 1 can't be changed so; that a change is refused whose text a command can't carry, or for which a
+//!   client has no room.
 
 ghost use Rattle.std.specs.Prelude.{◌≡◌, ◌^◌, ◌<◌, ◌≤◌, None, IfOk, IfSome, option_map, length, nat_lt, position, replicate};
 ghost use Rattle.q3_chan.specs.Sending.{HandsOut};
@@ -70,18 +71,26 @@ pub enum ConfigRefused {
     WindowFull(u8),
 }
 
-/// The server: a copy of the profile, what the game handed in, a slot for each client, and the frames that were built for
-/// them; and places for the head of a snapshot, for a message that is written, and where one that came whole stands, is cleared,
-/// and is read into. After `new` no call takes memory.
+/// The server. After `new` no call takes memory.
 #[derive(Drop)]
 pub struct Server {
+    /// A copy of the one by which messages are read and written.
     profile: Profile,
+    /// What the game handed in for all clients.
     map: Map,
+    /// A place for each client, 16 at most.
     slots: Vec<Slot>,
+    /// The frames that were built for them, and the ring that these share.
     frames: Frames,
+
+    // places that hold nothing from one call to another
+    /// For the head of a snapshot.
     head: SnapHead,
+    /// For a message that is written: 16,384 bytes.
     buffer: Vec<u8>,
+    /// For what is read of a client's message.
     said: ClientMessage,
+    /// For the bytes of one that came whole, where they are cleared: 16,384 too.
     whole: Vec<u8>,
 }
 
@@ -128,9 +137,10 @@ impl Server {
         (slot as usize) < self.slots.len()
     }
 
-    /// A client joins in a slot, from an address. In this order, `Range` comes exactly where the server has no such slot,
-    /// `Taken` exactly where the slot has a client, and `Twin` exactly where a client has this host and qport; it carries
-    /// the least slot of such a client.
+    /// A client joins in a slot, from an address. `Err` is the first of these that fits, and nothing changes then:
+    /// - `Range`: the server has no such slot.
+    /// - `Taken`: the slot has a client.
+    /// - `Twin`: a client has this host and qport. It carries the least slot of such a client.
     #[tactic(auto, using(crate::proofs::KeepsClients::server_joined))]
     pub fn add_client(
         &mut self,
@@ -156,10 +166,10 @@ impl Server {
         Ok(())
     }
 
-    /// A new map begins, with a checksum feed: each client is connected to it. Entities, baselines, players, areas and config strings
-    /// are none then, but for the config string that tells its id; the time stays, and so does each client's time of the last
-    /// move that was run, and whether its snapshots are delayed. `NotLater` comes exactly where the id isn't above the last one, 0
-    /// where there was none, and nothing changes then.
+    /// A new map begins, with a checksum feed: each client is connected to it. Entities, baselines, players, areas and config
+    /// strings are none then, but for the config string that tells its id; the time stays, and so does each client's time of the
+    /// last move that was run, and whether its snapshots are delayed. `NotLater` comes exactly where the id isn't above the last
+    /// one, 0 where there was none, and nothing changes then.
     pub fn new_map(&mut self, id: u32, feed: u32) -> Result<(), NotLater>
         requires { id < 2 ^ 31 }
         ensures { new_map_at self.old id feed ≡ record { server = self.new; answer = result } }
@@ -297,9 +307,11 @@ impl Server {
     }
 
     /// Issues a command to a client, whose number is the answer: the messages that are begun for it next carry the command, until
-    /// the client acknowledges it. In this order, `NoClient` comes exactly where no client was added in the slot, `Own` exactly
-    /// where the text would change config string 1, `NotPrimed` exactly where no gamestate of the map was begun for the client,
-    /// and `WindowFull` exactly where the command doesn't fit into the client's window; nothing changes then.
+    /// the client acknowledges it. `Err` is the first of these that fits, and nothing changes then:
+    /// - `NoClient`: no client was added in the slot.
+    /// - `Own`: the text would change config string 1.
+    /// - `NotPrimed`: no gamestate of the map was begun for the client.
+    /// - `WindowFull`: the command doesn't fit into the client's window.
     pub fn say(&mut self, slot: u8, text: &Text) -> Result<u32, SayError>
         ensures { say_at self.old slot text.now ≡ record { server = self.new; answer = result } }
     {
@@ -321,15 +333,20 @@ impl Server {
     }
 
     /// Takes a datagram from an address, any bytes, and tells what it ran. Its client is found by host and qport, and takes
-    /// over the port, also where the datagram proves old or its check bad.
+    /// over the port, also where the datagram proves old or its check bad. The answer is the first that fits:
+    /// - `Runt`, `Connectionless`: the datagram has no qport.
+    /// - `Stranger`: no client has that host and qport.
+    /// - `BadCheck`, `Old`: as the gathering of the client's slot answers.
+    /// - `OutOfOrder`, `BadFragment`, `Partial`: likewise, no message came whole by it.
+    /// - `Illegible`: the leading longs of a message that came whole don't read, or acknowledge a command that the client's
+    ///   window doesn't take.
+    /// - `Ignored`: the message is of another map. The acknowledgement is taken, and a gamestate may be owed to the client from
+    ///   then on.
+    /// - `Illegible`: the rest isn't legible.
+    /// - `Gap`: one of its commands leaves a gap.
+    /// - `Ran`: the message was run. The first move of a primed client enters the map.
     ///
-    /// In this order: `Runt` and `Connectionless` where the datagram has no qport; `Stranger` exactly where no client has
-    /// that host and qport; `BadCheck`, `Old`, `OutOfOrder`, `BadFragment` and `Partial` as the gathering of the client's slot answers;
-    /// `Illegible` where the leading longs of a message that came whole don't read, or acknowledge a command that the client's
-    /// window doesn't take; `Ignored` where it is of another map: the acknowledgement is taken, and a gamestate may be owed to the
-    /// client from then on; `Illegible` again where the rest isn't legible; `Gap` where one of its commands leaves a gap; with
-    /// `Illegible` and `Gap`, only the newest number, the port and what was gathered have changed; and else `Ran`: the first move of
-    /// a primed client enters the map.
+    /// With `Illegible` and `Gap` only the newest number, the port and what was gathered have changed.
     #[tactic(auto, unfolding(crate::specs::Taking::take_at))]
     pub fn take(&mut self, from: Address, datagram: &[u8], heard: &mut Heard) -> ServerTook
         ensures server { self.new ≡ (take_at self.old from datagram.now).server }
@@ -360,12 +377,15 @@ impl Server {
         )
     }
 
-    /// Makes the next datagram for a client: it is empty where nothing is handed out. In this order: `NoClient` exactly
-    /// where no client was added in the slot; `Fragment` where pieces of a message are left; `SequenceEnd` where message
-    /// numbers have ended or more than 2^62 entities were placed; `Unclear` where, by protocol 68, the next message's leading long takes more
-    /// than 32 bits; `Overlong` where the next message has more than 16,384 bytes: nothing changes then, but that the frames keep the one
-    /// of a snapshot; else `Game` where a gamestate is owed to the client, and `Snapshot` where none is. A message that it begins is
-    /// well formed, whatever the server took before.
+    /// Makes the next datagram for a client: it is empty where nothing is handed out. A message that it begins is well formed,
+    /// whatever the server took before. The answer is the first that fits:
+    /// - `NoClient`: no client was added in the slot.
+    /// - `Fragment`: pieces of a message are left, of which the next is handed out.
+    /// - `SequenceEnd`: message numbers have ended, or more than 2^62 entities were placed.
+    /// - `Unclear`: by protocol 68, the next message's leading long takes more than 32 bits.
+    /// - `Overlong`: the next message has more than 16,384 bytes. Nothing changes, but that the frames keep that of a snapshot.
+    /// - `Game`: a gamestate is owed to the client.
+    /// - `Snapshot`: none is owed.
     #[tactic(auto, unfolding(crate::specs::Server::emit_at), using(crate::proofs::Begins::begins, crate::proofs::Begins::begins_nothing))]
     pub fn emit(&mut self, slot: u8, out: &mut Datagram) -> Emitted
         ensures server { self.new ≡ (emit_at self.old slot).server }

@@ -1,6 +1,8 @@
-//! What is done for the clients in all slots at once: a new map begins for each, and those for which a gamestate was begun are told
-//! of a change of a config string. Keeps the rules "new map" and "config changes as commands", the engine's `SV_SpawnServer` and
-//! `SV_SetConfigstring` (sv_init.c). That all clients must have room for all commands of a change is this project's own.
+//! What is done for the clients in all slots at once: a new map begins for each, and those for which a gamestate was begun are
+//! told of a change of a config string.
+//! - Rules: "new map", "config changes as commands".
+//! - Engine: `SV_SpawnServer` and `SV_SetConfigstring` (sv_init.c).
+//! - Ours: that all clients must have room for all commands of a change.
 
 ghost use Rattle.std.specs.Prelude.{◌≡◌, ◌<◌, ◌≤◌, None, All, IsTrue, length, map, option_map, position};
 ghost use Rattle.std.specs.Str.{bytes_eq};

@@ -1,6 +1,7 @@
-//! Begins the next message of a client, and hands out its first piece. Keeps the rules "messages of another map; owed
-//! gamestates", and "what the server sends", the engine's `SV_SendClientMessages` (sv_snapshot.c). That an owed gamestate goes
-//! as the next message, and not at once, is this project's own.
+//! Begins the next message of a client, and hands out its first piece.
+//! - Rules: "messages of another map; owed gamestates", "what the server sends".
+//! - Engine: `SV_SendClientMessages` (sv_snapshot.c).
+//! - Ours: that an owed gamestate goes as the next message, and not at once.
 
 ghost use Rattle.std.specs.Prelude.{◌≡◌, ◌+◌, ◌<◌, ◌≤◌, [], length};
 ghost use Rattle.q3_chan.specs.Datagrams.{longest_message, sequence_end};

@@ -1,5 +1,6 @@
-//! Builds the frame of a client's next snapshot, and writes its message. Keeps the rules "what the server sends", with q3_built
-//! and q3_map, and "choice of the delta base", by q3_frames: the engine's `SV_SendClientSnapshot` (sv_snapshot.c).
+//! Builds the frame of a client's next snapshot, and writes its message.
+//! - Rules: "what the server sends", with q3_built and q3_map; "choice of the delta base", by q3_frames.
+//! - Engine: `SV_SendClientSnapshot` (sv_snapshot.c).
 
 ghost use Rattle.std.specs.Prelude.{◌≡◌, ◌+◌, ◌<◌, ◌≤◌, ◌||◌, length, nat_le, nat_lt, None, option_map};
 ghost use Rattle.q3_chan.specs.Datagrams.{client_form, longest_message, sequence_end};
@@ -28,11 +29,12 @@ use q3_window::Outgoing;
 /// How many entities may have been placed where a message is begun.
 const MOST_PLACED: u64 = 1 << 62;
 
-/// The client in a slot, to which a message goes, and the commands that were issued to it.
+/// The client in a slot, to which a message goes.
 #[derive(Clone, Copy)]
 pub(crate) struct Recipient<'a> {
     pub slot: u8,
     pub client: &'a Joined,
+    /// The commands that were issued to it.
     pub issued: &'a Outgoing,
 }
 
@@ -58,7 +60,7 @@ pub fn build(frames: &mut Frames, slot: u8, head: &SnapHead, entities: &[EntityS
 }
 
 /// Builds a frame of the snapshot that this sender sends next, and writes its message against the base that the client asks for,
-/// if that is there, and scrambles it. `Overflow` comes exactly where it has more than 16,384 bytes.
+/// if that is there, and scrambles it by protocol 68. `Overflow` comes exactly where it has more than 16,384 bytes.
 pub(crate) fn write_next(
     sender: &Sender,
     to: Recipient,
@@ -87,7 +89,7 @@ pub(crate) fn write_next(
 }
 
 /// Writes the message of a snapshot, whose entities lie in the map, against the base of the client, if its delta number names
-/// one, and scrambles it. `Overflow` comes exactly where it has more than 16,384 bytes.
+/// one, and scrambles it by protocol 68. `Overflow` comes exactly where it has more than 16,384 bytes.
 fn write_against(
     frames: &Frames,
     to: Recipient,

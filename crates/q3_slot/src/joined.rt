@@ -1,8 +1,10 @@
-//! A client that joined, and what is done for it alone. Keeps the rules "new map", "snapshot flags", "snapshot for a client that
-//! is not active", "messages of another map; owed gamestates" and "client states: connected, primed, active", the engine's
-//! `SV_SpawnServer` (sv_init.c), `SV_BuildClientSnapshot` (sv_snapshot.c), `SV_ExecuteClientMessage` and `SV_ClientEnterWorld`
-//! (sv_client.c). That nothing else is in a snapshot for a client that isn't active, and that with a new map the last gamestate's
-//! number, the delta number and a debt go, is this project's own.
+//! A client that joined, and what is done for it alone.
+//! - Rules: "new map", "snapshot flags", "snapshot for a client that is not active", "messages of another map; owed gamestates",
+//!   "client states: connected, primed, active".
+//! - Engine: `SV_SpawnServer` (sv_init.c), `SV_BuildClientSnapshot` (sv_snapshot.c), `SV_ExecuteClientMessage` and
+//!   `SV_ClientEnterWorld` (sv_client.c).
+//! - Ours: that a snapshot for a client that isn't active has nothing but the time and the flags in it; that with a new map the
+//!   last gamestate's number, the delta number and a debt go.
 
 ghost use Rattle.std.specs.Prelude.{◌≡◌, ◌+◌, ◌^◌, ◌<◌, ◌≤◌, ◌||◌, [], false, length, None, Some};
 ghost use Rattle.q3_chan.specs.Datagrams.{client_form};
@@ -42,23 +44,36 @@ const NOT_ACTIVE: u8 = 2;
 /// The flag that changes with each map, the engine's `SNAPFLAG_SERVERCOUNT` (q_shared.h).
 const SERVER_COUNT: u8 = 4;
 
-/// How a client joined and from where, how far it came on the map, the number of the last gamestate of the map that was begun
-/// for it, if one was, and whether one is owed; which of its commands were executed, the number of the snapshot that it asks to
-/// write the next one against, 0 for none, the time of its last move that was run, what the game handed in for it alone, and
-/// whether its snapshots are delayed by rate control.
+/// What is kept of a client beside what is sent to it, what was gathered of what it sends, and the commands issued to it.
 #[derive(Drop)]
 pub(crate) struct Joined {
+    // how it joined
     pub challenge: u32,
+    /// From where it joined, and then from where its last datagram came.
     pub address: Address,
     pub qport: u16,
+
+    // how far it came on the map
     pub stage: ClientStage,
+    /// The message number of the last gamestate of the map that was begun for it, if one was.
     pub game: Option<u32>,
+    /// Whether a gamestate is owed to it: its message goes before any other.
     pub owed: bool,
+
+    // what came of its messages
+    /// Which of its commands were executed.
     pub executed: Incoming,
+    /// The number of the snapshot that it asks to write the next one against, 0 for none.
     pub delta: u32,
+    /// The time of its last move that was run, or of the one with which it entered the map, in milliseconds; 0 before one.
     pub last_run: u32,
+
+    // what was handed in for it alone
+    /// In normal form.
     pub player: PlayerState,
+    /// The area bytes.
     pub area: ArrayVec<u8, 32>,
+    /// Whether its snapshots are delayed by rate control.
     pub delayed: bool,
 }
 
@@ -136,8 +151,11 @@ impl Joined {
         read_message(profile, map, self.challenge, issued, bytes, into)
     }
 
-    /// Runs what was read of a message of the client in a slot, under a number, unless it is of another map, or one of its
-    /// commands leaves a gap.
+    /// Runs what was read of a message of the client in a slot, under a number. The answer is the first that fits:
+    /// - `Illegible`: it isn't legible. Nothing changes.
+    /// - `Ignored`: it is of another map. Its acknowledgement is taken, and a gamestate may be owed from then on.
+    /// - `Gap`: one of its commands leaves a gap. Nothing changes.
+    /// - `Ran`: it was run.
     pub fn run(
         &mut self,
         issued: &mut Outgoing,
@@ -203,7 +221,7 @@ impl Joined {
         ServerTook::Ignored { slot, id: heads.id }
     }
 
-    /// Whether a gamestate is owed behind a message of another map.
+    /// Whether a gamestate is owed after a message of another map.
     fn owes_behind(&self, map: &Map, heads: Heads) -> bool
         ensures { result ≡ (self.now.owed || asks_by map.now self.now (leading_of heads)) }
     {
@@ -270,7 +288,7 @@ impl Joined {
         }
     }
 
-    /// Enters the map with a move of this time, which isn't run, and runs those behind it.
+    /// Enters the map with a move of this time, which isn't run, and runs those after it.
     fn enter(&mut self, time: u32, rest: &[Move], heard: &mut Heard)
         requires few { length rest.now ≤ 32 }
         requires no_moves { heard.old.moves.items ≡ [] }

@@ -1,7 +1,8 @@
 //! A place for a client at the server.
-//! Keeps the rules "fragmentation" and "what a receiver answers", by q3_chan, "when a command may be issued", by q3_window,
-//! "config changes as commands", the engine's `SV_SendConfigstring` (sv_init.c), and "end of message numbers". The last is this
-//! project's own, and so is that a primed client is told of config changes at once.
+//! - Rules: "fragmentation" and "what a receiver answers", by q3_chan; "when a command may be issued", by q3_window; "config
+//!   changes as commands"; "end of message numbers".
+//! - Engine: `SV_SendConfigstring` (sv_init.c), for config changes.
+//! - Ours: the end of message numbers; that a primed client is told of config changes at once.
 
 ghost use Rattle.std.specs.Prelude.{◌≡◌, ◌<◌, ◌≤◌, ◌+◌, [], false, true, None, Some, All, IfOk, IfSome, IsSome, IsTrue, length, option_map, is_some};
 ghost use Rattle.q3_chan.specs.Datagrams.{longest_message, sequence_end};
@@ -41,13 +42,16 @@ use std::marker::Model;
 /// The config string that tells the map's id, which the server alone changes.
 const OWN_STRING: u32 = 1;
 
-/// A sender, a gatherer and the window of the commands that are issued, and the client at their other end, once one has
-/// joined. After `new` no call takes memory.
+/// A place, and the client in it, once one has joined. After `new` no call takes memory.
 #[derive(Drop)]
 pub struct Slot {
+    /// Cuts the messages that go to the client.
     sender: Sender,
+    /// Gathers the datagrams that come from it.
     gatherer: Gatherer,
+    /// The window of the commands that are issued to it.
     issued: Outgoing,
+    /// The client at the other end of these three, which are as they were at first until it joins.
     client: Option<Joined>,
 }
 
@@ -188,8 +192,11 @@ impl Slot {
     }
 
     /// Issues a command to the client, whose number is the answer: the messages that are begun next carry it, until the
-    /// client acknowledges it. In this order, `Own` comes exactly where the text would change config string 1, `NotPrimed` exactly
-    /// where the client is connected, and `WindowFull` exactly where it doesn't fit into the window; nothing changes then.
+    /// client acknowledges it. `Err` is the first of these that fits, and nothing changes then:
+    /// - `NoClient`: there is no client.
+    /// - `Own`: the text would change config string 1.
+    /// - `NotPrimed`: the client is connected.
+    /// - `WindowFull`: it doesn't fit into the window.
     pub fn say(&mut self, text: &Text) -> Result<u32, SayError>
         ensures slot { self.new ≡ slot_saying text.now self.old }
         ensures answer { result ≡ said_of_slot text.now self.old }
@@ -251,9 +258,15 @@ impl Slot {
         prove!(area.len() <= 32);
     }
 
-    /// Takes a datagram of the client in this slot, from an address, which it takes over. A message that came whole is
-    /// read and run; one that isn't legible, or one of whose commands leaves a gap, changes nothing else, and one of another map
-    /// nothing but what its acknowledgement says.
+    /// Takes a datagram of the client in this slot, from an address, which it takes over. The answer is the first that fits:
+    /// - `Stranger`: there is no client.
+    /// - `Runt`, `Connectionless`, `BadCheck`, `Old`, `OutOfOrder`, `BadFragment`, `Partial`: no message came whole, as the
+    ///   gatherer answers.
+    /// - `Illegible`: the leading longs don't read, or acknowledge a command that the window doesn't take. Nothing else changes.
+    /// - `Ignored`: the message is of another map. Its acknowledgement is taken, and a gamestate may be owed from then on.
+    /// - `Illegible`: the rest isn't legible. Nothing else changes.
+    /// - `Gap`: one of its commands leaves a gap. Nothing else changes.
+    /// - `Ran`: the message was run.
     pub fn take(
         &mut self,
         profile: &Profile,
@@ -298,7 +311,14 @@ impl Slot {
     }
 
     /// Hands out what is left of a message, or begins the next and hands out its first piece: the gamestate, where one is owed,
-    /// and else a snapshot, whose frame is built.
+    /// and else a snapshot, whose frame is built. The answer is the first that fits:
+    /// - `NoClient`: there is no client.
+    /// - `Fragment`: pieces of a message were left, of which the next is handed out.
+    /// - `SequenceEnd`: message numbers have ended, or more than 2^62 entities were placed.
+    /// - `Unclear`: by protocol 68, the next message's leading long takes more bits than stay clear.
+    /// - `Overlong`: the next message has more than 16,384 bytes. Nothing changes, but that the frame of a snapshot stays built.
+    /// - `Game`: a gamestate is owed. The client is primed by it.
+    /// - `Snapshot`: none is owed.
     pub fn emit(
         &mut self,
         slot: u8,

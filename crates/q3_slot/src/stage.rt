@@ -5,6 +5,16 @@ ghost use Rattle.std.specs.Prelude.{◌≡◌};
 ghost use Rattle.q3_slot.specs.Slot.{is_active, is_connected};
 
 /// How far a client came.
+///
+///     join, begin_map               prime             enter
+///   -----------------> Connected ---------> Primed ---------> Active
+///
+/// - `join` (of `Slot`): a client is connected at first.
+/// - `begin_map`: with a new map it is connected, however far it came on the last one.
+/// - `prime`: a gamestate that was owed is begun, and it is primed. Where that got lost, one is owed again, and `prime` leaves it
+///   primed. None becomes owed to an active client; but one that is owed as it enters stays so, and then `prime` leads back from
+///   `Active`. In a closed replay that never comes.
+/// - `enter`: while it was primed a message of the map with moves came, and it is active.
 #[derive(Clone, Copy, Debug, PartialEq, Eq)]
 pub enum ClientStage {
     /// No gamestate of the map was begun for it.

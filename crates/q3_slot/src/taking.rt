@@ -1,8 +1,9 @@
-//! What a client's message does to its slot. Keeps the rules "layout of a client message", "move section", "move key and
-//! text hash", "scrambling", "messages of another map; owed gamestates", "gaps in command numbers" and "which moves run", the engine's
-//! `SV_ExecuteClientMessage` and `SV_UserMove` (sv_client.c) and `SV_Netchan_Decode` (sv_net_chan.c). That a move runs exactly
-//! where its time is above that of the last one run, and that before the first map each id is another one, is this project's
-//! own.
+//! What a client's message does to its slot.
+//! - Rules: "layout of a client message", "move section", "move key and text hash", "scrambling", "messages of another map; owed
+//!   gamestates", "gaps in command numbers", "which moves run".
+//! - Engine: `SV_ExecuteClientMessage` and `SV_UserMove` (sv_client.c), `SV_Netchan_Decode` (sv_net_chan.c).
+//! - Ours: that a move runs exactly where its time is above that of the last one run; that before the first map each id is
+//!   another one.
 
 ghost use Rattle.std.specs.Prelude.{◌≡◌, ◌≤◌, [], false, length, None, IfOk};
 ghost use Rattle.q3_bits.specs.Streams.{holding};
@@ -55,13 +56,16 @@ pub enum ServerTook {
     Ran { slot: u8, number: u32 },
 }
 
-/// What a take ran of a client's message: the commands by rising number, and the moves by rising time; the time of the move
-/// with which the client entered the map, if it did, in milliseconds; and whether a gamestate is owed to the client.
+/// What a take ran of a client's message.
 #[derive(Drop)]
 pub struct Heard {
+    /// By rising number.
     pub commands: Commands,
+    /// By rising time.
     pub moves: ArrayVec<Move, 32>,
+    /// The time of the move with which the client entered the map, in milliseconds, if it did.
     pub entered: Option<u32>,
+    /// Whether a gamestate is owed to the client.
     pub owed: bool,
 }
 
@@ -95,19 +99,24 @@ impl Heard {
     }
 }
 
-/// Which map a message is of: the server's, or another, with the leading longs, which alone were read then.
+/// Which map a message is of.
 #[derive(Clone, Copy)]
 pub(crate) enum Origin {
+    /// The server's.
     Map,
+    /// Another: the leading longs, which alone were read.
     Other(Heads),
 }
 
 /// Reads a message of the client that joined with a challenge, by the commands that were issued to it: what its leading longs
-/// say counts, and by the text of the command that they acknowledge the bytes behind them are cleared in their place. Of a
-/// message of another map no more is read. After a refusal, and after a message of another map, `into` may hold anything.
+/// say counts, and by protocol 68 the bytes after them are cleared in their place by the text of the command that they
+/// acknowledge. Of a message of another map no more is read. After a refusal, and after a message of another map, `into` may
+/// hold anything.
 ///
-/// `Err` is the first of: `Bits` where the leading longs don't read; `Ack` where the window doesn't take the acknowledgement;
-/// and what `read_client_message` refuses.
+/// `Err` is the first of these:
+/// - `Bits`: the leading longs don't read.
+/// - `Ack`: the window doesn't take the acknowledgement.
+/// - What `read_client_message` refuses, of a message of the map.
 pub(crate) fn read_message(
     profile: &Profile,
     map: &Map,
@@ -135,7 +144,7 @@ fn check_ack(issued: &Outgoing, command: u32) -> Result<(), ClientIllegible>
     Ok(())
 }
 
-/// Reads what is behind these leading longs, by the text of the command that they acknowledge, where they are of the map.
+/// Reads what comes after these leading longs, by the text of the command that they acknowledge, where they are of the map.
 fn read_behind(
     profile: &Profile,
     map: &Map,
@@ -210,7 +219,7 @@ pub(crate) fn execute_commands(
     executed.execute(message.commands.as_slice(), into);
 }
 
-/// Puts the moves that run behind the last one into a list that is empty, and answers the time of the last one run.
+/// Puts the moves that run after the last one into a list that is empty, and answers the time of the last one run.
 pub(crate) fn run_moves(last: u32, moves: &[Move], into: &mut ArrayVec<Move, 32>) -> u32
     requires few { length moves.now ≤ 32 }
     requires empty { into.old.items ≡ [] }
@@ -227,7 +236,7 @@ pub(crate) fn run_moves(last: u32, moves: &[Move], into: &mut ArrayVec<Move, 32>
     last
 }
 
-/// The number of the snapshot that a client asks for behind a message: the one that its message acknowledges, or 0; a message
+/// The number of the snapshot that a client asks for after a message: the one that its message acknowledges, or 0; a message
 /// without moves doesn't say.
 pub(crate) fn delta_behind(before: u32, message: &ClientMessage) -> u32
     ensures { result ≡ delta_behind before (said_of message.now) }

@@ -45,8 +45,8 @@ returns-in_err-write_head-clause-builds g c =
     (λ told is.
     let size = size_is before sized c.args.demo c.in-Ok.length c.in-Ok.ensures.told told is in
     let counts = c.in_ok-records.ensures.counts told size.0 in
-    head_fails c.args.profile.now told c.args.demo c.args.index counted (g.F.Files.told c.write_head.new.files) c.in-Ok.length c.bits.result c.in_ok-records.records c.in_err-write_head.field-0.0
-    (c.requires.other told is).1 (still_empty told before counted c.args.index is (c.requires.other told is).1 asks) (size.1, c.bits.ensures.bits, counts.1) counts.0 c.in_err-write_head.ensures.writes)
+    head_fails c.args.profile.now told c.args.demo c.args.index counted (g.F.Files.told c.write_head.new.files) c.in-Ok.length c.bits-width.result c.in_ok-records.records c.in_err-write_head.field-0.0
+    (c.requires.other told is).1 (still_empty told before counted c.args.index is (c.requires.other told is).1 asks) (size.1, c.bits-width.ensures.bits, counts.1) counts.0 c.in_err-write_head.ensures.writes)
 
 pub write_checkpoints-requires-clause-few : goal.write_checkpoints-requires-clause-few
 write_checkpoints-requires-clause-few g c = omega (arith, c.in_ok-records.ensures.few)
@@ -62,9 +62,9 @@ returns-in_err-write_checkpoints-clause-builds g c =
     (λ told is.
     let size = size_is before sized c.args.demo c.in-Ok.length c.in-Ok.ensures.told told is in
     let counts = c.in_ok-records.ensures.counts told size.0 in
-    points_fail c.args.profile.now told c.args.demo c.args.index counted (g.F.Files.told c.write_head.new.files) (g.F.Files.told c.write_checkpoints.new.files) c.in-Ok.length c.bits.result c.in_ok-records.records
+    points_fail c.args.profile.now told c.args.demo c.args.index counted (g.F.Files.told c.write_head.new.files) (g.F.Files.told c.write_checkpoints.new.files) c.in-Ok.length c.bits-width.result c.in_ok-records.records
     c.in_err-write_checkpoints.field-0.0 (c.requires.other told is).1 (c.requires.other told is).0 (still_empty told before counted c.args.index is (c.requires.other told is).1 asks)
-    (size.1, c.bits.ensures.bits, counts.1) counts.0 c.in_ok-write_head.ensures.writes c.in_err-write_checkpoints.ensures.writes)
+    (size.1, c.bits-width.ensures.bits, counts.1) counts.0 c.in_ok-write_head.ensures.writes c.in_err-write_checkpoints.ensures.writes)
 
 pub returns-in_err-write_checkpoints-clause-cause : goal.returns-in_err-write_checkpoints-clause-cause
 returns-in_err-write_checkpoints-clause-cause g c =
@@ -90,6 +90,6 @@ returns-clause-builds g c =
     λ told is.
     let size = size_is before sized c.args.demo c.in-Ok.length c.in-Ok.ensures.told told is in
     let counts = c.in_ok-records.ensures.counts told size.0 in
-    it_is_made c.args.profile.now told c.args.demo c.args.index counted (g.F.Files.told c.write_head.new.files) (g.F.Files.told c.write_checkpoints.new.files) c.in-Ok.length c.bits.result built
-    (c.requires.other told is).1 (c.requires.other told is).0 (still_empty told before counted c.args.index is (c.requires.other told is).1 asks) (size.1, c.bits.ensures.bits, counts.1) refl counts.0
+    it_is_made c.args.profile.now told c.args.demo c.args.index counted (g.F.Files.told c.write_head.new.files) (g.F.Files.told c.write_checkpoints.new.files) c.in-Ok.length c.bits-width.result built
+    (c.requires.other told is).1 (c.requires.other told is).0 (still_empty told before counted c.args.index is (c.requires.other told is).1 asks) (size.1, c.bits-width.ensures.bits, counts.1) refl counts.0
     c.in_ok-write_head.ensures.writes c.in_ok-write_checkpoints.ensures.writes

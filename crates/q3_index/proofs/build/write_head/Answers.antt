@@ -1,9 +1,9 @@
-use Rattle.std.proofs.Common.{List, ℕ, [], ◌++◌, ◌/◌}
+use Rattle.std.proofs.Common.{List, ℕ, [], ◌++◌, ◌/◌, ◌∙◌, arith}
 use Rattle.std.proofs.lemmas.Result.{err_from_is_err_and}
 use Rattle.byteorder.specs.Endian.{little_bytes}
 use Rattle.q3_index.specs.declared.opening.Version.TheVariants.{Second}
 use Rattle.q3_index.specs.Text.{spacing, magic, head_bytes}
-use Rattle.q3_index.proofs.Putting.{first_stops, put_first, put_more, put_stops, put_last}
+use Rattle.q3_index.proofs.Putting.{byte_is, first_stops, put_first, put_more, put_stops, put_last}
 use Rattle.q3_index.proofs.build.write_head.Goals as goal
 
 pub returns-in_err-append-clause-writes : goal.returns-in_err-append-clause-writes
@@ -55,7 +55,7 @@ returns-in_err-append-4-clause-writes g c =
     let all : List ℕ = head_bytes Second c.args.length c.args.mark c.args.width c.args.built.records in
     let put_1 = rw c.to_le_bytes.ensures at c.in_ok-append-2.ensures.writes in
     let put_2 = rw c.to_le_bytes-2.ensures at c.in_ok-append-3.ensures.writes in
-    let stops = rw c.to_le_bytes-3.ensures at c.in_err-append-4.ensures.writes in
+    let stops = rw (c.to_le_bytes-3.ensures ∙ byte_is c.args.width (omega arith)) at c.in_err-append-4.ensures.writes in
     rw (p.1, p.2)
     (λ told is. put_stops told (g.F.Files.told c.append-3.new.files) (g.F.Files.told c.append-4.new.files) c.args.index (little_bytes 1 c.args.width) left_4 all c.in_err-append-4.field-0.0
     (put_more told (g.F.Files.told c.append-2.new.files) (g.F.Files.told c.append-3.new.files) c.args.index (little_bytes 8 c.args.mark) left_3 all
@@ -73,7 +73,7 @@ returns-in_err-append-5-clause-writes g c =
     let all : List ℕ = head_bytes Second c.args.length c.args.mark c.args.width c.args.built.records in
     let put_1 = rw c.to_le_bytes.ensures at c.in_ok-append-2.ensures.writes in
     let put_2 = rw c.to_le_bytes-2.ensures at c.in_ok-append-3.ensures.writes in
-    let put_3 = rw c.to_le_bytes-3.ensures at c.in_ok-append-4.ensures.writes in
+    let put_3 = rw (c.to_le_bytes-3.ensures ∙ byte_is c.args.width (omega arith)) at c.in_ok-append-4.ensures.writes in
     let stops = rw c.to_le_bytes-4.ensures at c.in_err-append-5.ensures.writes in
     rw (p.1, p.2)
     (λ told is. put_stops told (g.F.Files.told c.append-4.new.files) (g.F.Files.told c.append-5.new.files) c.args.index (little_bytes 4 c.args.built.records) left_5 all c.in_err-append-5.field-0.0
@@ -92,7 +92,7 @@ returns-clause-writes g c =
     let all : List ℕ = head_bytes Second c.args.length c.args.mark c.args.width c.args.built.records in
     let put_1 = rw c.to_le_bytes.ensures at c.in_ok-append-2.ensures.writes in
     let put_2 = rw c.to_le_bytes-2.ensures at c.in_ok-append-3.ensures.writes in
-    let put_3 = rw c.to_le_bytes-3.ensures at c.in_ok-append-4.ensures.writes in
+    let put_3 = rw (c.to_le_bytes-3.ensures ∙ byte_is c.args.width (omega arith)) at c.in_ok-append-4.ensures.writes in
     let put_4 = rw c.to_le_bytes-4.ensures at c.in_ok-append-5.ensures.writes in
     let last = rw (c.to_le_bytes-5.ensures, c.requires.checkpoints) at c.append-6.ensures.writes in
     λ told is. put_last told (g.F.Files.told c.append-5.new.files) (g.F.Files.told c.append-6.new.files) c.args.index (little_bytes 4 (c.args.built.records / spacing)) all c.append-6.result

@@ -43,8 +43,8 @@ returns-then-head-length-clause-opens g c =
 
 pub returns-then-head-width-clause-opens : goal.returns-then-head-width-clause-opens
 returns-then-head-width-clause-opens g c =
-    let other : c.in_ok-head.head.width ≢ c.args.profile.now.entity.number_bits = λ same. c.if-head-width.true (same ∙ sym c.bits.ensures.bits) in
-    rw c.bits.ensures.bits
+    let other : c.in_ok-head.head.width ≢ c.args.profile.now.entity.number_bits = λ same. c.if-head-width.true (same ∙ sym c.bits-width.ensures.bits) in
+    rw c.bits-width.ensures.bits
     (other_width (λ (checkpoints : Vec Checkpoint Global). checkpoints.items) (g.F.Files.told c.args.files.now) (g.F.Files.told c.size.new.self) (g.F.Files.told c.size-2.new.self)
     (g.F.Files.told c.read_head.new.files) c.args.profile.now.mark c.args.profile.now.entity.number_bits c.args.demo c.args.index c.in-Ok.length c.in-Ok-size.end c.in_ok-head.head c.in_ok-checkpoints.checkpoints c.in-Ok.ensures.told
     c.in-Ok-size.ensures.told c.in_ok-head.ensures.reads c.in_ok-head.ensures.asks c.in_ok-checkpoints.ensures.reads (omega arith) (omega arith) other)
@@ -54,4 +54,4 @@ returns-clause-opens g c =
     it_opens (λ (checkpoints : Vec Checkpoint Global). checkpoints.items) (g.F.Files.told c.args.files.now) (g.F.Files.told c.size.new.self) (g.F.Files.told c.size-2.new.self)
     (g.F.Files.told c.read_head.new.files) c.args.profile.now.mark c.args.profile.now.entity.number_bits c.args.demo c.args.index c.in-Ok.length c.in-Ok-size.end c.in_ok-head.head c.in_ok-checkpoints.checkpoints
     (record { demo = c.args.demo; index = c.args.index; records = c.in_ok-head.head.records; checkpoints = c.in_ok-checkpoints.checkpoints.items }) c.in-Ok.ensures.told c.in-Ok-size.ensures.told
-    c.in_ok-head.ensures.reads c.in_ok-head.ensures.asks c.in_ok-checkpoints.ensures.reads (omega arith) (omega arith) (omega (arith, c.bits.ensures.bits)) refl
+    c.in_ok-head.ensures.reads c.in_ok-head.ensures.asks c.in_ok-checkpoints.ensures.reads (omega arith) (omega arith) (omega (arith, c.bits-width.ensures.bits)) refl
