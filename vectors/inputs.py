@@ -102,8 +102,8 @@ def state_of_256():
 
 
 def index_of(data, count, profile=PROFILE):
-    """The index of such a demo with 256 to 511 records."""
-    head = b'Q3INDEX1' + struct.pack('<2Q2I', len(data), mark(profile), count, 1)
+    """The index of such a demo with 256 to 511 records, by a profile whose numbers of entities have 10 bits."""
+    head = b'Q3INDEX2' + struct.pack('<2QB2I', len(data), mark(profile), 10, count, 1)
     return head + struct.pack('<IQI', 256, 46 + 255 * 24, len(state_of_256())) + state_of_256()
 
 

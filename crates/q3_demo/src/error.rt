@@ -13,7 +13,8 @@ pub enum DemoError {
     /// The files' count of faults rose in this call.
     #[error("read fault")]
     ReadFault,
-    /// The file ends in the message of this record, or it goes on beyond 1,073,741,824 bytes, or it stands behind 1,048,576 others.
+    /// The file ends in the message of this record, or it goes on beyond 1,073,741,824 bytes, or it stands after 1,048,576
+    /// others.
     #[error("demo: truncated at {0}")]
     Truncated(u64),
     /// The length of this record is below -1 or above 16,384.

@@ -9,7 +9,7 @@ ghost use Rattle.q3_clstate.specs.Report.{applied_text};
 use q3_clstate::{Applied, ClState, Log, print_applied};
 use q3_io::{Failed, Piece, Sink, laws, print_all};
 
-/// Prints the lines of a record, by the state behind it: its index among all and its number, and what became of its message.
+/// Prints the lines of a record, by the state after it: its index among all and its number, and what became of its message.
 pub(crate) fn print_record<O: Sink>(
     index: u32,
     number: u32,

@@ -21,15 +21,20 @@ use std::marker::Model;
 /// How many records are played at most.
 const MOST_RECORDS: u32 = 1_048_576;
 
-/// How far a demo was played: what its messages left, how many they are, the number of the last, 0 for none, and the place behind them.
-/// After `new` and `behind` no call takes memory.
+/// How far a demo was played. After `new` and `behind` no call takes memory.
 #[derive(Drop)]
 pub struct Player {
+    /// What the messages left that were played.
     state: ClState,
+    /// How many they are.
     records: u32,
+    /// The number of the last, 0 for none.
     last: u32,
+    /// The place after them, in bytes.
     at: u64,
+    /// The commands that the last executed.
     log: Log,
+    /// A place for the message of a record: 16,384 bytes.
     message: Vec<u8>,
 }
 
@@ -46,7 +51,8 @@ impl Model for Player {
 }
 
 impl Player {
-    /// Plays from a demo's first record on. The profile's ring for a client's entities has 512 to 65,536 places. `Err` is want of memory.
+    /// Plays from a demo's first record on. The profile's ring for a client's entities has 512 to 65,536 places. `Err` is want of
+    /// memory.
     pub fn new(alloc: Global, profile: &Profile) -> Result<Player, NoMemory>
         requires least { 512 ≤ profile.now.parse_ring }
         requires most { profile.now.parse_ring ≤ 65536 }
@@ -56,7 +62,7 @@ impl Player {
         Player::behind(alloc, state, 0, 0)
     }
 
-    /// Goes on behind so many records, at the place of the next one, from what they left. `Err` is want of memory.
+    /// Goes on after so many records, at the place of the next one, from what they left. `Err` is want of memory.
     pub fn behind(alloc: Global, state: ClState, records: u32, at: u64) -> Result<Player, NoMemory>
         ensures { IfOk result (λ player. player ≡ record { played = record { state = state; records = records; last = state.number; at = at }; heard = [] }) }
     {
@@ -73,9 +79,9 @@ impl Player {
         })
     }
 
-    /// Plays the next record, and tells what became of its message; `None` comes at the demo's end. `Err` is as `next_record` says, or
-    /// `Message` exactly where the message isn't legible; behind any `Err` the demo was played as far as before. Of the demo no more bytes are
-    /// asked for than the record has, where every read gives all that it is asked for.
+    /// Plays the next record, and tells what became of its message; `None` comes at the demo's end. `Err` is as `next_record`
+    /// says, or `Message` exactly where the message isn't legible; after any `Err` the demo was played as far as before. Of the
+    /// demo no more bytes are asked for than the record has, where every read gives all that it is asked for.
     pub fn next<F: Files>(
         &mut self,
         files: &mut F,
@@ -116,8 +122,8 @@ impl Player {
         Ok(Some(applied))
     }
 
-    /// The same of a demo that is played from its first record on: behind 1,048,576 records anything but the demo's end is refused, as
-    /// `Truncated`.
+    /// The same of a demo that is played from its first record on: after 1,048,576 records anything but the demo's end is
+    /// refused, as `Truncated`.
     pub fn next_of_all<F: Files>(
         &mut self,
         files: &mut F,
@@ -161,7 +167,7 @@ impl Player {
         self.records
     }
 
-    /// The place behind them.
+    /// The place after them, in bytes.
     pub fn place(&self) -> u64
         ensures { result ≡ self.now.played.at }
     {
@@ -203,7 +209,8 @@ fn apply(
     }
 }
 
-/// What a piece counts as behind the last record that may be played: anything but the demo's end is refused, and a read fault stays one.
+/// What a piece counts as after the last record that may be played: anything but the demo's end is refused, and a read fault
+/// stays one.
 fn end_alone(at: u64, piece: Result<Piece, DemoError>) -> Result<Option<Applied>, DemoError>
     ensures { result ≡ end_alone at piece }
 {

@@ -19,9 +19,9 @@ use std::alloc::Global;
 /// How many records are played at most.
 const MOST_RECORDS: u32 = 1_048_576;
 
-/// Plays a demo: prints the lines of each record, and behind the last what they left. The file is read as it plays, and memory is taken
-/// before that alone. `Err` is the first record that is refused, as `next_record` says, or `Message` exactly where its message isn't
-/// legible; or `Truncated` exactly where anything but the demo's end stands behind 1,048,576 records.
+/// Plays a demo: prints the lines of each record, and after the last what they left. The file is read as it plays, and memory is
+/// taken before that alone. `Err` is the first record that is refused, as `next_record` says, or `Message` exactly where its
+/// message isn't legible; or `Truncated` exactly where anything but the demo's end stands after 1,048,576 records.
 pub fn play<F: Files, O: Sink>(
     alloc: Global,
     profile: &Profile,
@@ -130,7 +130,7 @@ fn end_here<F: Files, O: Sink>(
     }
 }
 
-/// What a refusal counts as behind the last record that may be played: a read fault stays one.
+/// What a refusal counts as after the last record that may be played: a read fault stays one.
 fn behind_limit(at: u64, error: DemoError) -> DemoError
     ensures { result ≡ behind_limit at error }
 {

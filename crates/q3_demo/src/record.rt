@@ -1,5 +1,6 @@
-//! The records of a demo, as the engine writes them: `CL_WriteDemoMessage` and `CL_ReadDemoMessage` (cl_main.c). The limits and that
-//! numbers rise are this project's own.
+//! The records of a demo.
+//! - Rule: "demo record". Engine: `CL_WriteDemoMessage` and `CL_ReadDemoMessage` (cl_main.c) write and read them so.
+//! - Ours: the limits, and that numbers rise.
 
 ghost use Rattle.std.specs.Prelude.{◌≡◌, ◌+◌, ◌<◌, ◌≤◌, ◌^◌, IsTrue, List, ℕ, length, drop, Some, Ok, IfOk};
 ghost use Rattle.q3_io.specs.Told.{Told, contents_at};
@@ -17,7 +18,7 @@ pub const LONGEST_RECORD: usize = 16_384;
 /// A record's number and length, in bytes.
 const HEAD_BYTES: usize = 8;
 
-/// Behind this place no head ends below 2^64.
+/// After this place no head ends below 2^64.
 const LAST_HEAD: u64 = u64::MAX - 8;
 
 /// The length that ends a demo.
@@ -34,7 +35,7 @@ const MOST_BYTES: u64 = 1_073_741_824;
 pub enum Piece {
     /// The demo's end.
     End,
-    /// A record: its number, how many bytes its message has, and the place behind it.
+    /// A record: its number, how many bytes its message has, and the place after it.
     Message {
         number: u32,
         length: usize,
@@ -49,12 +50,16 @@ pub(crate) struct Head {
     length: u32,
 }
 
-/// Reads what stands at a place of a demo, behind a record of the number `last`, 0 for none. The message of a record is put into the
-/// first bytes of the buffer. It is the demo's end where the file ends within the first 8 bytes, or the length is -1. Else `Err` is the
-/// first of: `BadLength` exactly where the length is below -1 or above 16,384; `BadNumber` exactly where the number isn't above `last`,
-/// or is 2^31 or above; `Truncated` exactly where the file ends in the message, or it goes on beyond 1,073,741,824 bytes. `ReadFault`
-/// comes where the files' count of faults rose. Records aren't counted here. Of a record, its bytes alone are asked for, each once, where every
-/// read gives all that it is asked for.
+/// Reads what stands at a place of a demo, after a record of the number `last`, 0 for none. The message of a record is put into
+/// the first bytes of the buffer. The answer is the first that fits:
+/// - `End`: the file ends within the first 8 bytes, or the length is -1.
+/// - `BadLength`: the length is below -1 or above 16,384.
+/// - `BadNumber`: the number isn't above `last`, or is 2^31 or above.
+/// - `Truncated`: the file ends in the message, or the message goes on beyond 1,073,741,824 bytes.
+/// - `Message`: a record stands there.
+///
+/// `ReadFault` comes where the files' count of faults rose. Records aren't counted here. Of a record, its bytes alone are asked
+/// for, each once, where every read gives all that it is asked for.
 pub fn next_record<F: Files>(
     files: &mut F,
     file: usize,
@@ -125,7 +130,7 @@ fn read_head<F: Files>(files: &mut F, file: usize, at: u64) -> Result<Option<Hea
     }))
 }
 
-/// Tells that the file ends before a head behind `LAST_HEAD` does, since it has fewer than 2^64 bytes.
+/// Tells that the file ends before a head after `LAST_HEAD` does, since it has fewer than 2^64 bytes.
 fn no_head<F: Files>(files: &mut F, file: usize) -> Result<Option<Head>, DemoError>
     requires given { file < F.given files.old }
     ensures finds { (at : ℕ) → 2 ^ 64 ≤ at + 8 → (bytes : List ℕ) × HasFrom (F.told files.old) file at bytes × FindsHead bytes result }

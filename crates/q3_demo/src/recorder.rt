@@ -1,6 +1,7 @@
-//! Records what a client applies. The engine's `CL_Record_f` and `CL_WriteDemoMessage` (cl_main.c) begin so too; that the first gamestate
-//! is that of the moment before the first whole snapshot, and that a message whose base lies before that is written anew, is this
-//! project's own.
+//! Records what a client applies.
+//! - Engine: `CL_Record_f` and `CL_WriteDemoMessage` (cl_main.c) begin so too.
+//! - Ours: that the first gamestate is that of the moment before the first whole snapshot; that a message whose base lies before
+//!   that is written anew.
 
 ghost use Rattle.std.specs.Prelude.{◌≡◌, ◌<◌, ◌≤◌, ◌+◌, ◌++◌, [], length, take, None, Some, IfOk, option_map};
 ghost use Rattle.q3_io.specs.Faults.{HasCause};
@@ -45,7 +46,8 @@ pub enum Noted {
     Waits,
     /// The message was recorded.
     Wrote,
-    /// The recording has its end: it was written before this message, which had to be composed and is too long, or the recording had it before.
+    /// The recording has its end: it was written before this message, which had to be composed and is too long, or the recording
+    /// had it before.
     Ended,
 }
 
@@ -53,10 +55,19 @@ pub enum Noted {
 #[derive(Drop)]
 pub struct Recorder {
     stage: Stage,
+
+    // the gamestate that was kept for the case that the next message has a whole snapshot
+    /// Its bytes, in the first of 16,384.
     game: Vec<u8>,
+    /// How many they are; none where it would have more, and before one was kept.
     game_length: Option<usize>,
+
+    // places that hold nothing from one call to another
+    /// For the commands of a message that is composed anew.
     commands: Commands,
+    /// For that message: 16,384 bytes.
     message: Vec<u8>,
+    /// For what is added to the file at once: two records at most.
     bytes: Vec<u8>,
 }
 
@@ -81,7 +92,8 @@ impl Recorder {
     ghost use Rattle.q3_rings.specs.Rings.{view_at};
     ghost use Rattle.q3_demo.specs.Recording.{begins, goes_on, recomposed, composed_whole, whole_of, front_at, end_bytes};
 
-    /// A recording that waits for a whole snapshot. The file of its calls is empty before the first of them. `Err` is want of memory.
+    /// A recording that waits for a whole snapshot. The file of its calls is empty before the first of them. `Err` is want of
+    /// memory.
     pub fn new(alloc: Global) -> Result<Recorder, NoMemory>
         ensures { IfOk result (λ made. made ≡ new_recorder) }
     {
@@ -105,8 +117,8 @@ impl Recorder {
         self.stage == Stage::Waits
     }
 
-    /// Keeps the gamestate that the client has, for the case that the next message has a whole snapshot. `issued` is the number of the last
-    /// command that the client issued, 0 for none. It is called before each message while the recording waits.
+    /// Keeps the gamestate that the client has, for the case that the next message has a whole snapshot. `issued` is the number
+    /// of the last command that the client issued, 0 for none. It is called before each message while the recording waits.
     pub fn prepare(&mut self, state: &ClState, issued: u32)
         ensures { self.new ≡ record self.old { game = composed (game_bits state.now issued) } }
     {
@@ -116,9 +128,9 @@ impl Recorder {
         };
     }
 
-    /// Records a message that the client applied, the last one: `applied` is what became of it, and `state` is what the client has behind
-    /// it. While the recording waits, `prepare` was called with the state before the message. Behind the recording's end nothing is added.
-    /// `Failed` comes where a write of the files failed; the recording isn't used any more then.
+    /// Records a message that the client applied, the last one: `applied` is what became of it, and `state` is what the client
+    /// has after it. While the recording waits, `prepare` was called with the state before the message. After the recording's end
+    /// nothing is added. `Failed` comes where a write of the files failed; the recording isn't used any more then.
     pub fn note<F: Files>(
         &mut self,
         state: &ClState,
@@ -285,7 +297,7 @@ fn is_before(first: u32, outcome: SnapOutcome) -> bool
     }
 }
 
-/// Puts a record at a place of a buffer, and answers the place behind it.
+/// Puts a record at a place of a buffer, and answers the place after it.
 fn put_record(buffer: &mut Vec<u8>, place: usize, number: u32, message: &[u8]) -> usize
     requires fits { place + length message.now + 8 ≤ length buffer.old.items }
     requires short { length message.now ≤ longest_record }

@@ -20,8 +20,8 @@ use q3_rings::{Held, SnapView};
 /// How many config strings there are, the engine's `MAX_CONFIGSTRINGS` (q_shared.h).
 const STRINGS: u32 = 1024;
 
-/// Prints what the messages of so many records left: the map, the text that is pending, the config strings and the baselines that are
-/// set, the snapshots that are held, and the newest. `Failed` comes where the sink failed, behind a front of the text.
+/// Prints what the messages of so many records left: the map, the text that is pending, the config strings and the baselines that
+/// are set, the snapshots that are held, and the newest. `Failed` comes where the sink failed, after a front of the text.
 pub fn print_state<O: Sink>(state: &ClState, records: u32, out: &mut O) -> Result<(), Failed>
     ensures adds { Adds (O.written out.old) (O.written out.new) (state_text state.now records) result }
     ensures cause { HasCause (O.faults out.old) (O.faults out.new) result }
@@ -244,7 +244,7 @@ fn view_of<'a>(held: Held<'a>, entities: Run<'a>) -> SnapView<'a>
     }
 }
 
-/// Prints a snapshot behind the mark of its line.
+/// Prints a snapshot after the mark of its line.
 fn print_view<O: Sink>(view: SnapView, out: &mut O) -> Result<(), Failed>
     ensures adds { Adds (O.written out.old) (O.written out.new) (codes "+" ++ snapshot_text (snapshot_of view.entry)) result }
     ensures cause { HasCause (O.faults out.old) (O.faults out.new) result }

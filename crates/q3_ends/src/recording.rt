@@ -26,9 +26,10 @@ use q3_words::Name;
 use std::alloc::Global;
 use std::marker::Model;
 
-/// A recording that goes on, and the name of its file. The file's number comes with each call.
+/// A recording that goes on. The number of its file comes with each call.
 #[derive(Drop)]
 pub struct Recording {
+    /// Of its file.
     name: Name,
     recorder: Recorder,
 }
@@ -143,8 +144,10 @@ fn stands(state: &ClState)
     let _profile = state.profile();
 }
 
-/// A client begins to record: the file of this recording is made, and `number` is its number from then on. Refused are, in this order, a
-/// client that never had a gamestate, and one whose recording goes on; nothing changes then. `Failed` comes where the file can't be made.
+/// A client begins to record: the file of this recording is made, and `number` is its number from then on. `Failed` comes where
+/// the file can't be made. It is refused for the first of these that fits, and nothing changes then:
+/// - `NoGame`: the client never had a gamestate.
+/// - `Already`: its recording goes on.
 pub fn begin<F: Files>(
     client: &Client,
     recording: &mut Option<Recording>,
@@ -170,8 +173,8 @@ pub fn begin<F: Files>(
     Ok(Ok(()))
 }
 
-/// A client's recording has its end, and isn't there any more. Refused is a client that doesn't record; nothing changes then. `Failed`
-/// comes where the end can't be written; the recording is given up then.
+/// A client's recording has its end, and isn't there any more. Refused is a client that doesn't record; nothing changes then.
+/// `Failed` comes where the end can't be written; the recording is given up then.
 pub fn stop<F: Files>(
     recording: &mut Option<Recording>,
     number: usize,
@@ -190,9 +193,9 @@ pub fn stop<F: Files>(
     Ok(Ok(()))
 }
 
-/// A client takes bytes, and records the message that it applied, if it did. It tells what it made of them, and whether its recording ended
-/// by itself: it isn't there any more then. `log` may hold anything before. `Failed` comes where the file can't be written; how far the
-/// recording is then isn't said.
+/// A client takes bytes, and records the message that it applied, if it did. It tells what it made of them, and whether its
+/// recording ended by itself: it isn't there any more then. `log` may hold anything before. `Failed` comes where the file can't
+/// be written; how far the recording is then isn't said.
 pub fn take<F: Files>(
     client: &mut Client,
     recording: &mut Option<Recording>,

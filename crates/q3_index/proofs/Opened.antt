@@ -12,7 +12,7 @@ use Rattle.q3_index.specs.declared.error.IndexError.TheVariants.{ReadFault, NotI
 use Rattle.q3_index.specs.declared.index.Checkpoint.{Checkpoint}
 use Rattle.q3_index.specs.declared.opening.Head.{Head}
 use Rattle.q3_index.specs.Opening.{Heads, head_at, heads_at, checkpoints_of, matching, open_at}
-use Rattle.q3_index.specs.Running.{IndexState, Opens, opened}
+use Rattle.q3_index.specs.Running.{IndexState, Opens}
 use Rattle.q3_index.specs.Steps.{from_place, head_size, Reads}
 use Rattle.q3_index.proofs.Seeking.{told_later}
 

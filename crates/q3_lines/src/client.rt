@@ -12,9 +12,9 @@ use q3_clstate::{Applied, ClState, Log, print_applied};
 use q3_io::{Failed, Piece, Sink, laws, print_all};
 use q3_svmsg::{Illegible, cause_number, cause_word};
 
-/// Prints what stands behind `deliver D`, or `arrive`, where a client took a datagram, with the client behind it: the rest of that
+/// Prints what stands after `deliver D`, or `arrive`, where a client took a datagram, with the client after it: the rest of that
 /// line, and the lines of the commands that it executed, of the gamestate and of the snapshot. `Failed` comes where the sink
-/// failed, behind a front of it.
+/// failed, after a front of it.
 pub fn print_took<O: Sink>(
     client: &Client,
     c: u8,
@@ -119,7 +119,7 @@ fn print_number<O: Sink>(c: u8, number: u32, out: &mut O) -> Result<(), Failed>
     )
 }
 
-/// Prints why a move can't be issued: a word, and the time of the last move. `Failed` comes where the sink failed, behind a
+/// Prints why a move can't be issued: a word, and the time of the last move. `Failed` comes where the sink failed, after a
 /// front of it.
 pub fn print_move_error<O: Sink>(error: MoveError, out: &mut O) -> Result<(), Failed>
     ensures adds { Adds (O.written out.old) (O.written out.new) (move_error_text error) result }
@@ -136,7 +136,7 @@ pub fn print_move_error<O: Sink>(error: MoveError, out: &mut O) -> Result<(), Fa
 }
 
 /// Prints the line of a `send`. The datagram's number is used where one was handed out. `Failed` comes where the sink
-/// failed, behind a front of the line.
+/// failed, after a front of the line.
 pub fn print_sent<O: Sink>(c: u8, answer: &Sent, datagram: u32, out: &mut O) -> Result<(), Failed>
     ensures adds { Adds (O.written out.old) (O.written out.new) (send_text c answer.now datagram) result }
     ensures cause { HasCause (O.faults out.old) (O.faults out.new) result }

@@ -17,7 +17,7 @@ use q3_text::Command;
 use q3_window::print_commands;
 
 /// Prints the line of a `serve`. The datagram's number is used where one was handed out. `Failed` comes where the sink
-/// failed, behind a front of the line.
+/// failed, after a front of the line.
 pub fn print_emitted<O: Sink>(
     slot: u8,
     emitted: &Emitted,
@@ -128,9 +128,9 @@ fn print_fragment<O: Sink>(slot: u8, number: u32, datagram: u32, out: &mut O) ->
     )
 }
 
-/// Prints what stands behind `deliver D`, or `arrive`, where the server took a datagram: the rest of that line, and a line
+/// Prints what stands after `deliver D`, or `arrive`, where the server took a datagram: the rest of that line, and a line
 /// for each command and each move that it ran, one between them where the client entered the map, and one under an ignored
-/// message where a gamestate is owed, all of which `heard` holds since that take. `Failed` comes where the sink failed, behind a
+/// message where a gamestate is owed, all of which `heard` holds since that take. `Failed` comes where the sink failed, after a
 /// front of it.
 pub fn print_took<O: Sink>(took: &ServerTook, heard: &Heard, out: &mut O) -> Result<(), Failed>
     ensures adds { Adds (O.written out.old) (O.written out.new) (server_text took.now (run_of heard.now)) result }

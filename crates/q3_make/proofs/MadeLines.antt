@@ -260,7 +260,7 @@ pub deliver_good : (datagram : ℕ) → 1 ≤ datagram → datagram ≤ 65536 �
 deliver_good datagram some few = let short = number_short (codes "deliver ") datagram (omega arith) (omega arith) in good (Deliver datagram) (some, few) (omega arith)
 
 remove_good : (number : ℕ) → number ≤ 1022 → IsGood (Remove number)
-remove_good number few = let short = number_short (codes "remove ") number (omega arith) (omega arith) in good (Remove number) few (omega arith)
+remove_good number few = let short = number_short (codes "remove ") number (omega arith) (omega arith) in good (Remove number) (omega (arith, few)) (omega arith)
 
 pub time_good : (time : ℕ) → time < 2 ^ 32 → IsGood (Time time)
 time_good time small = let short = number_short (codes "time ") time (omega arith) small in good (Time time) small (omega arith)

@@ -33,8 +33,8 @@ HoldsThis held base = (snapshot : Snapshot) → view_at held base.head.number �
 
 -- a message that was built is received from its bytes as its value: where the client joined with the challenge for which it was
 -- built, what the messages left is well formed, as at every client, its window takes the acknowledgement and has the text by which the
--- message is scrambled, and, where the client plays, has the baselines of its map, and what is held lends no other snapshot under the
--- number of its base. It is whole, or as skipped where its base isn't held
+-- message is scrambled by protocol 68, and, where the client plays, has the baselines of its map, and what is held lends no other
+-- snapshot under the number of its base. It is whole, or as skipped where its base isn't held
 abbrev pub BuiltIsRead : Type 0
 BuiltIsRead = (profile : Profile) → IsCodec profile → (client : ClientState) (number : ℕ) (built : Built) → IsBuilt profile client.challenge number built
     → client.state.profile ≡ profile → IsApplied client.state → IfSome built.under (λ game. client.state.lines ≡ built.lines)
@@ -43,7 +43,8 @@ BuiltIsRead = (profile : Profile) → IsCodec profile → (client : ClientState)
     → receive_bytes client number (built_bytes profile built) ≡ Ok (receive_message client number built.message (plain_bytes profile built))
 
 -- a message that a client began is read back by the server as what it is to the map, where its slot's window takes the acknowledgement
--- and has the text by which the message is scrambled, and, where it is of the map, by the map's feed
+-- and has the text by which its moves are hidden, and the message is scrambled by protocol 68, and, where it is of the map, by the
+-- map's feed
 abbrev pub SaidIsRead : Type 0
 SaidIsRead = (profile : Profile) → IsCodec profile → (map : MapState) (slot : SlotState) (said : Said) → IsSaid profile slot.challenge said
     → (acknowledge_at slot.issued said.message.command).answer ≡ Ok tt → text_at slot.issued said.message.command ≡ said.key.text

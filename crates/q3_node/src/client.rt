@@ -24,13 +24,17 @@ use q3_words::Name;
 use std::alloc::Global;
 use std::marker::Model;
 
-/// A client with the number of its script, the address of its server, its recording, if one goes on, and what it executed last.
+/// A client at its end of a wire.
 #[derive(Drop)]
 pub(crate) struct ClientEnd {
+    /// Its number in the script.
     c: u8,
     client: Client,
+    /// The address of its server.
     server: Address,
+    /// The recording that goes on, if one does.
     recording: Option<Recording>,
+    /// What it executed last.
     log: Box<Log>,
 }
 
@@ -56,8 +60,8 @@ impl ClientEnd {
     ghost use Rattle.q3_io.specs.Written.{Written, NothingWaits};
     ghost use Rattle.q3_script.specs.Grammar.{IsOneClient};
 
-    /// A client that has taken nothing, of the server at this address. Each message repeats the moves of `dup` messages before it.
-    /// `Err` is want of memory.
+    /// A client that has taken nothing, of the server at this address. Each message repeats the moves of `dup` messages before
+    /// it. `Err` is want of memory.
     pub(crate) fn new(
         alloc: Global,
         profile: &Profile,

@@ -23,9 +23,9 @@ use q3_script::Event;
 use q3_script::laws::events_are_in_range;
 use std::alloc::Global;
 
-/// Runs a server by the lines of its script, each when it is due, in milliseconds since the first reading of the clock; what arrives
-/// meanwhile is taken. The wire is bound to `at` once, behind the memory and before the first reading. Each turn takes one reading and
-/// does one thing, and its lines are handed on at once. `Ok` comes where `end` was done.
+/// Runs a server by the lines of its script, each when it is due, in milliseconds since the first reading of the clock; what
+/// arrives meanwhile is taken. The wire is bound to `at` once, after memory was taken and before the first reading. Each turn
+/// takes one reading and does one thing, and its lines are handed on at once. `Ok` comes where `end` was done.
 pub fn serve_loop<W: Wire, C: Clock, O: Sink>(
     alloc: Global,
     profile: &Profile,
@@ -63,8 +63,8 @@ pub fn serve_loop<W: Wire, C: Clock, O: Sink>(
     )
 }
 
-/// Runs a client of the server at `server`, likewise. The client is that of the first line. An arrival from another address isn't taken.
-/// What it records is written to `files`; memory may be wanted at a line `record` too.
+/// Runs a client of the server at `server`, likewise. The client is that of the first line. An arrival from another address isn't
+/// taken. What it records is written to `files`; memory may be wanted at a line `record` too.
 pub fn join_loop<F: Files, W: Wire, C: Clock, O: Sink>(
     alloc: Global,
     profile: &Profile,

@@ -19,10 +19,11 @@ use q3_server::{Heard, MOST_SLOTS, Server};
 use std::alloc::Global;
 use std::marker::Model;
 
-/// A server, and what it executed and ran last.
+/// A server at its end of a wire.
 #[derive(Drop)]
 pub(crate) struct ServerEnd {
     server: Server,
+    /// What it executed and ran last.
     heard: Box<Heard>,
 }
 

@@ -23,13 +23,16 @@ const MOST_TURNS: u32 = 10_000_000;
 /// The room of a receive, in bytes.
 pub(crate) const RECEIVE_ROOM: usize = 16_400;
 
-/// How far a node is in its lines: the place of the next, the time that those before it said, the first reading of the clock, if one
-/// was taken, and how many datagrams were made.
+/// How far a node is in its lines.
 #[derive(Clone, Copy, Debug, PartialEq, Eq)]
 pub(crate) struct Course {
+    /// The place of the next line, 0 for the first.
     pub next: usize,
+    /// The time that the lines before it said, in milliseconds since the first reading of the clock.
     pub time: u32,
+    /// The first reading of the clock, in milliseconds, if one was taken.
     pub start: Option<u64>,
+    /// How many datagrams were made.
     pub made: u32,
 }
 
@@ -70,7 +73,7 @@ impl Course {
         }
     }
 
-    /// Goes on behind a line, which made a datagram or none.
+    /// Goes on after a line, which made a datagram or none.
     fn go_on(&mut self, event: &Event, made: bool)
         requires few { (self.old.next < most_events) × (self.old.made < most_events) }
         ensures { self.new ≡ record self.old { next = self.old.next + 1; time = time_behind self.old.time event.now; made = if made then self.old.made + 1 else self.old.made } }
@@ -83,7 +86,7 @@ impl Course {
     }
 }
 
-/// When a line is due behind this time.
+/// When a line is due that comes after this time.
 fn due_at(time: u32, event: &Event) -> u32
     ensures { result ≡ due_at time event.now }
 {
@@ -93,7 +96,7 @@ fn due_at(time: u32, event: &Event) -> u32
     }
 }
 
-/// The time behind a line.
+/// The time after a line.
 fn time_behind(time: u32, event: &Event) -> u32
     ensures { result ≡ time_behind time event.now }
 {

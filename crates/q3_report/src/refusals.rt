@@ -1,5 +1,5 @@
-//! Prints why a call is refused, as reports have it: a word, and the number or the byte for which. Each kind of refusal has its text,
-//! so one function prints the line of every refusal.
+//! Prints why a call is refused, as reports have it: a word, and the number or the byte for which. Each kind of refusal has its
+//! text, so one function prints the line of every refusal.
 
 ghost use Rattle.std.specs.Prelude.{ℕ, List};
 ghost use Rattle.q3_io.specs.Faults.{HasCause};
@@ -21,7 +21,7 @@ pub(crate) trait Refusal {
     /// As reports have it.
     ghost told: { Self → List ℕ };
 
-    /// Prints it. `Failed` comes where the sink failed, behind a front of it.
+    /// Prints it. `Failed` comes where the sink failed, after a front of it.
     fn print<O: Sink>(&self, out: &mut O) -> Result<(), Failed>
         ensures adds { Adds (O.written out.old) (O.written out.new) (told self.now) result }
         ensures cause { HasCause (O.faults out.old) (O.faults out.new) result };

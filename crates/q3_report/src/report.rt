@@ -1,5 +1,5 @@
-//! Prints the lines of an answer, those of `lines_of` to the letter, and hands them on behind the last: one write, where a line buffer
-//! has room for them.
+//! Prints the lines of an answer, those of `lines_of` to the letter, and hands them on after the last: one write, where a line
+//! buffer has room for them.
 
 ghost use Rattle.std.specs.Prelude.{[], ◌∷◌, ◌++◌, codes, decimal, option_map, OnOk};
 ghost use Rattle.std.specs.List.{concat};
@@ -164,7 +164,7 @@ fn print_command<O: Sink>(word: &[u8], c: u8, number: u32, out: &mut O) -> Resul
     )
 }
 
-/// Prints the line of what is refused: the reason stands behind the word and the number of what it is about.
+/// Prints the line of what is refused: the reason stands after the word and the number of what it is about.
 fn print_refused<E: Refusal, O: Sink>(
     word: &[u8],
     number: u32,

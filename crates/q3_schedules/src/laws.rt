@@ -34,7 +34,7 @@ pub fn commands_are_prefixes()
     world::bytes_follow_tags();
 }
 
-/// The text by which an end that takes a newer message clears it is the one by which the other end scrambled it.
+/// The text by which an end that takes a newer message clears it by protocol 68 is the one by which the other end scrambled it.
 pub fn keys_agree()
     ensures { KeysAgree }
 {
@@ -120,7 +120,7 @@ pub fn views_were_built()
 }
 
 /// Whatever came before, where a client applies a datagram, its answer is told by the message that was built under its number
-/// and by what it accepted; where it accepts the snapshot, its newest is the one that the server built for it; and behind the
+/// and by what it accepted; where it accepts the snapshot, its newest is the one that the server built for it; and after the
 /// delivery the client has that number.
 pub fn applied_was_built()
     ensures { AppliedWasBuilt }
@@ -239,14 +239,15 @@ pub fn counts_are_lines()
     ensures replay { ReplayIsCounted }
 {}
 
-/// A file that exactly one `record` line of a replay names, which was answered `ok`, holds in the end the recording of the messages that its
-/// client applied behind that line, up to its first `stop`: whatever bytes arrived, and whatever files there were.
+/// A file that exactly one `record` line of a replay names, which was answered `ok`, holds in the end the recording of the
+/// messages that its client applied after that line, up to its first `stop`: whatever bytes arrived, and whatever files there
+/// were.
 pub fn recording_is_its_messages()
     ensures { RecordingIsItsMessages }
 {}
 
-/// What a client's node leaves in the file of a name that at most one of its `record` lines has is the recording of the messages that the
-/// client applied behind that line; where it has no end yet, a front of it.
+/// What a client's node leaves in the file of a name that at most one of its `record` lines has is the recording of the messages
+/// that the client applied after that line; where it has no end yet, a front of it.
 pub fn node_records_its_messages()
     ensures { NodeRecordsItsMessages }
 {}

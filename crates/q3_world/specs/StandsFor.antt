@@ -242,7 +242,7 @@ abbrev pub acks_said : List Said → List Command
 acks_said began = map (λ (s : Said). record { number = s.message.command; text = s.key.text }) began
 
 -- the commands of the server on their way to a client, and those of the client on theirs to the server: each end executed a front
--- of what the other issued, and each window has the texts by which the messages to come are scrambled
+-- of what the other issued, and each window has the texts by which the messages to come are scrambled by protocol 68
 pub record AreCommanded (slot : SlotState) (client : ClientState) (history : History) : Type 0 where
   pub to_client : Flow slot.issued client.state.executed history.server_commands history.client_executed (carried_built history.built)
       (acks_said history.said) slot.gathering.taken client.gathering.taken

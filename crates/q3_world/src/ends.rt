@@ -34,10 +34,11 @@ use q3_text::Text;
 use std::alloc::Global;
 use std::marker::Model;
 
-/// A server, and each client that was added, at its place.
+/// Both ends of every client.
 #[derive(Drop)]
 pub(crate) struct Ends {
     server: Server,
+    /// A place for each of 16 clients, and in it the one that was added.
     clients: Vec<Option<Place>>,
 }
 
@@ -73,10 +74,11 @@ impl Ends {
         })
     }
 
-    /// What a line does that hands something in, hands bytes to an end, or shows a client; and its answer is told. Both lists may hold
-    /// anything before. `NoMemory` comes at `client` and `record` alone, and changes nothing.
-    /// `FileFault` comes where a recording's file can't be made, or what it adds can't be written, with nothing told, and `WriteFault`
-    /// where the lines can't be.
+    /// What a line does that hands something in, hands bytes to an end, or shows a client; and its answer is told. Both lists may
+    /// hold anything before.
+    /// - `NoMemory` comes at `client` and `record` alone, and changes nothing.
+    /// - `FileFault` comes where a recording's file can't be made, or what it adds can't be written, with nothing told.
+    /// - `WriteFault` comes where the lines can't be written.
     #[tactic(auto, unfolding(crate::specs::Ends::line_of, crate::specs::Files::line_acts, q3_ends::specs::AtServer::server_line))]
     pub fn line<F: Files, O: Sink>(
         &mut self,
@@ -489,7 +491,7 @@ impl Ends {
         }
     }
 
-    /// The server makes a datagram for a client, which is kept behind the others under the next number, if it is handed out.
+    /// The server makes a datagram for a client, which is kept after the others under the next number, if it is handed out.
     pub fn serve<O: Sink>(
         &mut self,
         c: u8,

@@ -20,10 +20,12 @@ pub(crate) enum Direction {
     ToServer { from: Address },
 }
 
-/// A datagram that was made, and the client that it is for or comes from.
+/// A datagram that was made.
 #[derive(Drop)]
 pub(crate) struct Made {
+    /// The place of the client that it is for or comes from.
     pub client: u8,
+    /// Which end it goes to.
     pub direction: Direction,
     pub bytes: Vec<u8>,
 }

@@ -20,11 +20,13 @@ use q3_server::MOST_SLOTS;
 use q3_text::Text;
 use std::alloc::Global;
 
-/// A client, the address that its datagrams come from, and its recording, if one goes on.
+/// A client that was added.
 #[derive(Drop)]
 pub struct Place {
     pub client: Client,
+    /// Where its datagrams come from.
     pub address: Address,
+    /// The recording that goes on, if one does.
     pub recording: Option<Recording>,
 }
 

@@ -31,18 +31,24 @@ use q3_text::Commands;
 use std::alloc::Global;
 use std::marker::Model;
 
-/// A replay of a schedule: a copy of the profile, a server and each client that was added, every datagram that was made, and
-/// what a client, and the server, executed and ran last, in boxes, counts of the lines that were printed, and of each place the
-/// number of the file that its client records into.
+/// A replay of a schedule.
 #[derive(Drop)]
 pub struct World {
+    /// Where memory for clients, datagrams and recordings comes from.
     alloc: Global,
+    /// A copy of the one by which all ends work.
     profile: Profile,
+    /// The server, and each client that was added.
     ends: Ends,
+    /// Every datagram that was made, that of the number 1 first.
     datagrams: Vec<Made>,
+    /// Of the lines that were printed.
     counts: Counts,
+    /// What a client executed last, in a box.
     log: Box<Log>,
+    /// What the server executed and ran last, in a box.
     heard: Box<Heard>,
+    /// For each client's place the number of the file that it records into.
     numbers: [usize; 16],
 }
 
@@ -104,9 +110,11 @@ impl World {
     }
 
     /// Does one event, writes what a client records to its file, and prints the event's lines.
-    /// `NoMemory` comes at `client`, `serve`, `send` and `record` alone, and the world is then as it was; nothing is printed.
-    /// `WriteFault` comes where the sink failed, and `FileFault` where the file of a recording can't be made or written, before a line is
-    /// printed; the world then has no promised state, and no promised counts.
+    /// - `NoMemory` comes at `client`, `serve`, `send` and `record` alone, and the world is then as it was; nothing is printed.
+    /// - `FileFault` comes where the file of a recording can't be made or written, before a line is printed.
+    /// - `WriteFault` comes where the sink failed.
+    ///
+    /// After the last two the world has no promised state, and no promised counts.
     pub fn step<F: Files, O: Sink>(
         &mut self,
         event: &Event,
@@ -270,8 +278,8 @@ impl World {
         tell(&answer, &mut self.counts, out)
     }
 
-    /// Each recording that goes on has its end, by client, and nothing else changes; it is called behind the last event. `Failed` comes
-    /// where one can't be written.
+    /// Each recording that goes on has its end, by client, and nothing else changes; it is called after the last event. `Failed`
+    /// comes where one can't be written.
     pub fn finish<F: Files>(&mut self, files: &mut F) -> Result<(), Failed>
         requires numbered { AreNumbered (F.told files.old) (F.given files.old) self.old.numbers self.old.kept.ends }
         ensures files { WritesFiles (F.told files.old) (F.told files.new) (F.given files.old) (F.given files.new) (F.faults files.old) (F.faults files.new)

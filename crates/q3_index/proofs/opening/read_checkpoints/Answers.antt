@@ -31,6 +31,10 @@ pub returns-in_err-found-clause-only : goal.returns-in_err-found-clause-only
 returns-in_err-found-clause-only g c =
     only_then c.args.index (g.F.Files.told c.args.files.now) (g.F.Files.told c.loop-k.files) (g.F.Files.told c.read_checkpoint.new.files) c.loop-k.invariant.only c.in_err-found.ensures.only
 
+pub returns-in_err-push-clause-asks : goal.returns-in_err-push-clause-asks
+returns-in_err-push-clause-asks g c =
+    asks_then (g.F.Files.told c.args.files.now) (g.F.Files.told c.loop-k.files) (g.F.Files.told c.read_checkpoint.new.files) c.loop-k.invariant.asks c.in_ok-found.ensures.asks
+
 pub returns-in_err-push-clause-only : goal.returns-in_err-push-clause-only
 returns-in_err-push-clause-only g c =
     only_then c.args.index (g.F.Files.told c.args.files.now) (g.F.Files.told c.loop-k.files) (g.F.Files.told c.read_checkpoint.new.files) c.loop-k.invariant.only c.in_ok-found.ensures.only
