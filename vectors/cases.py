@@ -61,6 +61,19 @@ def store(folder, data):
         path.write_bytes(content)
 
 
+def mark(profile):
+    """The mark of a profile, which the index of a demo keeps: the sum FNV-1a of 64 bits."""
+    value = 14695981039346656037
+    for byte in profile:
+        value = (value ^ byte) * 1099511628211 % 2 ** 64
+    return value
+
+
+def of_first_version(index):
+    """An index that was made, without the bits of an entity's number."""
+    return b'Q3INDEX1' + index[8:24] + index[25:]
+
+
 def first_difference(what, wanted, got):
     """The first item of two lists that differs, if one does."""
     for number, pair in enumerate(itertools.zip_longest(wanted, got), 1):

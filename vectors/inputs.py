@@ -85,14 +85,6 @@ def demo(count):
     return recorded(4, GAME) + b''.join(recorded(number, WHOLE) for number in numbers) + END, lines, state
 
 
-def mark(profile):
-    """The sum FNV-1a of 64 bits."""
-    value = 14695981039346656037
-    for byte in profile:
-        value = (value ^ byte) * 1099511628211 % 2 ** 64
-    return value
-
-
 def state_of_256():
     """The bytes of the state that 256 records of a `demo` leave: the last number is 259, and the last 32 snapshots are held."""
     text = b'\\sv_serverid\\1'
@@ -103,7 +95,7 @@ def state_of_256():
 
 def index_of(data, count, profile=PROFILE):
     """The index of such a demo with 256 to 511 records, by a profile whose numbers of entities have 10 bits."""
-    head = b'Q3INDEX2' + struct.pack('<2QB2I', len(data), mark(profile), 10, count, 1)
+    head = b'Q3INDEX2' + struct.pack('<2QB2I', len(data), cases.mark(profile), 10, count, 1)
     return head + struct.pack('<IQI', 256, 46 + 255 * 24, len(state_of_256())) + state_of_256()
 
 
