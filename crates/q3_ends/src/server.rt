@@ -1,6 +1,6 @@
 //! The lines of a script that are the game's, at a server, and the bytes that a server takes.
 
-ghost use Rattle.std.specs.Prelude.{◌≡◌, option_map};
+ghost use Rattle.std.specs.Prelude.{◌≡◌, ◌≤◌, option_map};
 ghost use Rattle.q3_script.specs.Grammar.{IsInRange};
 ghost use Rattle.q3_server.specs.Taking.{take_at};
 ghost use Rattle.q3_report.specs.Tellings.{answered_of};
@@ -62,8 +62,9 @@ pub fn server_line(server: &mut Server, event: &Event) -> Option<HandedIn>
     }
 }
 
-/// Takes over a baseline, whose number has to be below the end mark.
+/// Takes over a baseline, whose number isn't 0, and has to be below the end mark.
 fn set_baseline(server: &mut Server, state: &EntityState) -> Result<(), BaselineRefused>
+    requires some { 1 ≤ state.now.number }
     ensures server { server.new ≡ (baseline_line server.old state.now).server }
     ensures answer { answers.Baseline state.now.number result ≡ (baseline_line server.old state.now).answer }
 {
