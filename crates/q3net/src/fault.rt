@@ -41,7 +41,7 @@ pub enum Fault {
     Turns,
     /// The demo's first record that is refused, with its place, and why; or the demo's end before as many records as are sought.
     Demo(DemoError),
-    /// The index is none, or keeps another length of the demo or another mark of the profile.
+    /// The index is none, or keeps another length of the demo, another mark of the profile or other bits of an entity's number.
     Index(IndexError),
     /// The index counts fewer records, so many.
     PastEnd(u32),
