@@ -1,5 +1,5 @@
 //! A message as a client says it.
-//! - Rules: "layout of a client message", "scrambling", "unclear messages".
+//! - Rules: "what a client sends", "layout of a client message", "scrambling", "unclear messages".
 //! - Engine: `CL_WritePacket` (cl_input.c), `CL_Netchan_Encode` (cl_net_chan.c).
 //! - Ours: that an unclear message isn't sent.
 

@@ -1,4 +1,5 @@
 //! Records what a client applies.
+//! - Rule: "recorder".
 //! - Engine: `CL_Record_f` and `CL_WriteDemoMessage` (cl_main.c) begin so too.
 //! - Ours: that the first gamestate is that of the moment before the first whole snapshot; that a message whose base lies before
 //!   that is written anew.

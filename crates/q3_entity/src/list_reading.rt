@@ -20,9 +20,6 @@ use crate::state::{EntityState, List, Run};
 use q3_bits::{ReadError, Reader, laws};
 use q3_fields::Table;
 
-/// How many bits a number of an entity has in the real game.
-const USUAL_BITS: u32 = 10;
-
 /// Where a list stands: the number that comes next, the entities of the base from it on, and how many the list has so
 /// far. What `into` holds behind these is of no account.
 #[derive(Clone, Copy)]
@@ -218,7 +215,7 @@ fn read_number(r: &mut Reader, table: &Table, least: u16) -> Result<u16, EntityE
     Ok(number)
 }
 
-/// Reads the bits of a number. Those of the real game are read with no loop.
+/// Reads the bits of a number, those that tables have with no loop.
 #[inline(always)]
 fn get_number(r: &mut Reader, bits: u32) -> Result<u32, ReadError>
     requires some { 1 ≤ bits }
@@ -227,11 +224,13 @@ fn get_number(r: &mut Reader, bits: u32) -> Result<u32, ReadError>
     ensures fits { IfOk result (λ number. number < 2 ^ bits) }
     ensures code { IsCode r.old.words }
 {
-    if bits == USUAL_BITS {
-        // the constant, so that no loop is left
-        return r.get_fixed(USUAL_BITS);
+    // constants, so that no loop is left
+    match bits {
+        10 => r.get_fixed(10),
+        11 => r.get_fixed(11),
+        12 => r.get_fixed(12),
+        _ => r.get(bits),
     }
-    r.get(bits)
 }
 
 /// Lets the base's entities below a number stay, behind the first ones of `into`, so many. Lends those from it on, and

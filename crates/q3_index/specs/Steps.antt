@@ -1,5 +1,5 @@
 -- How an index is made, opened and sought in step by step.
-use Rattle.std.specs.Prelude.{◌≡◌, ◌⊎◌, ℕ, ◌+◌, ◌*◌, ◌/◌, ◌^◌, ◌<◌, ⊤, Bool, true, false, if◌then◌else◌, List, [], ◌∷◌, ◌++◌, length, take, drop, All, Option, Some, None, IsSome, Result, Ok, Err}
+use Rattle.std.specs.Prelude.{◌≡◌, ◌⊎◌, ℕ, ◌+◌, ◌*◌, ◌^◌, ◌<◌, ⊤, Bool, true, false, if◌then◌else◌, List, [], ◌∷◌, ◌++◌, length, take, drop, All, Option, Some, None, IsSome, Result, Ok, Err}
 use Rattle.std.specs.List.{concat, flat_map}
 use Rattle.q3_bits.specs.ResultBind.{◌>>=◌, fault_as}
 use Rattle.byteorder.specs.Endian.{little_bytes}
@@ -21,7 +21,7 @@ use Rattle.q3_index.specs.declared.error.SeekError.TheVariants.{ReadFault, NotIn
 use Rattle.q3_index.specs.declared.index.Checkpoint.{Checkpoint}
 use Rattle.q3_index.specs.declared.opening.Version.{Version}
 use Rattle.q3_index.specs.declared.opening.Version.TheVariants.{First, Second}
-use Rattle.q3_index.specs.Text.{spacing, checkpoint_bytes, is_checkpoint, checkpoints}
+use Rattle.q3_index.specs.Text.{checkpoint_bytes, is_checkpoint, checkpoints}
 use Rattle.q3_index.specs.Running.{LeavesIndex}
 
 -- ---- opening

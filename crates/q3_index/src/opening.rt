@@ -45,7 +45,7 @@ impl Version {
     ghost use Rattle.q3_index.specs.Steps.{head_size};
 
     /// How many bytes the head has.
-    fn head_bytes(self) -> usize
+    fn head_size(self) -> usize
         ensures { result ≡ head_size self }
     {
         match self {
@@ -214,7 +214,7 @@ fn read_checkpoints<F: Files>(
     ensures others { F.write_faults files.new ≡ F.write_faults files.old }
 {
     let mut checkpoints = Vec::new(alloc);
-    let mut at = head.version.head_bytes() as u64;
+    let mut at = head.version.head_size() as u64;
     let mut least = Some(0);
     for k in 0..head.count {
         let found = read_checkpoint(files, index, end, at, (k + 1) * SPACING, least, head.length)?;

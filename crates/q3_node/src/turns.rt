@@ -1,4 +1,4 @@
-//! The turns of a node.
+//! The turns of a node. Keeps the rule "over a wire".
 
 ghost use Rattle.std.specs.Prelude.{◌≡◌, ◌<◌, ◌≤◌, ◌+◌, ◌-◌, if◌then◌else◌, true, List, Option, None, Some, length, drop, All, option_map, IfSome, IsSome, OnOk};
 ghost use Rattle.q3_io.specs.Written.{NothingWaits};

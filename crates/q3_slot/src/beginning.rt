@@ -1,5 +1,5 @@
 //! Begins the next message of a client, and hands out its first piece.
-//! - Rules: "messages of another map; owed gamestates", "what the server sends".
+//! - Rules: "messages of another map; owed gamestates", "what the server sends", "messages that are too long".
 //! - Engine: `SV_SendClientMessages` (sv_snapshot.c).
 //! - Ours: that an owed gamestate goes as the next message, and not at once.
 

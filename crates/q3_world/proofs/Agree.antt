@@ -6,7 +6,6 @@ use Rattle.q3_profile.specs.declared.profile.Profile.{Profile}
 use Rattle.q3_player.specs.State.{zero_player, normal_player, IsState}
 use Rattle.q3_player.specs.declared.state.PlayerState.{PlayerState}
 use Rattle.q3_fields.specs.States.{AreWords}
-use Rattle.q3_fields.specs.Kinds.{least_end, end_mark}
 use Rattle.q3_entity.specs.declared.state.EntityState.{EntityState}
 use Rattle.q3_entity.specs.Entities.{normal_entity, IsNormal}
 use Rattle.q3_profile.specs.Profile.{IsCodec}

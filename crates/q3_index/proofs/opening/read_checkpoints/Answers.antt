@@ -10,7 +10,7 @@ use Rattle.q3_index.proofs.opening.read_checkpoints.Goals as goal
 
 pub loop-k-init : goal.loop-k-init
 loop-k-init g c = record {
-  reads = λ told is whole. rw (c.new-checkpoints.ensures.items, c.head_bytes-at.ensures) (found_none (contents_at told c.args.index) c.args.head);
+  reads = λ told is whole. rw (c.new-checkpoints.ensures.items, c.head_size-at.ensures) (found_none (contents_at told c.args.index) c.args.head);
   placed = grind (arith, common_steps);
   given = refl;
   asks = asks_same (g.F.Files.told c.args.files.now);
