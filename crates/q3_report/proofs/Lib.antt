@@ -1,1 +1,2 @@
+mod Delivered
 mod Printing

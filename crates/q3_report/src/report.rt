@@ -7,19 +7,19 @@ ghost use Rattle.q3_io.specs.Faults.{HasCause};
 ghost use Rattle.q3_io.specs.Print.{hex_word};
 ghost use Rattle.q3_io.specs.Written.{Adds, NothingWaits};
 ghost use Rattle.q3_clstate.specs.Report.{snapshot_text};
-ghost use Rattle.q3_lines.specs.ClientLines.{client_text};
+ghost use Rattle.q3_report.specs.ClientLines.{client_text};
 ghost use Rattle.q3_rings.specs.Loans.{snapshot_of};
 ghost use Rattle.q3_report.specs.AnswerLines.{lines_of, handed_lines, front_text, untaken_text, taking_text, handed_in_text, issued_text, bytes_text, showing_text, ended_text};
 ghost use Rattle.q3_report.specs.Tellings.{answered_of, taking_of, showing_of};
 
 use crate::answer::{Answer, Front, HandedIn, Shown, TakeRefused, Taker};
+use crate::client::print_sent;
 use crate::refusals::Refusal;
+use crate::server::print_emitted;
+use crate::{client, server};
 use q3_client::{Client, ClientTook};
 use q3_clstate::{Log, print_snapshot};
 use q3_io::{Failed, Piece, Sink, laws, print_all, print_hex_word};
-use q3_lines::client::print_sent;
-use q3_lines::server::print_emitted;
-use q3_lines::{client, server};
 use q3_rings::SnapView;
 use q3_server::NoClient;
 
