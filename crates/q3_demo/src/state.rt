@@ -151,10 +151,10 @@ fn print_baseline<O: Sink>(baselines: &Baselines, number: u16, out: &mut O) -> R
     ensures adds { Adds (O.written out.old) (O.written out.new) (baseline_text (set_at baselines.now number)) result }
     ensures cause { HasCause (O.faults out.old) (O.faults out.new) result }
 {
-    if !baselines.is_set(number) {
-        return print_all(&[], out);
+    match baselines.get(number) {
+        Some(state) => print_line(state, out),
+        None => print_all(&[], out),
     }
-    print_line(baselines.get(number), out)
 }
 
 /// Prints the line of a baseline.

@@ -1,4 +1,3 @@
-pub mod Lines
 pub mod DeltaTexts
 pub mod Gone
 pub mod Risen
@@ -20,4 +19,4 @@ pub mod ListRead
 pub mod ListSkipped
 pub mod SetLines
 pub mod SkippedSpelled
-pub mod Noted
+pub mod Placed

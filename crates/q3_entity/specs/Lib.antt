@@ -1,6 +1,6 @@
 pub mod Entities
 pub mod Baselines
-pub mod KeptLines
+pub mod KeptBaselines
 pub mod Delta
 pub mod Changed
 pub mod Lists

@@ -1,12 +1,10 @@
 //! The states from which new entities are written. Keeps the rule "baselines", the engine's `svEntity_t.baseline` and
 //! `clientActive_t.entityBaselines`.
 
-ghost use Rattle.std.specs.Prelude.{◌≡◌, ◌<◌, ◌≤◌, true, false, [], length, map, slice_set, vec_capacity, IfOk};
-ghost use Rattle.std.specs.Option.{is_some};
-ghost use Rattle.q3_entity.specs.Entities.{zero_entity};
+ghost use Rattle.std.specs.Prelude.{◌≡◌, ◌<◌, ◌≤◌, length, vec_capacity, IfOk};
+ghost use Rattle.std.specs.Option.{is_some, option_copied};
 ghost use Rattle.q3_entity.specs.Baselines.{most_lines, no_lines, set_at, line_of, with_line};
-ghost use Rattle.q3_entity.specs.KeptLines.{shown, IsFull, AreNoted};
-ghost use Rattle.q3_entity.specs.declared.baselines.Line.{Line};
+ghost use Rattle.q3_entity.specs.KeptBaselines.{unplaced, lines_in, AreKept};
 
 use crate::state::EntityState;
 use q3_bits::NoMemory;
@@ -17,32 +15,30 @@ use std::marker::Model;
 /// How many numbers may have a baseline: those below the end mark of the widest table.
 pub const MOST_LINES: u16 = MOST_END;
 
-/// The state of a number, which is the zero state where none was set.
-#[derive(Clone, Copy)]
-pub(crate) struct Line {
-    state: EntityState,
-    set: bool,
-}
+/// The place of a number whose baseline isn't set: no state stands there.
+const NOWHERE: u16 = u16::MAX;
 
-/// A state for some of the numbers below `MOST_LINES`. It has memory of its own, which `new` takes and no other call does.
+/// A state for some of the numbers below `MOST_LINES`. It has memory of its own, which `new` takes and no other call does: two bytes
+/// for each number, and room for as many states, which is written as far as states are set.
 #[derive(Drop)]
 pub struct Baselines {
-    lines: Vec<Line>,
-    /// Those that are set.
-    numbers: Vec<u16>,
+    /// At which place the state of each number stands.
+    places: Vec<u16>,
+    /// The states that are set, in the order in which their numbers came.
+    states: Vec<EntityState>,
 }
 
 impl Model for Baselines {
-    ghost use Rattle.std.specs.Prelude.{◌≤◌, map, vec_capacity};
+    ghost use Rattle.std.specs.Prelude.{◌≤◌, vec_capacity};
     ghost use Rattle.q3_entity.specs.Baselines.{Lines, most_lines};
 
     ghost Value = { Lines };
 
-    ghost use Rattle.q3_entity.specs.KeptLines.{shown, IsFull, AreNoted};
+    ghost use Rattle.q3_entity.specs.KeptBaselines.{lines_in, AreKept};
 
-    ghost view = { λ b. map shown b.lines.items };
+    ghost view = { λ b. lines_in b.places.items b.states.items };
 
-    ghost invariant = { λ b. IsFull b.lines.items × AreNoted b.lines.items b.numbers.items × (most_lines ≤ vec_capacity b.numbers) };
+    ghost invariant = { λ b. AreKept b.places.items b.states.items × (most_lines ≤ vec_capacity b.states) };
 }
 
 impl Baselines {
@@ -50,12 +46,9 @@ impl Baselines {
     pub fn new(alloc: Global) -> Result<Baselines, NoMemory>
         ensures { IfOk result (λ made. made ≡ no_lines) }
     {
-        let mut lines = Vec::with_capacity(alloc, usize::from(MOST_LINES))?;
-        for number in 0..MOST_LINES {
-            lines.push(unset(number))?;
-        }
-        let numbers = Vec::with_capacity(alloc, usize::from(MOST_LINES))?;
-        Ok(Baselines { lines, numbers })
+        let places = no_places(alloc, usize::from(MOST_LINES))?;
+        let states = Vec::with_capacity(alloc, usize::from(MOST_LINES))?;
+        Ok(Baselines { places, states })
     }
 
     /// Sets the baseline of the state's number, or replaces it. The caller hands in a state in normal form.
@@ -63,16 +56,26 @@ impl Baselines {
         requires { state.now.number < most_lines }
         ensures { self.new ≡ with_line self.old state.now }
     {
-        put_line(&mut self.lines, &mut self.numbers, state);
+        put(&mut self.places, &mut self.states, state);
+    }
+
+    /// The baseline of a number, if it was set since `new` or the last `clear`.
+    pub fn get(&self, number: u16) -> Option<&EntityState>
+        ensures set { option_copied result ≡ set_at self.now number }
+        ensures places { length self.now ≡ most_lines }
+    {
+        let place = *self.places.get(usize::from(number))?;
+        self.states.get(usize::from(place))
     }
 
     /// The baseline of a number: the zero state where none was set.
-    pub fn get(&self, number: u16) -> &EntityState
-        requires { number < most_lines }
-        ensures line { result.now ≡ line_of self.now number }
-        ensures places { length self.now ≡ most_lines }
+    pub fn state(&self, number: u16) -> EntityState
+        ensures { result ≡ line_of self.now number }
     {
-        &self.lines[usize::from(number)].state
+        match self.get(number) {
+            Some(state) => *state,
+            None => EntityState::zero(number),
+        }
     }
 
     /// Whether the baseline of a number was set since `new` or the last `clear`.
@@ -80,75 +83,51 @@ impl Baselines {
         ensures set { result ≡ is_some (set_at self.now number) }
         ensures places { length self.now ≡ most_lines }
     {
-        let Some(line) = self.lines.get(usize::from(number)) else {
-            return false;
-        };
-        line.set
+        self.get(number).is_some()
     }
 
     /// Takes all baselines away. It takes as long as there are baselines that are set.
     pub fn clear(&mut self)
         ensures { self.new ≡ no_lines }
     {
-        clear(&mut self.lines, &self.numbers);
-        self.numbers.clear();
+        forget(&mut self.places, &self.states);
+        self.states.clear();
     }
 }
 
-/// What stands for a number without a baseline.
-fn unset(number: u16) -> Line
-    ensures set { result.set ≡ false }
-    ensures state { result.state ≡ zero_entity number }
+/// So many numbers without a state. `Err` is want of memory.
+#[tactic(auto, unfolding(crate::specs::KeptBaselines::unplaced))]
+fn no_places(alloc: Global, count: usize) -> Result<Vec<u16>, NoMemory>
+    ensures { IfOk result (λ places. places.items ≡ unplaced count) }
 {
-    Line {
-        state: EntityState::zero(number),
-        set: false,
-    }
+    vec![in alloc; NOWHERE; count]
 }
 
-/// Sets the line of the state's number, and notes the number, if it wasn't set.
-fn put_line(lines: &mut Vec<Line>, numbers: &mut Vec<u16>, state: &EntityState)
+/// Puts a state over that of its number, or behind all others.
+fn put(places: &mut Vec<u16>, states: &mut Vec<EntityState>, state: &EntityState)
     requires number { state.now.number < most_lines }
-    requires full { IsFull lines.old.items }
-    requires noted { AreNoted lines.old.items numbers.old.items }
-    requires room { most_lines ≤ vec_capacity numbers.old }
-    ensures shown { map shown lines.new.items ≡ with_line (map shown lines.old.items) state.now }
-    ensures full { IsFull lines.new.items }
-    ensures noted { AreNoted lines.new.items numbers.new.items }
-    ensures room { most_lines ≤ vec_capacity numbers.new }
+    requires kept { AreKept places.old.items states.old.items }
+    requires room { most_lines ≤ vec_capacity states.old }
+    ensures lines { lines_in places.new.items states.new.items ≡ with_line (lines_in places.old.items states.old.items) state.now }
+    ensures kept { AreKept places.new.items states.new.items }
+    ensures room { most_lines ≤ vec_capacity states.new }
 {
-    note(lines, numbers, state.number);
-    lines[usize::from(state.number)] = Line {
-        state: *state,
-        set: true,
-    };
-}
-
-/// Notes a number whose line is set next, if it isn't.
-fn note(lines: &[Line], numbers: &mut Vec<u16>, number: u16)
-    requires number { number < most_lines }
-    requires places { length lines.now ≡ most_lines }
-    requires noted { AreNoted lines.now numbers.old.items }
-    requires room { most_lines ≤ vec_capacity numbers.old }
-    ensures noted { (line : Line) → line.set ≡ true → AreNoted (slice_set lines.now number line) numbers.new.items }
-    ensures room { most_lines ≤ vec_capacity numbers.new }
-{
-    if lines[usize::from(number)].set {
+    let number = usize::from(state.number);
+    let place = places[number];
+    if place != NOWHERE {
+        states[usize::from(place)] = *state;
         return;
     }
-    numbers.push(number).unwrap();
+    places[number] = states.len() as u16;
+    states.push(*state).unwrap();
 }
 
-/// Takes the lines of these numbers away.
-fn clear(lines: &mut Vec<Line>, numbers: &[u16])
-    requires full { IsFull lines.old.items }
-    requires noted { AreNoted lines.old.items numbers.now }
-    ensures none { map shown lines.new.items ≡ no_lines }
-    ensures full { IsFull lines.new.items }
-    ensures noted { AreNoted lines.new.items [] }
+/// Takes the places of these states' numbers away.
+fn forget(places: &mut Vec<u16>, states: &[EntityState])
+    requires { AreKept places.old.items states.now }
+    ensures { places.new.items ≡ unplaced most_lines }
 {
-    for k in 0..numbers.len() {
-        let number = numbers[k];
-        lines[usize::from(number)] = unset(number);
+    for state in states {
+        places[usize::from(state.number)] = NOWHERE;
     }
 }

@@ -7,7 +7,8 @@ ghost use Rattle.q3_bits.specs.Streams.{Reads, holding};
 ghost use Rattle.q3_fields.specs.Kinds.{end_mark};
 ghost use Rattle.q3_entity.specs.Entities.{IsList, Rises, run_of, most_entities};
 ghost use Rattle.q3_entity.specs.Baselines.{most_lines};
-ghost use Rattle.q3_entity.specs.Lists.{number_at, entity_list_at, list_skipped};
+ghost use Rattle.std.specs.Option.{is_some, option_copied};
+ghost use Rattle.q3_entity.specs.Lists.{number_at, words_from, entity_list_at, list_skipped};
 ghost use Rattle.q3_entity.specs.declared.state.EntityState.{EntityState};
 ghost use Rattle.q3_entity.specs.Walking.{kept_below, KeepsFront, next_at, entry_at, turn_at, skipped_at, with_kept, reached, first_of};
 
@@ -73,9 +74,37 @@ fn read_turn<'a>(
 {
     let number = cursor.next;
     let (found, others) = take_number(cursor.base, number);
-    let from = found.unwrap_or(baselines.get(number));
-    let count = read_entry(r, table, from, found.is_some(), number, cursor.count, into)?;
+    let count = read_here(r, table, baselines, found, number, cursor.count, into)?;
     read_next(r, table, number + 1, others, count, into)
+}
+
+/// Reads the entry of a number, from the base's entity where it has one, else from the baseline.
+fn read_here(
+    r: &mut Reader,
+    table: &Table,
+    baselines: &Baselines,
+    found: Option<&EntityState>,
+    number: u16,
+    count: usize,
+    into: &mut List,
+) -> Result<usize, EntityError>
+    requires { count ≤ length into.old.items }
+    ensures reads { Reads r.old r.new (entry_at r.old.words table.now (words_from baselines.now number (option_copied found.entry))
+        (is_some (option_copied found.entry)) number (take count into.old.items) r.old.left) (first_of into.new.items result) }
+    ensures within { IfOk result (λ now. now ≤ length into.new.items) }
+{
+    match found {
+        Some(from) => read_entry(r, table, from, true, number, count, into),
+        None => read_entry(
+            r,
+            table,
+            &baselines.state(number),
+            false,
+            number,
+            count,
+            into,
+        ),
+    }
 }
 
 /// Passes over a list whose base isn't there. Its bits, its counts of fields and that its numbers rise are looked at

@@ -145,6 +145,6 @@ fn write_present(
 {
     match from {
         Some(from) => write_entity(w, table, from, entity, false),
-        None => write_entity(w, table, baselines.get(entity.number), entity, true),
+        None => write_entity(w, table, &baselines.state(entity.number), entity, true),
     }
 }

@@ -90,12 +90,11 @@ fn write_baseline(
     ensures { Writes w.old w.new (baseline_bits w.old.words table.now (set_at baselines.now number)) result }
 {
     laws::texts_are_written();
-    if !baselines.is_set(number) {
+    let Some(state) = baselines.get(number) else {
         // what stands there fits the room
         prove!(w.length() > 0);
         return Ok(());
-    }
-    let state = baselines.get(number);
+    };
     w.put_all(&[(BASELINE, 8)])?;
     write_entity(w, table, &EntityState::zero(state.number), state, true)
 }

@@ -33,11 +33,9 @@ pub set_split : (lines : Lines) (k : ℕ) → set_lines lines ≡ set_lines (tak
 set_split lines k = ap (λ all. set_lines all) (sym (take-append-drop k lines)) ∙ filter_map-append (λ line. line) (take k lines) (drop k lines)
 
 -- their texts, up to a number, and behind it
-pub texts_more : (text : EntityState → List ℕ) (lines : Lines) (k : ℕ) → k < length lines → is_some (set_at lines k) ≡ true
-    → flat_map text (set_lines (take (k + 1) lines)) ≡ flat_map text (set_lines (take k lines)) ++ text (line_of lines k)
-texts_more text lines k lt e =
-    ap (λ states. flat_map text states) (set_more lines k lt e) ∙ flat_map-append text (set_lines (take k lines)) (line_of lines k ∷ [])
-    ∙ ap (λ one. flat_map text (set_lines (take k lines)) ++ one) (append-nil (text (line_of lines k)))
+pub texts_more : (text : EntityState → List ℕ) (lines : Lines) (k : ℕ) → k < length lines
+    → flat_map text (set_lines (take (k + 1) lines)) ≡ flat_map text (set_lines (take k lines)) ++ flat_map text (set_lines (set_at lines k ∷ []))
+texts_more text lines k lt = ap (λ states. flat_map text states) (more lines k lt) ∙ flat_map-append text (set_lines (take k lines)) (set_lines (set_at lines k ∷ []))
 
 pub texts_split : (text : EntityState → List ℕ) (lines : Lines) (k : ℕ) → flat_map text (set_lines lines) ≡ flat_map text (set_lines (take k lines)) ++ flat_map text (set_lines (drop k lines))
 texts_split text lines k = ap (λ states. flat_map text states) (set_split lines k) ∙ flat_map-append text (set_lines (take k lines)) (set_lines (drop k lines))

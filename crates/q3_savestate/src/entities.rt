@@ -1,9 +1,10 @@
 //! Entities and baselines as bytes.
 
-ghost use Rattle.std.specs.Prelude.{◌≡◌, ◌<◌, length, replicate};
+ghost use Rattle.std.specs.Prelude.{◌≡◌, ◌<◌, [], ◌∷◌, length, replicate};
+ghost use Rattle.std.specs.List.{flat_map};
 ghost use Rattle.q3_io.specs.Faults.{HasCause};
 ghost use Rattle.q3_io.specs.Written.{Adds};
-ghost use Rattle.q3_entity.specs.Baselines.{no_lines};
+ghost use Rattle.q3_entity.specs.Baselines.{most_lines, no_lines, set_at};
 ghost use Rattle.q3_savestate.specs.Cursor.{found_in};
 ghost use Rattle.q3_savestate.specs.Entities.{words_bytes, state_words_at, entity_bytes, entity_at, set_lines, lines_bytes, lines_at};
 
@@ -87,11 +88,26 @@ pub(crate) fn write_lines<O: Sink>(
     laws::texts_follow();
     write_short(count_set(baselines), out)?;
     for number in 0..MOST_LINES {
-        if baselines.is_set(number) {
-            write_entity(table, baselines.get(number), out)?;
-        }
+        write_baseline(table, baselines, number, out)?;
     }
     Ok(())
+}
+
+/// Writes the baseline of a number, if it is set.
+fn write_baseline<O: Sink>(
+    table: &Table,
+    baselines: &Baselines,
+    number: u16,
+    out: &mut O,
+) -> Result<(), Failed>
+    ensures adds { Adds (O.written out.old) (O.written out.new) (flat_map (entity_bytes table.now) (set_lines (set_at baselines.now number ∷ []))) result }
+    ensures cause { HasCause (O.faults out.old) (O.faults out.new) result }
+    ensures places { length baselines.now ≡ most_lines }
+{
+    match baselines.get(number) {
+        Some(state) => write_entity(table, state, out),
+        None => Ok(()),
+    }
 }
 
 /// Reads baselines.

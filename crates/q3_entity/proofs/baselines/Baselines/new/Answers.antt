@@ -1,21 +1,20 @@
-use Rattle.std.proofs.Common.{◌≡◌, ◌≤◌, ◌∙◌, ap, List, [], length, map, replicate, None, sym, subst, rules, arith}
-use Rattle.std.specs.Vec.{vec_capacity}
-use Rattle.q3_entity.specs.Baselines.{most_lines, no_lines}
-use Rattle.q3_entity.specs.KeptLines.{shown, AreNoted}
-use Rattle.q3_entity.proofs.Noted.{new-noted}
+use Rattle.std.proofs.Common.{◌≡◌, ◌≤◌, ◌∙◌, ap, List, ℕ, [], rules, subst, sym}
+use Rattle.std.specs.Prelude.{vec_capacity}
+use Rattle.q3_entity.specs.declared.state.EntityState.{EntityState}
+use Rattle.q3_entity.specs.Baselines.{most_lines}
+use Rattle.q3_entity.specs.KeptBaselines.{unplaced, lines_in, AreKept}
+use Rattle.q3_entity.proofs.Placed.{none_in, none_kept}
 use Rattle.q3_entity.proofs.baselines.Baselines.new.Goals as goal
-
-pub returns : goal.returns
-returns c =
-    let all : c.loop-number.number ≡ most_lines = omega arith in
-    c.loop-number.invariant.none ∙ ap (λ n. replicate n None) all
 
 pub invariant_of-result : goal.invariant_of-result
 invariant_of-result c =
-    let lines = c.loop-number.lines.items in
-    let all : c.loop-number.number ≡ most_lines = omega arith in
-    let places : length lines ≡ most_lines = omega (arith, c.loop-number.invariant.places) in
-    let none : map shown lines ≡ no_lines = c.loop-number.invariant.none ∙ ap (λ n. replicate n None) all in
-    let empty : c.in_ok-numbers.numbers.items ≡ [] = search rules in
-    let room : most_lines ≤ vec_capacity c.in_ok-numbers.numbers = search rules in
-    (record { places = places; kept = c.loop-number.invariant.kept }, subst (AreNoted lines) (sym empty) (new-noted lines none places), room)
+    let places : c.in_ok-places.places.items ≡ unplaced most_lines = search rules in
+    let states : c.in_ok-states.states.items ≡ [] = search rules in
+    let room : most_lines ≤ vec_capacity c.in_ok-states.states = search rules in
+    (subst (λ (ps : List ℕ). AreKept ps c.in_ok-states.states.items) (sym places) (subst (AreKept (unplaced most_lines)) (sym states) none_kept), room)
+
+pub returns : goal.returns
+returns c =
+    let places : c.in_ok-places.places.items ≡ unplaced most_lines = search rules in
+    let states : c.in_ok-states.states.items ≡ [] = search rules in
+    ap (λ (ps : List ℕ). lines_in ps c.in_ok-states.states.items) places ∙ ap (λ (ss : List EntityState). lines_in (unplaced most_lines) ss) states ∙ none_in
