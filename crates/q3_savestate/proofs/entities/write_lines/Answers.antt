@@ -1,8 +1,7 @@
-use Rattle.std.proofs.Common.{◌≡◌, ◌+◌, ◌<◌, ◌++◌, ◌∷◌, [], length, drop, true, false, arith, refl, ap, ◌∙◌, rules}
+use Rattle.std.proofs.Common.{◌+◌, ◌<◌, ◌++◌, length, drop, false, arith, refl, ap, ◌∙◌, rules}
 use Rattle.std.specs.List.{flat_map}
 use Rattle.std.proofs.lemmas.Result.{err_from_is_err_and}
 use Rattle.byteorder.specs.Endian.{little_bytes}
-use Rattle.q3_entity.specs.Baselines.{set_at}
 use Rattle.q3_savestate.specs.Entities.{entity_bytes, set_lines}
 use Rattle.q3_savestate.proofs.SetLines.{texts_more, texts_split}
 use Rattle.q3_savestate.proofs.entities.write_lines.Goals as goal
