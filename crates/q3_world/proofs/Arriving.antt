@@ -95,14 +95,10 @@ Read = Result Reception Illegible
 
 -- where nothing came whole, nothing is read
 pub quiet_same : (client : ClientState) (answer : Gathered) (read other : ℕ → Read) → IsQuiet answer → take_answer client answer read ≡ take_answer client answer other
-quiet_same client (gathered.Whole number count) read other is = absurd is
 quiet_same client gathered.Partial read other is = refl
 quiet_same client gathered.Old read other is = refl
 quiet_same client gathered.OutOfOrder read other is = refl
-quiet_same client gathered.BadFragment read other is = absurd is
-quiet_same client gathered.BadCheck read other is = absurd is
-quiet_same client gathered.Runt read other is = absurd is
-quiet_same client gathered.Connectionless read other is = absurd is
+quiet_same client answer read other is = absurd is
 
 -- the client is as it was, and accepts, executes and applies nothing
 pub record Unmoved (client : ClientState) (taken : Taken) : Type 0 where
@@ -112,14 +108,10 @@ pub record Unmoved (client : ClientState) (taken : Taken) : Type 0 where
   pub game : (section : Told) → game_in taken.answer section ≡ None
 
 pub quiet_client : (client : ClientState) (answer : Gathered) (read : ℕ → Read) → IsQuiet answer → Unmoved client (take_answer client answer read)
-quiet_client client (gathered.Whole number count) read is = absurd is
 quiet_client client gathered.Partial read is = record { client_is = refl; accepted = refl; heard = refl; game = λ section. refl }
 quiet_client client gathered.Old read is = record { client_is = refl; accepted = refl; heard = refl; game = λ section. refl }
 quiet_client client gathered.OutOfOrder read is = record { client_is = refl; accepted = refl; heard = refl; game = λ section. refl }
-quiet_client client gathered.BadFragment read is = absurd is
-quiet_client client gathered.BadCheck read is = absurd is
-quiet_client client gathered.Runt read is = absurd is
-quiet_client client gathered.Connectionless read is = absurd is
+quiet_client client answer read is = absurd is
 
 -- what comes whole is received as the message that was built
 pub taken_alike : (profile : Profile) (client : ClientState) (took : Took) (number : ℕ) (built : Built)
@@ -408,14 +400,10 @@ Heard = Result Came ClientIllegible
 
 -- where nothing came whole, nothing is read
 pub quiet_heard : (map : MapState) (slot : SlotState) (c : ℕ) (answer : Gathered) (read other : ℕ → Heard) → IsQuiet answer → by_slot.take_answer map slot c answer read ≡ by_slot.take_answer map slot c answer other
-quiet_heard map slot c (gathered.Whole number count) read other is = absurd is
 quiet_heard map slot c gathered.Partial read other is = refl
 quiet_heard map slot c gathered.Old read other is = refl
 quiet_heard map slot c gathered.OutOfOrder read other is = refl
-quiet_heard map slot c gathered.BadFragment read other is = absurd is
-quiet_heard map slot c gathered.BadCheck read other is = absurd is
-quiet_heard map slot c gathered.Runt read other is = absurd is
-quiet_heard map slot c gathered.Connectionless read other is = absurd is
+quiet_heard map slot c answer read other is = absurd is
 
 -- the slot is as it was, and executes and runs nothing
 pub record Idle (slot : SlotState) (taken : by_slot.SlotTaken) : Type 0 where
@@ -424,14 +412,10 @@ pub record Idle (slot : SlotState) (taken : by_slot.SlotTaken) : Type 0 where
   pub moves : taken.moves ≡ []
 
 pub quiet_slot : (map : MapState) (slot : SlotState) (c : ℕ) (answer : Gathered) (read : ℕ → Heard) → IsQuiet answer → Idle slot (by_slot.take_answer map slot c answer read)
-quiet_slot map slot c (gathered.Whole number count) read is = absurd is
 quiet_slot map slot c gathered.Partial read is = record { slot_is = refl; commands = refl; moves = refl }
 quiet_slot map slot c gathered.Old read is = record { slot_is = refl; commands = refl; moves = refl }
 quiet_slot map slot c gathered.OutOfOrder read is = record { slot_is = refl; commands = refl; moves = refl }
-quiet_slot map slot c gathered.BadFragment read is = absurd is
-quiet_slot map slot c gathered.BadCheck read is = absurd is
-quiet_slot map slot c gathered.Runt read is = absurd is
-quiet_slot map slot c gathered.Connectionless read is = absurd is
+quiet_slot map slot c answer read is = absurd is
 
 -- what comes whole is read as what the message that was said is to the map
 pub heard_alike : (profile : Profile) (map : MapState) (slot : SlotState) (c : ℕ) (took : Took) (number : ℕ) (said : Said)
