@@ -388,14 +388,10 @@ Applies profile sent number before now c applied history =
 -- where nothing came whole, nothing is answered as applied
 quiet_applies : (client : ClientState) (answer : Gathered) (apply : ℕ → Result Reception Illegible) (applied : AppliedSo) → IsQuiet answer
     → (take_answer client answer apply).answer ≡ Applied applied → ⊥
-quiet_applies client (CameWhole number count) apply applied is e = is
 quiet_applies client gathered.Partial apply applied is e = absurd cc
 quiet_applies client gathered.Old apply applied is e = absurd cc
 quiet_applies client gathered.OutOfOrder apply applied is e = absurd cc
-quiet_applies client gathered.BadFragment apply applied is e = is
-quiet_applies client gathered.BadCheck apply applied is e = is
-quiet_applies client gathered.Runt apply applied is e = is
-quiet_applies client gathered.Connectionless apply applied is e = is
+quiet_applies client answer apply applied is e = is
 
 -- of a message that came whole
 applied_whole : (profile : Profile) (whole : Whole) (number c : ℕ) (applied : AppliedSo) (tag : Tag) (place : Place) (recording : Option RecordingState) (next : ClientState) → length whole.ends.clients ≡ places → tag.client < places

@@ -121,10 +121,8 @@ may_become ring accepted (Some base) =
 
 -- and a gamestate has none
 may_become_in : (ring : ℕ) (accepted : List Snapshot) (base : Option Snapshot) (section : Told) → MayBecome (outcome_in ring accepted base section)
-may_become_in ring accepted base told.Nothing = tt
-may_become_in ring accepted base (told.Game game) = tt
 may_become_in ring accepted base (told.Snap number head entities) = may_become ring accepted base
-may_become_in ring accepted base (told.Skipped number) = tt
+may_become_in ring accepted base section = tt
 
 -- what a client makes of a piece: nothing came whole, or its message did, and was applied
 legible_took : (profile : Profile) (n : ℕ) (client now : ClientState) (answer : Gathered) (built : Built)
