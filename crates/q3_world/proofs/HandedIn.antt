@@ -1,5 +1,5 @@
 -- What the game hands in keeps what holds.
-use Rattle.std.proofs.Common.{◌≡◌, ℕ, ◌^◌, ◌<◌, ◌≤◌, true, false, Bool, cond, List, ◌++◌, length, get_or, Option, Some, None, Ok, Err, refl, sym, ap, subst, ◌∙◌, inl, inr, arith}
+use Rattle.std.proofs.Common.{◌≡◌, ℕ, ◌^◌, ◌<◌, ◌≤◌, true, false, Bool, cond, List, [], ◌++◌, length, get_or, Option, Some, None, Ok, Err, refl, sym, ap, subst, ◌∙◌, inl, inr, arith}
 use Rattle.std.specs.Prelude.{◌==◌, if◌then◌else◌, not, nat_le, nat_lt, position, All}
 use Rattle.std.specs.List.{position_or_len}
 use Rattle.std.proofs.lemmas.Bool.{cases_Bool, cases_lt, cond_both, leb-false, lt-leb, ltb-false, not-false, eqb-false}
@@ -30,6 +30,7 @@ use Rattle.q3_client.specs.Moves.{Handed as HandedMove, is_issuable, issue}
 use Rattle.q3_map.specs.declared.map.Late.{Late}
 use Rattle.q3_map.specs.Map.{MapState, Handed as HandedMap, after_new_map, set_baseline_at, with_config, with_entity, without_entity}
 use Rattle.q3_built.specs.Built.{Built, IsHeld, IsArea}
+use Rattle.q3_slot.specs.declared.stage.ClientStage.TheVariants.{Connected}
 use Rattle.q3_slot.specs.Slot.{new_slot, SlotState, is_connected, is_of, on_new_map, with_player}
 use Rattle.q3_slot.specs.Slots.{changes_own, lacks_room, tells}
 use Rattle.q3_server.specs.declared.server.ConfigRefused.{ConfigRefused}
@@ -53,7 +54,7 @@ use Rattle.q3_world.specs.World.{Whole, History, no_history, history_at, with_hi
 use Rattle.q3_world.proofs.MoveLists.{is_move}
 use Rattle.q3_world.proofs.Ranged.{in_range_or}
 use Rattle.q3_world.proofs.Growth.{Grow, HistoryGrows, HistoryGrows-same, HistoryGrows-beside}
-use Rattle.q3_world.proofs.Clients.{no_area, KeepsSlot-told}
+use Rattle.q3_world.proofs.Clients.{no_area, KeepsSlot-given, KeepsSlot-stands, KeepsSlot-told}
 use Rattle.q3_world.proofs.Joined.{TakesSaid-same}
 use Rattle.q3_world.proofs.Holding.{with_new, Holds, has_client, Holds-new, same_server}
 use Rattle.q3_world.proofs.Given.{with_new_slot, Holds-player, Holds-area, with_map, Holds-map, joined_stays, Holds-issued}
@@ -154,21 +155,8 @@ holds_removed profile whole number cited holds =
 slot_on_map : (profile : Profile) (slot : SlotState) (qport host : ℕ) (built : List Built) (run : List Move) (commands : List (List ℕ)) → IsHeld profile zero_player
     → KeepsSlot profile slot qport host built run commands → KeepsSlot profile (on_new_map slot) qport host built run commands
 slot_on_map profile slot qport host built run commands first keeps =
-    record {
-      qport = keeps.qport;
-      host = keeps.host;
-      sending = keeps.sending;
-      player = first;
-      area = no_area;
-      built = keeps.built;
-      bases = keeps.bases;
-      from = keeps.from;
-      last = keeps.last;
-      rise = keeps.rise;
-      window = keeps.window;
-      texts = keeps.texts;
-      own = keeps.own;
-    }
+    KeepsSlot-given profile (record slot { stage = Connected; game = None; owed = false; delta = 0 }) qport host built run commands zero_player (record { items = [] }) first no_area
+    (KeepsSlot-stands profile slot qport host built run commands Connected None false 0 keeps)
 
 -- what joins its ends
 joined_on_map : (profile : Profile) (map : MapState) (slot : SlotState) (client : ClientState) (history : History) (id feed : ℕ) → map.id < id → AreJoined profile map slot client history
