@@ -20,6 +20,7 @@ use Rattle.q3_text.specs.Texts.{IsText}
 use Rattle.q3_config.specs.declared.error.ConfigError.{ConfigError}
 use Rattle.q3_config.specs.Strings.{with_string, admit_fault}
 use Rattle.q3_config.specs.Laws.{piece_texts}
+use Rattle.q3_config.proofs.Faults.{Admitted, admitted}
 use Rattle.q3_window.specs.Outgoing.{IsOutgoing, fits as has_room, total_of, with_texts}
 use Rattle.q3_clmsg.specs.declared.moves.Move.{Move}
 use Rattle.q3_clmsg.specs.Moves.{IsHeldMove}
@@ -59,7 +60,7 @@ use Rattle.q3_world.proofs.Joined.{TakesSaid-same}
 use Rattle.q3_world.proofs.Holding.{with_new, Holds, has_client, Holds-new, same_server}
 use Rattle.q3_world.proofs.Given.{with_new_slot, Holds-player, Holds-area, with_map, Holds-map, joined_stays, Holds-issued}
 use Rattle.q3_world.proofs.EverySlot.{LeavesClient, Holds-every}
-use Rattle.q3_world.proofs.Maps.{MayGoOut, may_go_out, pieces_own}
+use Rattle.q3_world.proofs.Maps.{pieces_own}
 use Rattle.q3_world.proofs.GamesBuilt.{AreMapped-new}
 use Rattle.q3_world.proofs.GamesMaps.{AreMapped-map, AreMapped-given, AreMapped-configured, AreMapped-lined}
 use Rattle.q3_world.proofs.Mapped.{mapped_issued}
@@ -367,28 +368,28 @@ holds_config profile whole index text cited bytes holds =
     (λ own. holds)
     (λ other. of_fault (eqb-false index own_string other) (admit_fault server.map.strings index text) refl)
   where
-    told : (index ≡ 1 → ⊥) → MayGoOut whole.ends.server.map.strings index text → admit_fault whole.ends.server.map.strings index text ≡ None → position (lacks_room (piece_texts index text)) whole.ends.server.slots ≡ None
+    told : (index ≡ 1 → ⊥) → Admitted whole.ends.server.map.strings index text → admit_fault whole.ends.server.map.strings index text ≡ None → position (lacks_room (piece_texts index text)) whole.ends.server.slots ≡ None
         → Holds profile (config_changed whole index text)
-    told other may admitted none =
+    told other may fault none =
         Holds-config profile whole index text cited
-        (cited.maps.configured profile whole.ends.server.map index text other admitted holds.facts.map)
+        (cited.maps.configured profile whole.ends.server.map index text other fault holds.facts.map)
         (record {
           room = λ c lt. none_passes (lacks_room (piece_texts index text)) whole.ends.server.slots none c None (omega (arith, lt, holds.facts.slots));
-          are = cited.configs.pieces whole.ends.server.map.strings index text admitted;
+          are = cited.configs.pieces whole.ends.server.map.strings index text fault;
           own = pieces_own cited.configs.read index text other may.within may.carried;
         }) holds
 
-    of_place : (index ≡ 1 → ⊥) → MayGoOut whole.ends.server.map.strings index text → admit_fault whole.ends.server.map.strings index text ≡ None → is_same whole.ends.server.map index text ≡ false → (found : Option ℕ)
+    of_place : (index ≡ 1 → ⊥) → Admitted whole.ends.server.map.strings index text → admit_fault whole.ends.server.map.strings index text ≡ None → is_same whole.ends.server.map index text ≡ false → (found : Option ℕ)
         → position (lacks_room (piece_texts index text)) whole.ends.server.slots ≡ found → Configured profile whole index text (change_unless whole.ends.server index text found)
-    of_place other may admitted changed (Some c) found = holds
-    of_place other may admitted changed None found = rw changed (told other may admitted found)
+    of_place other may fault changed (Some c) found = holds
+    of_place other may fault changed None found = rw changed (told other may fault found)
 
     of_fault : (index ≡ 1 → ⊥) → (fault : Option ConfigError) → admit_fault whole.ends.server.map.strings index text ≡ fault → Configured profile whole index text (change_or whole.ends.server index text fault)
     of_fault other (Some fault) refused = holds
-    of_fault other None admitted =
+    of_fault other None none =
         elim (cases_Bool (is_same whole.ends.server.map index text)) [
           | inl same ↦ rw same (rw same holds)
-          | inr changed ↦ rw changed (of_place other (may_go_out whole.ends.server.map.strings index text admitted) admitted changed (position (lacks_room (piece_texts index text)) whole.ends.server.slots) refl)
+          | inr changed ↦ rw changed (of_place other (admitted whole.ends.server.map.strings index text none) none changed (position (lacks_room (piece_texts index text)) whole.ends.server.slots) refl)
         ]
 
 -- ---- moves
