@@ -87,7 +87,7 @@ holds_join profile whole c challenge qport dup address cited lt fits holds =
       | inl none ↦ rw none (elim (found_or (position (is_of address.host qport) slots)) [
         | inl alone ↦
             rw alone (subst (λ (p : Profile). Holds profile (with_new whole c challenge qport address (new_slot p.protocol challenge qport address) (new_client profile challenge qport dup))) (sym holds.facts.by)
-            (Holds-new cited.rings cited.windows profile whole c challenge qport dup address cited.ring cited.sends cited.gathers cited.first cited.zero lt fits none alone
+            (Holds-new cited.below.rings cited.below.windows profile whole c challenge qport dup address cited.ring cited.below.sends cited.below.gathers cited.first cited.zero lt fits none alone
             (AreMapped-new profile challenge qport address whole.ends.server.map) holds))
         | inr twin ↦ rw twin.1 (unnoted profile whole c holds)
       ])
@@ -123,7 +123,7 @@ holds_given profile whole time entities is holds =
 pub holds_time : (profile : Profile) (whole : Whole) (time : ℕ) → Cited profile → time < 2 ^ 32 → Holds profile whole → Holds profile (record whole { ends = (to_server whole.ends (at_server.set_time whole.ends.server time)).ends })
 holds_time profile whole time cited short holds =
     let map = whole.ends.server.map in
-    holds_given profile whole time map.entities (cited.maps.timed profile map time short holds.facts.map) holds
+    holds_given profile whole time map.entities (cited.below.maps.timed profile map time short holds.facts.map) holds
 
 -- a line about an entity, whose number is below the end mark where it does something
 in_range_holds : (profile : Profile) (whole : Whole) (number : ℕ) (refusal : HandedIn) (step : ServerStep) → Holds profile whole
@@ -141,14 +141,14 @@ holds_entity profile whole state cited words holds =
     let entity = normal_entity profile.entity state in
     in_range_holds profile whole state.number (answers.Entity state.number (Err (record {}))) (at_server.set_entity server state) holds (λ lt.
     subst (λ (p : Profile). Holds profile (with_map whole (record server.map { entities = with_entity (normal_entity p.entity state) server.map.entities }))) (sym facts.by)
-    (holds_given profile whole server.map.time (with_entity entity server.map.entities) (cited.maps.entered profile server.map state cited.codec lt words facts.map) holds))
+    (holds_given profile whole server.map.time (with_entity entity server.map.entities) (cited.below.maps.entered profile server.map state cited.codec lt words facts.map) holds))
 
 pub holds_removed : (profile : Profile) (whole : Whole) (number : ℕ) → Cited profile → Holds profile whole
     → Holds profile (record whole { ends = (to_server whole.ends (at_server.remove_line whole.ends.server number)).ends })
 holds_removed profile whole number cited holds =
     let server = whole.ends.server in
     in_range_holds profile whole number (answers.Remove number (Err (record {}))) (at_server.remove_entity server number) holds (λ lt.
-    holds_given profile whole server.map.time (without_entity number server.map.entities) (cited.maps.removed profile server.map number holds.facts.map) holds)
+    holds_given profile whole server.map.time (without_entity number server.map.entities) (cited.below.maps.removed profile server.map number holds.facts.map) holds)
 
 -- ---- maps
 
@@ -185,7 +185,7 @@ holds_new_map profile whole id feed cited least short holds =
           rw later (Holds-every profile whole (after_new_map map id feed) on_new_map whole.histories
           (record {
             leaves = record { host = λ slot. refl; qport = λ slot. refl };
-            is = cited.maps.new_map profile map id feed least short holds.facts.map;
+            is = cited.below.maps.new_map profile map id feed least short holds.facts.map;
             count = holds.facts.histories;
             grows = λ c. HistoryGrows-same (history_at whole.histories c);
             built = λ c lt. refl;
@@ -217,7 +217,7 @@ holds_baseline profile whole state cited words holds =
     (λ (handed : HandedMap Late). IsMap profile handed.map → Holds profile (with_map whole handed.map))
     (λ begun is. holds)
     (λ before is. Holds-map profile whole next is (joined_stays profile map next (AreMapped-lined map (with_line map.lines entity) before)) holds)
-    (cited.maps.lined profile map state cited.codec lt words holds.facts.map)))
+    (cited.below.maps.lined profile map state cited.codec lt words holds.facts.map)))
 
 -- ---- config strings
 
@@ -333,10 +333,10 @@ Holds-config profile whole index text cited is may holds =
           ∙ (ap (λ (s : Option SlotState). told_history texts s (history_at whole.histories c)) none ∙ ap (λ (h : History). told_history texts None h) nothing);
       keeps = λ c slot place lt had.
           subst (AreEnds profile (tells texts slot) place.client place.address) (sym (noted c slot lt had.slot_is))
-          (ends_told cited.windows profile slot place.client (history_at whole.histories c) texts (lacks c slot lt had.slot_is) may.are may.own place.address had.keeps);
+          (ends_told cited.below.windows profile slot place.client (history_at whole.histories c) texts (lacks c slot lt had.slot_is) may.are may.own place.address had.keeps);
       joins = λ c slot place lt had.
           subst (AreJoined profile next (tells texts slot) place.client) (sym (noted c slot lt had.slot_is))
-          (joins_told cited.windows profile slot place.client (history_at whole.histories c) texts (lacks c slot lt had.slot_is) may.are may.own next had.keeps.of_slot.window
+          (joins_told cited.below.windows profile slot place.client (history_at whole.histories c) texts (lacks c slot lt had.slot_is) may.are may.own next had.keeps.of_slot.window
           (joined_stays profile server.map next (AreMapped-configured server.map (with_string server.map.strings index text)) (Some slot) (Some place) (history_at whole.histories c) had.joined));
     }) holds
   where
@@ -372,11 +372,11 @@ holds_config profile whole index text cited bytes holds =
         → Holds profile (config_changed whole index text)
     told other may fault none =
         Holds-config profile whole index text cited
-        (cited.maps.configured profile whole.ends.server.map index text other fault holds.facts.map)
+        (cited.below.maps.configured profile whole.ends.server.map index text other fault holds.facts.map)
         (record {
           room = λ c lt. none_passes (lacks_room (piece_texts index text)) whole.ends.server.slots none c None (omega (arith, lt, holds.facts.slots));
-          are = cited.configs.pieces whole.ends.server.map.strings index text fault;
-          own = pieces_own cited.configs.read index text other may.within may.carried;
+          are = cited.below.configs.pieces whole.ends.server.map.strings index text fault;
+          own = pieces_own cited.below.configs.read index text other may.within may.carried;
         }) holds
 
     of_place : (index ≡ 1 → ⊥) → Admitted whole.ends.server.map.strings index text → admit_fault whole.ends.server.map.strings index text ≡ None → is_same whole.ends.server.map index text ≡ false → (found : Option ℕ)
@@ -450,7 +450,7 @@ holds_say profile whole c text cited is lt holds =
             | inr other ↦ rw other (elim (cases_Bool (is_connected slot.stage)) [
               | inl waits ↦ rw waits (slot_alone profile whole c slot found.1 holds)
               | inr begun ↦ rw begun (elim (cases_Bool (has_room slot.issued 1 (length text))) [
-                | inl room ↦ rw room (Holds-spoken cited.windows profile whole c slot text lt found.1 room is other holds)
+                | inl room ↦ rw room (Holds-spoken cited.below.windows profile whole c slot text lt found.1 room is other holds)
                 | inr full ↦ rw full (slot_alone profile whole c slot found.1 holds)
               ])
             ])
@@ -472,7 +472,7 @@ holds_type profile whole c text cited is lt holds =
       | inl none ↦ rw none (unnoted profile whole c holds)
       | inr found ↦
           rw found.1 (elim (cases_Bool (has_room found.0.client.issued 1 (length text))) [
-            | inl room ↦ rw room (Holds-typed cited.windows profile whole c found.0 text lt found.1 room is holds)
+            | inl room ↦ rw room (Holds-typed cited.below.windows profile whole c found.0 text lt found.1 room is holds)
             | inr full ↦ rw full (left_alone profile whole c found.0 whole.sent found.1 refl holds)
           ])
     ]
