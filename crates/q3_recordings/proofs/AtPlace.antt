@@ -28,7 +28,7 @@ use Rattle.q3_ends.specs.Recording.{asking, begin_at, new_recording, note_taken,
 use Rattle.q3_world.specs.declared.made.Direction.{Direction}
 use Rattle.q3_world.specs.declared.made.Direction.TheVariants.{ToClient, ToServer}
 use Rattle.q3_world.specs.declared.places.Place.{Place}
-use Rattle.q3_world.specs.Ends.{Ends, client_takes, hand_server_of, joined, line_of, Line, Hands, Serves, Sends, Delivers, TellsBytes, HandsBytes, place_at, record_of, set_port_of, stop_of, to_client, with_place}
+use Rattle.q3_world.specs.Ends.{Ends, client_takes, hand_server_of, joined, line_of, Line, Sends, place_at, record_of, set_port_of, stop_of, to_client, with_place}
 use Rattle.q3_world.specs.Kept.{Kept, SentBytes, arrive_at, deliver_at, kept_line, kept_send, kept_step}
 use Rattle.q3_schedules.specs.Recorded.{bytes_for, sent_for, sent_to}
 use Rattle.q3_schedules.proofs.SlotsStay.{HaveSlots, joins, there, within}
@@ -216,30 +216,17 @@ goes_on profile laws kept have (events.Client d challenge qport dup address) =
     joins_there profile kept.profile kept.ends added.server d (record { client = new_client kept.profile challenge qport dup; address = address; recording = None }) added.answer
     (record { challenge = challenge; qport = qport; dup = dup; is = refl }) facts.free have
 goes_on profile laws kept have (events.Port d port) = sets_port profile kept.profile kept.ends d port (place_at kept.ends d) refl
-goes_on profile laws kept have (events.Map id feed) = nobody_changes profile kept.profile refl
-goes_on profile laws kept have (events.Config index text) = nobody_changes profile kept.profile refl
-goes_on profile laws kept have (events.Baseline state) = nobody_changes profile kept.profile refl
-goes_on profile laws kept have (events.Entity state) = nobody_changes profile kept.profile refl
-goes_on profile laws kept have (events.Remove number) = nobody_changes profile kept.profile refl
-goes_on profile laws kept have (events.Time time) = nobody_changes profile kept.profile refl
-goes_on profile laws kept have (events.Player d player) = nobody_changes profile kept.profile refl
-goes_on profile laws kept have (events.Area d area) = nobody_changes profile kept.profile refl
-goes_on profile laws kept have (events.Say d text) = nobody_changes profile kept.profile refl
 goes_on profile laws kept have (events.TypeText d text) =
     hands_line profile kept.profile kept.ends d (handed.TypeText d (Err untyped.NoClient)) (λ client. at_client.type_text client d text) (λ client. laws.types client text) (place_at kept.ends d) refl
 goes_on profile laws kept have (events.Move d one) =
     hands_line profile kept.profile kept.ends d (handed.Move d (Err refused.NoClient)) (λ client. at_client.add_move client d one) (λ client. laws.moves client one) (place_at kept.ends d) refl
-goes_on profile laws kept have (events.Serve d) = nobody_changes profile kept.profile refl
 goes_on profile laws kept have (events.Send d) = sends_at profile kept.profile laws kept d (place_at kept.ends d) refl
 goes_on profile laws kept have (events.Deliver number) = delivers_at profile kept.profile kept.ends number (slice_get kept.datagrams (number - 1))
 goes_on profile laws kept have (events.RecordTo d name) = records_at profile kept.profile kept.ends d name (place_at kept.ends d) refl
 goes_on profile laws kept have (events.Stop d) = stops_at profile kept.profile kept.ends d (place_at kept.ends d) refl
-goes_on profile laws kept have (events.Show d) = nobody_changes profile kept.profile refl
-goes_on profile laws kept have (events.Bytes number) = nobody_changes profile kept.profile refl
 goes_on profile laws kept have (events.Toclient d bytes) = takes_there profile kept.profile kept.ends d (fronts.Toclient d) bytes (place_at kept.ends d) refl
 goes_on profile laws kept have (events.Toserver d bytes) = hands_server profile kept.profile kept.ends d bytes (place_at kept.ends d)
-goes_on profile laws kept have (events.At ms) = nobody_changes profile kept.profile refl
-goes_on profile laws kept have (events.End ms) = nobody_changes profile kept.profile refl
+goes_on profile laws kept have event = nobody_changes profile kept.profile refl
 
 -- a client that is there stays there
 pub goes_on_at : (profile : Profile) → ClientLaws profile → (kept : Kept) → HaveSlots kept.ends → (event : Event) (c : ℕ) (place : Place) → place_at kept.ends c ≡ Some place
@@ -272,16 +259,12 @@ all_sound profile laws kept by have event sound = λ c place at. by_old c place 
 
 -- the profile stays
 line_profile : (kept : Kept) (line : Line) → (kept_line kept line).kept.profile ≡ kept.profile
-line_profile kept (Hands step) = refl
-line_profile kept (Serves c) = refl
 line_profile kept (Sends c) = sends (place_at kept.ends c)
   where
     sends : (found : Option Place) → (kept_send kept c found).kept.profile ≡ kept.profile
     sends None = refl
     sends (Some place) = refl
-line_profile kept (Delivers number) = refl
-line_profile kept (TellsBytes number) = refl
-line_profile kept (HandsBytes c step) = refl
+line_profile kept line = refl
 
 pub profile_kept : (kept : Kept) (event : Event) → (kept_step kept event).kept.profile ≡ kept.profile
 unfolding kept_step

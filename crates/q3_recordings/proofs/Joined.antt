@@ -47,11 +47,6 @@ line_keeps : (profile : Profile) → ClientLaws profile → (end : ClientEnd) (e
 line_keeps profile laws end (events.TypeText c text) number = laws.types end.client text
 line_keeps profile laws end (events.Move c one) number = laws.moves end.client one
 line_keeps profile laws end (events.Send c) number = laws.emits end.client (waits_in end.recording)
-line_keeps profile laws end (events.Client c challenge qport dup address) number = keeps_same profile end.client
-line_keeps profile laws end (events.RecordTo c name) number = keeps_same profile end.client
-line_keeps profile laws end (events.Stop c) number = keeps_same profile end.client
-line_keeps profile laws end (events.Show c) number = keeps_same profile end.client
-line_keeps profile laws end (events.End ms) number = keeps_same profile end.client
 line_keeps profile laws end other number = keeps_same profile end.client
 
 -- what becomes of the client, and what is noted

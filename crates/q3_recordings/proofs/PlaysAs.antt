@@ -278,12 +278,10 @@ from_named first base e = elim (cases_lt 0 base) [
 
 section_names : (first : ℕ) (state : AppliedState) (number : ℕ) (section : Told) → state.held.newest < number
     → is_before first (apply_section state number section).answer.snap ≡ false → NamesSince first section
-section_names first state number Nothing newer e = tt
-section_names first state number (Game game) newer e = tt
 section_names first state number (Snap base head entities) newer e =
     let here = if_fresh state.held number (passes state number Stale) (accepts state number base (record { head = head; entities = entities })) newer in
     from_named first base (sym (ap (λ (applied : Application). is_before first applied.answer.snap) here) ∙ e)
-section_names first state number (Skipped base) newer e = tt
+section_names first state number section newer e = tt
 
 -- what plays reads what its client would, if it held only those
 read_by : {when : Type 0} → (first : ℕ) (client play : AppliedState) (number : ℕ) (bits : List Bool) (read : Message) → PlaysAs when first client play

@@ -25,7 +25,7 @@ use Rattle.q3_report.specs.declared.answer.Front.TheVariants as fronts
 use Rattle.q3_report.specs.declared.answer.TakeRefused.{TakeRefused}
 use Rattle.q3_report.specs.declared.answer.TakeRefused.TheVariants as refused
 use Rattle.q3_report.specs.Answers.{Taking, Showing, ShowsNobody, ShowsNothing, ShowsNewest, Answered, Given, Served, SentOut, Took, Untaken, Shown, Bytes}
-use Rattle.q3_report.specs.AnswerLines.{handed_in_text, issued_text, out_of_range_text, baseline_refused_text, type_refused_text, move_refused_text, record_refused_text, stop_refused_text, handed_lines, front_text, untaken_text, taking_text, showing_text, bytes_text, lines_of}
+use Rattle.q3_report.specs.AnswerLines.{out_of_range_text, baseline_refused_text, type_refused_text, move_refused_text, record_refused_text, stop_refused_text, handed_lines, front_text, untaken_text, taking_text, showing_text, bytes_text, lines_of}
 use Rattle.q3_words.specs.Words.{words_of}
 use Rattle.q3_world.specs.declared.counts.Counts.{Counts}
 use Rattle.q3_world.specs.Counts.{no_counts, one_event, made_served, made_sent, lines_in}
@@ -71,50 +71,27 @@ given_line given word text same plain one starts named =
     subst (λ (t : List ℕ). Spelled t ((word ++ one.line) ∷ [])) (sym same) (in_front word text one.line [] plain one.spelled) in
     alone (Given given) (word ++ one.line) false spelled (starts one.line) (named one.line) refl
 
+-- a word, a number, and what came of the line
+outcome_line : {given : HandedIn} {text : List ℕ} (word : List ℕ) (n : ℕ) → OneLine text → handed_lines given ≡ word ++ (decimal n ++ (text ++ [])) → lacks 10 word ≡ true
+    → ((line : List ℕ) → is_under (word ++ line) ≡ false) → ((line : List ℕ) → has_datagram (word ++ line) ≡ false) → AnswerIs (Given given)
+outcome_line {given} {text} word n one same plain starts named = given_line given word (decimal n ++ (text ++ [])) same plain (counted n text one) starts named
+
 given_is : (given : HandedIn) → AnswerIs (Given given)
-given_is (handed.Client c outcome) =
-    given_line (handed.Client c outcome) (codes "client ") (decimal c ++ (handed_in_text slot_error_text outcome ++ [])) refl refl
-    (counted c (handed_in_text slot_error_text outcome) (handed_in slot_error_text slot_error outcome)) (λ line. refl) (λ line. refl)
-given_is (handed.Port c outcome) =
-    given_line (handed.Port c outcome) (codes "port ") (decimal c ++ (handed_in_text no_client_text outcome ++ [])) refl refl
-    (counted c (handed_in_text no_client_text outcome) (handed_in no_client_text no_client outcome)) (λ line. refl) (λ line. refl)
-given_is (handed.Map id outcome) =
-    given_line (handed.Map id outcome) (codes "map ") (decimal id ++ (handed_in_text not_later_text outcome ++ [])) refl refl
-    (counted id (handed_in_text not_later_text outcome) (handed_in not_later_text not_later outcome)) (λ line. refl) (λ line. refl)
-given_is (handed.Entity n outcome) =
-    given_line (handed.Entity n outcome) (codes "entity ") (decimal n ++ (handed_in_text out_of_range_text outcome ++ [])) refl refl
-    (counted n (handed_in_text out_of_range_text outcome) (handed_in out_of_range_text out_of_range outcome)) (λ line. refl) (λ line. refl)
-given_is (handed.Remove n outcome) =
-    given_line (handed.Remove n outcome) (codes "remove ") (decimal n ++ (handed_in_text out_of_range_text outcome ++ [])) refl refl
-    (counted n (handed_in_text out_of_range_text outcome) (handed_in out_of_range_text out_of_range outcome)) (λ line. refl) (λ line. refl)
-given_is (handed.Baseline n outcome) =
-    given_line (handed.Baseline n outcome) (codes "baseline ") (decimal n ++ (handed_in_text baseline_refused_text outcome ++ [])) refl refl
-    (counted n (handed_in_text baseline_refused_text outcome) (handed_in baseline_refused_text baseline_refused outcome)) (λ line. refl) (λ line. refl)
-given_is (handed.Config index outcome) =
-    given_line (handed.Config index outcome) (codes "config ") (decimal index ++ (handed_in_text config_refused_text outcome ++ [])) refl refl
-    (counted index (handed_in_text config_refused_text outcome) (handed_in config_refused_text config_refused outcome)) (λ line. refl) (λ line. refl)
-given_is (handed.Player c outcome) =
-    given_line (handed.Player c outcome) (codes "player ") (decimal c ++ (handed_in_text no_client_text outcome ++ [])) refl refl
-    (counted c (handed_in_text no_client_text outcome) (handed_in no_client_text no_client outcome)) (λ line. refl) (λ line. refl)
-given_is (handed.Area c outcome) =
-    given_line (handed.Area c outcome) (codes "area ") (decimal c ++ (handed_in_text no_client_text outcome ++ [])) refl refl
-    (counted c (handed_in_text no_client_text outcome) (handed_in no_client_text no_client outcome)) (λ line. refl) (λ line. refl)
+given_is (handed.Client c outcome) = outcome_line (codes "client ") c (handed_in slot_error_text slot_error outcome) refl refl (λ line. refl) (λ line. refl)
+given_is (handed.Port c outcome) = outcome_line (codes "port ") c (handed_in no_client_text no_client outcome) refl refl (λ line. refl) (λ line. refl)
+given_is (handed.Map id outcome) = outcome_line (codes "map ") id (handed_in not_later_text not_later outcome) refl refl (λ line. refl) (λ line. refl)
+given_is (handed.Entity n outcome) = outcome_line (codes "entity ") n (handed_in out_of_range_text out_of_range outcome) refl refl (λ line. refl) (λ line. refl)
+given_is (handed.Remove n outcome) = outcome_line (codes "remove ") n (handed_in out_of_range_text out_of_range outcome) refl refl (λ line. refl) (λ line. refl)
+given_is (handed.Baseline n outcome) = outcome_line (codes "baseline ") n (handed_in baseline_refused_text baseline_refused outcome) refl refl (λ line. refl) (λ line. refl)
+given_is (handed.Config index outcome) = outcome_line (codes "config ") index (handed_in config_refused_text config_refused outcome) refl refl (λ line. refl) (λ line. refl)
+given_is (handed.Player c outcome) = outcome_line (codes "player ") c (handed_in no_client_text no_client outcome) refl refl (λ line. refl) (λ line. refl)
+given_is (handed.Area c outcome) = outcome_line (codes "area ") c (handed_in no_client_text no_client outcome) refl refl (λ line. refl) (λ line. refl)
 given_is handed.Time = given_line handed.Time (codes "time ") (codes "ok\n") refl refl (whole (codes "ok") refl) (λ line. refl) (λ line. refl)
-given_is (handed.Say c outcome) =
-    given_line (handed.Say c outcome) (codes "say ") (decimal c ++ (issued_text say_error_text outcome ++ [])) refl refl
-    (counted c (issued_text say_error_text outcome) (issued say_error_text say_error outcome)) (λ line. refl) (λ line. refl)
-given_is (handed.TypeText c outcome) =
-    given_line (handed.TypeText c outcome) (codes "type ") (decimal c ++ (issued_text type_refused_text outcome ++ [])) refl refl
-    (counted c (issued_text type_refused_text outcome) (issued type_refused_text type_refused outcome)) (λ line. refl) (λ line. refl)
-given_is (handed.Move c outcome) =
-    given_line (handed.Move c outcome) (codes "move ") (decimal c ++ (handed_in_text move_refused_text outcome ++ [])) refl refl
-    (counted c (handed_in_text move_refused_text outcome) (handed_in move_refused_text move_refused outcome)) (λ line. refl) (λ line. refl)
-given_is (handed.Record c outcome) =
-    given_line (handed.Record c outcome) (codes "record ") (decimal c ++ (handed_in_text record_refused_text outcome ++ [])) refl refl
-    (counted c (handed_in_text record_refused_text outcome) (handed_in record_refused_text record_refused outcome)) (λ line. refl) (λ line. refl)
-given_is (handed.Stop c outcome) =
-    given_line (handed.Stop c outcome) (codes "stop ") (decimal c ++ (handed_in_text stop_refused_text outcome ++ [])) refl refl
-    (counted c (handed_in_text stop_refused_text outcome) (handed_in stop_refused_text stop_refused outcome)) (λ line. refl) (λ line. refl)
+given_is (handed.Say c outcome) = outcome_line (codes "say ") c (issued say_error_text say_error outcome) refl refl (λ line. refl) (λ line. refl)
+given_is (handed.TypeText c outcome) = outcome_line (codes "type ") c (issued type_refused_text type_refused outcome) refl refl (λ line. refl) (λ line. refl)
+given_is (handed.Move c outcome) = outcome_line (codes "move ") c (handed_in move_refused_text move_refused outcome) refl refl (λ line. refl) (λ line. refl)
+given_is (handed.Record c outcome) = outcome_line (codes "record ") c (handed_in record_refused_text record_refused outcome) refl refl (λ line. refl) (λ line. refl)
+given_is (handed.Stop c outcome) = outcome_line (codes "stop ") c (handed_in stop_refused_text stop_refused outcome) refl refl (λ line. refl) (λ line. refl)
 
 -- ---- what was asked for a datagram
 

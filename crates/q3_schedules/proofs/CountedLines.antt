@@ -10,7 +10,7 @@ use Rattle.q3_world.specs.World.{opening, answers as answers_of}
 use Rattle.q3_world.specs.Report.{report}
 use Rattle.q3_schedules.specs.ReportLines.{text_lines, Placed, placed, lines_by_kind, counts_in, CountsAreLines, ReplayIsCounted}
 use Rattle.q3_schedules.proofs.SpelledLines.{Spelled, nothing, join, lines_of_spelled}
-use Rattle.q3_schedules.proofs.PlacedLines.{Kind, Event, Datagram, AcceptedSnapshot, SkippedSnapshot, ServerCommand, ClientCommand, MoveLine, test_of, count_of, at, tally, placed_under, placed_first, placed_nothing, same_counts}
+use Rattle.q3_schedules.proofs.PlacedLines.{Kind, Event, test_of, count_of, at, tally, placed_under, placed_first, placed_nothing, same_counts}
 use Rattle.q3_schedules.proofs.AnswerLines.{answer_is}
 
 -- how many lines of a kind these answers have
@@ -47,30 +47,15 @@ report_is (answer ∷ answers) =
 
 with_is : (counts lines : Counts) (kind : Kind) → count_of kind (with_lines counts lines) ≡ more (count_of kind counts) (count_of kind lines)
 with_is counts lines Event = refl
-with_is counts lines Datagram = refl
-with_is counts lines AcceptedSnapshot = refl
-with_is counts lines SkippedSnapshot = refl
-with_is counts lines ServerCommand = refl
-with_is counts lines ClientCommand = refl
-with_is counts lines MoveLine = refl
+with_is counts lines kind = refl
 
 by_kind : (lines : List Placed) (kind : Kind) → count_of kind (lines_by_kind lines) ≡ count_by (test_of kind) lines
 by_kind lines Event = refl
-by_kind lines Datagram = refl
-by_kind lines AcceptedSnapshot = refl
-by_kind lines SkippedSnapshot = refl
-by_kind lines ServerCommand = refl
-by_kind lines ClientCommand = refl
-by_kind lines MoveLine = refl
+by_kind lines kind = refl
 
 none_is : (kind : Kind) → count_of kind no_counts ≡ 0
 none_is Event = refl
-none_is Datagram = refl
-none_is AcceptedSnapshot = refl
-none_is SkippedSnapshot = refl
-none_is ServerCommand = refl
-none_is ClientCommand = refl
-none_is MoveLine = refl
+none_is kind = refl
 
 stops : (a b c : ℕ) → more (more a b) c ≡ more a (b + c)
 stops a b c = omega arith

@@ -98,29 +98,16 @@ by_kind P kept have stop begun on (events.Client c challenge qport dup address) 
     let place : Place = record { client = new_client kept.profile challenge qport dup; address = address; recording = None } in
     on (events.Client c challenge qport dup address) (λ d. refl) (quiet (joins_same kept.ends added.server c place added.answer refl facts.free have))
 by_kind P kept have stop begun on (events.Port c port) = on (events.Port c port) (λ d. refl) (quiet (same_port kept.ends c port (place_at kept.ends c) refl))
-by_kind P kept have stop begun on (events.Map id feed) = on (events.Map id feed) (λ d. refl) (quiet (λ d. refl))
-by_kind P kept have stop begun on (events.Config index text) = on (events.Config index text) (λ d. refl) (quiet (λ d. refl))
-by_kind P kept have stop begun on (events.Baseline state) = on (events.Baseline state) (λ d. refl) (quiet (λ d. refl))
-by_kind P kept have stop begun on (events.Entity state) = on (events.Entity state) (λ d. refl) (quiet (λ d. refl))
-by_kind P kept have stop begun on (events.Remove number) = on (events.Remove number) (λ d. refl) (quiet (λ d. refl))
-by_kind P kept have stop begun on (events.Time time) = on (events.Time time) (λ d. refl) (quiet (λ d. refl))
-by_kind P kept have stop begun on (events.Player c player) = on (events.Player c player) (λ d. refl) (quiet (λ d. refl))
-by_kind P kept have stop begun on (events.Area c area) = on (events.Area c area) (λ d. refl) (quiet (λ d. refl))
-by_kind P kept have stop begun on (events.Say c text) = on (events.Say c text) (λ d. refl) (quiet (λ d. refl))
 by_kind P kept have stop begun on (events.TypeText c text) =
     on (events.TypeText c text) (λ d. refl)
     (quiet (same_line kept.ends c (handed.TypeText c (Err untyped.NoClient)) (λ client. at_client.type_text client c text) (place_at kept.ends c) refl))
 by_kind P kept have stop begun on (events.Move c one) =
     on (events.Move c one) (λ d. refl) (quiet (same_line kept.ends c (handed.Move c (Err refused.NoClient)) (λ client. at_client.add_move client c one) (place_at kept.ends c) refl))
-by_kind P kept have stop begun on (events.Serve c) = on (events.Serve c) (λ d. refl) (quiet (λ d. refl))
 by_kind P kept have stop begun on (events.Send c) = on (events.Send c) (λ d. refl) (quiet (same_sent kept c (place_at kept.ends c) refl))
 by_kind P kept have stop begun on (events.Deliver number) = on (events.Deliver number) (λ d. refl) (delivers kept.ends number (slice_get kept.datagrams (number - 1)))
 by_kind P kept have stop begun on (events.RecordTo c name) = begun c name
 by_kind P kept have stop begun on (events.Stop c) = stop c
-by_kind P kept have stop begun on (events.Show c) = on (events.Show c) (λ d. refl) (quiet (λ d. refl))
-by_kind P kept have stop begun on (events.Bytes number) = on (events.Bytes number) (λ d. refl) (quiet (λ d. refl))
 by_kind P kept have stop begun on (events.Toclient c bytes) =
     on (events.Toclient c bytes) (λ d. refl) (inl (record { client = c; front = fronts.Toclient c; bytes = bytes; ends = refl; does = refl; taken = λ d. refl }))
 by_kind P kept have stop begun on (events.Toserver c bytes) = on (events.Toserver c bytes) (λ d. refl) (quiet (same_handed kept.ends c bytes (place_at kept.ends c)))
-by_kind P kept have stop begun on (events.At ms) = on (events.At ms) (λ d. refl) (quiet (λ d. refl))
-by_kind P kept have stop begun on (events.End ms) = on (events.End ms) (λ d. refl) (quiet (λ d. refl))
+by_kind P kept have stop begun on event = on event (λ d. refl) (quiet (λ d. refl))

@@ -263,7 +263,7 @@ outcome profile whole c n slot place built cited had newer named_is =
           let told : (snap : SnapOutcome) → outcome_of state.held.ring since built.base ≡ snap → answer_with n false snap ≡ applied_now profile history n built =
           λ snap so. ap (λ (snap : SnapOutcome). answer_with n false snap) (sym so)
           ∙ (ap (λ (ring : ℕ). answer_with n false (outcome_of ring since built.base)) had.keeps.of_client.ring ∙ sym (of_section profile.parse_ring since n built.base section)) in
-          elim (applies_message cited.rings state since n built is.telling snapshot one.is takes.stands above known) [
+          elim (applies_message cited.below.rings state since n built is.telling snapshot one.is takes.stands above known) [
             | inl accepted ↦ record {
               answer = ap (λ (a : Application). a.answer) accepted.1 ∙ told (Accepted (number_of built.base)) accepted.0;
               executed = counted;
@@ -271,7 +271,7 @@ outcome profile whole c n slot place built cited had newer named_is =
               shows = λ base so. (
                 snapshot,
                 ap (λ (a : Application). view_at a.state.held a.state.held.newest) accepted.1
-                    ∙ ap (λ r. result_ok r) (cited.rings.there state.held snapshot takes.stands.held (omega (arith, above, number_is)) one.are.few),
+                    ∙ ap (λ r. result_ok r) (cited.below.rings.there state.held snapshot takes.stands.held (omega (arith, above, number_is)) one.are.few),
                 number_is,
                 named_is.was is.telling one,
               );
@@ -388,14 +388,10 @@ Applies profile sent number before now c applied history =
 -- where nothing came whole, nothing is answered as applied
 quiet_applies : (client : ClientState) (answer : Gathered) (apply : ℕ → Result Reception Illegible) (applied : AppliedSo) → IsQuiet answer
     → (take_answer client answer apply).answer ≡ Applied applied → ⊥
-quiet_applies client (CameWhole number count) apply applied is e = is
 quiet_applies client gathered.Partial apply applied is e = absurd cc
 quiet_applies client gathered.Old apply applied is e = absurd cc
 quiet_applies client gathered.OutOfOrder apply applied is e = absurd cc
-quiet_applies client gathered.BadFragment apply applied is e = is
-quiet_applies client gathered.BadCheck apply applied is e = is
-quiet_applies client gathered.Runt apply applied is e = is
-quiet_applies client gathered.Connectionless apply applied is e = is
+quiet_applies client answer apply applied is e = is
 
 -- of a message that came whole
 applied_whole : (profile : Profile) (whole : Whole) (number c : ℕ) (applied : AppliedSo) (tag : Tag) (place : Place) (recording : Option RecordingState) (next : ClientState) → length whole.ends.clients ≡ places → tag.client < places
@@ -443,7 +439,7 @@ applied_arrive profile whole number c applied tag (Some place) cited sent_at way
     let client = place.client in
     let built = named whole.histories tag in
     let took = tagged client.gathering tag.number (built_bytes profile built) tag.index in
-    let does = cited.does client.gathering tag.number (built_bytes profile built) tag.index in
+    let does = cited.below.does client.gathering tag.number (built_bytes profile built) tag.index in
     let now = record client { gathering = took.gathering } in
     let apply : ℕ → Result Reception Illegible = λ k. Ok (receive_message client k built.message (plain_bytes profile built)) in
     let given = take_answer now took.answer apply in

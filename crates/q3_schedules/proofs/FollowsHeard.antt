@@ -232,14 +232,10 @@ module _ (id : ℕ) (strings : Strings) (old : List Built) (before : List (List 
   -- with nothing whole it changes nothing
   quiet_follows : (client : ClientState) (answer : Gathered) (read : ℕ → Read) (n : ℕ) (section : Told) → IsQuiet answer → OfState id strings old before client.state history
       → OfState id strings old before (take_answer client answer read).client.state (with_taken history n section (take_answer client answer read))
-  quiet_follows client (gathered.Whole number count) read n section quiet is = absurd quiet
   quiet_follows client gathered.Partial read n section quiet is = is
   quiet_follows client gathered.Old read n section quiet is = is
   quiet_follows client gathered.OutOfOrder read n section quiet is = is
-  quiet_follows client gathered.BadFragment read n section quiet is = absurd quiet
-  quiet_follows client gathered.BadCheck read n section quiet is = absurd quiet
-  quiet_follows client gathered.Runt read n section quiet is = absurd quiet
-  quiet_follows client gathered.Connectionless read n section quiet is = absurd quiet
+  quiet_follows client answer read n section quiet is = absurd quiet
 
   -- a message that came whole is applied
   applied_follows : (client now : ClientState) (n : ℕ) (built : Built) (plain : List ℕ) (section : Told) → built.message.section ≡ section → HearsIt client history n built

@@ -16,7 +16,6 @@ use Rattle.q3_window.specs.Incoming.{fresh_of}
 use Rattle.q3_clstate.specs.State.{apply_message}
 use Rattle.q3_clstate.specs.declared.applied.Applied.{Applied as AppliedSo}
 use Rattle.q3_chan.specs.declared.gatherer.Gathered.{Gathered}
-use Rattle.q3_chan.specs.declared.gatherer.Gathered.TheVariants as gathered
 use Rattle.q3_chan.specs.declared.gatherer.Gathered.TheVariants.{Whole as CameWhole}
 use Rattle.q3_chan.specs.Datagrams.{last_index}
 use Rattle.q3_chan.specs.Gathering.{Gathering, Took as GatheredSo}
@@ -54,13 +53,7 @@ use Rattle.q3_schedules.proofs.Stood.{Stood, after_both, delivers_same, holds_of
 -- what a message does leaves what is gathered
 answer_gathers : (client : ClientState) (answer : Gathered) (apply : ℕ → Reception) → (take_answer client answer (λ n. Ok (apply n))).client.gathering ≡ client.gathering
 answer_gathers client (CameWhole number count) apply = refl
-answer_gathers client gathered.Partial apply = refl
-answer_gathers client gathered.Old apply = refl
-answer_gathers client gathered.OutOfOrder apply = refl
-answer_gathers client gathered.BadFragment apply = refl
-answer_gathers client gathered.BadCheck apply = refl
-answer_gathers client gathered.Runt apply = refl
-answer_gathers client gathered.Connectionless apply = refl
+answer_gathers client answer apply = refl
 
 -- and what was built
 noted_built : (history : History) (heard : Option Snapshot) (commands : List Command) (number time : ℕ) (game : Option Gamestate)

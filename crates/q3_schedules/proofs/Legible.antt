@@ -121,10 +121,8 @@ may_become ring accepted (Some base) =
 
 -- and a gamestate has none
 may_become_in : (ring : ℕ) (accepted : List Snapshot) (base : Option Snapshot) (section : Told) → MayBecome (outcome_in ring accepted base section)
-may_become_in ring accepted base told.Nothing = tt
-may_become_in ring accepted base (told.Game game) = tt
 may_become_in ring accepted base (told.Snap number head entities) = may_become ring accepted base
-may_become_in ring accepted base (told.Skipped number) = tt
+may_become_in ring accepted base section = tt
 
 -- what a client makes of a piece: nothing came whole, or its message did, and was applied
 legible_took : (profile : Profile) (n : ℕ) (client now : ClientState) (answer : Gathered) (built : Built)
@@ -150,7 +148,7 @@ legible_to_client profile whole number tag (Some place) cited is at holds =
     let client = place.client in
     let built = named whole.histories tag in
     let took = tagged client.gathering tag.number (built_bytes profile built) tag.index in
-    let does = cited.does client.gathering tag.number (built_bytes profile built) tag.index in
+    let does = cited.below.does client.gathering tag.number (built_bytes profile built) tag.index in
     let had = has_client profile whole tag.client place is.0 at holds in
     legible_took profile tag.number client (record client { gathering = took.gathering }) took.answer built
     (elim does.either [
@@ -198,7 +196,7 @@ legible_to_server profile whole number tag from cited is holds =
     let said = said_under whole.histories tag in
     let bytes = said_bytes profile said in
     let took = tagged slot.gathering tag.number bytes tag.index in
-    let does = cited.does slot.gathering tag.number bytes tag.index in
+    let does = cited.below.does slot.gathering tag.number bytes tag.index in
     let next = record slot { address = from; gathering = took.gathering } in
     rw found.1 (legible_heard whole.ends.server.map tag.client tag.number next took.answer said.message
     (elim does.either [

@@ -88,12 +88,9 @@ baseline_refused unset.OutOfRange = refl
 baseline_refused unset.Late = refl
 
 pub config_refused : (e : ConfigRefused) → lacks 10 (config_refused_text e) ≡ true
-config_refused config.Index = refl
-config_refused config.Own = refl
 config_refused (config.Chars byte) = numbered (codes "chars ") byte refl
-config_refused config.Long = refl
-config_refused config.Full = refl
 config_refused (config.WindowFull slot) = numbered (codes "windowfull ") slot refl
+config_refused e = refl
 
 pub say_error : (e : SayError) → lacks 10 (say_error_text e) ≡ true
 say_error unsaid.NoClient = refl
@@ -106,9 +103,8 @@ type_refused untyped.NoClient = refl
 type_refused untyped.WindowFull = refl
 
 move_error : (e : MoveError) → lacks 10 (move_error_text e) ≡ true
-move_error unmoved.NoGame = refl
 move_error (unmoved.NotLater time) = numbered (codes "notlater ") time refl
-move_error unmoved.Range = refl
+move_error e = refl
 
 pub move_refused : (e : MoveRefused) → lacks 10 (move_refused_text e) ≡ true
 move_refused refused.NoClient = refl
@@ -142,18 +138,11 @@ bits reading.NoWord = refl
 
 pub client_cause : (e : ClientIllegible) → lacks 10 (client_words.cause_word e) ≡ true
 client_cause (heard.Bits e) = bits e
-client_cause (heard.BadOp byte) = refl
-client_cause (heard.MoveCount count) = refl
-client_cause heard.TextLong = refl
-client_cause heard.Commands = refl
-client_cause (heard.Ack n) = refl
+client_cause e = refl
 
 entity_cause : (e : EntityError) → lacks 10 (server_words.entity_word e) ≡ true
 entity_cause (entities.Bits e) = bits e
-entity_cause (entities.Count count) = refl
-entity_cause (entities.Order n) = refl
-entity_cause entities.Many = refl
-entity_cause (entities.Removes n) = refl
+entity_cause e = refl
 
 player_cause : (e : DeltaError) → lacks 10 (server_words.player_word e) ≡ true
 player_cause (deltas.Bits e) = bits e
@@ -161,15 +150,9 @@ player_cause (deltas.Count count) = refl
 
 pub server_cause : (e : ServerIllegible) → lacks 10 (server_words.cause_word e) ≡ true
 server_cause (causes.Bits e) = bits e
-server_cause (causes.BadOp byte) = refl
 server_cause (causes.Entity e) = entity_cause e
 server_cause (causes.Player e) = player_cause e
-server_cause (causes.Area count) = refl
-server_cause (causes.Config e) = refl
-server_cause causes.TextLong = refl
-server_cause causes.NoServerId = refl
-server_cause causes.Commands = refl
-server_cause (causes.Ack n) = refl
+server_cause e = refl
 
 pub base_cause : (e : NoBase) → lacks 10 (cause_text e) ≡ true
 base_cause bases.NeverHeld = refl

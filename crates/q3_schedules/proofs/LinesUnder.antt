@@ -65,12 +65,7 @@ test_is client server accepted skipped command move first line kinds by_client b
 pub each_is : (client server accepted skipped command move : Bool) (n : ℕ) (kind : Kind)
     → cond (kind_is client server accepted skipped command move kind) n 0 ≡ count_of kind (counts_each client server accepted skipped command move n)
 each_is client server accepted skipped command move n Event = refl
-each_is client server accepted skipped command move n Datagram = refl
-each_is client server accepted skipped command move n AcceptedSnapshot = refl
-each_is client server accepted skipped command move n SkippedSnapshot = refl
-each_is client server accepted skipped command move n ServerCommand = refl
-each_is client server accepted skipped command move n ClientCommand = refl
-each_is client server accepted skipped command move n MoveLine = refl
+each_is client server accepted skipped command move n kind = refl
 
 -- a text of lines that stand under one of which the client, or the server, took bytes, and how many of them are of each kind
 pub record Beneath (client server : Bool) (text : List ℕ) (counts : Counts) : Type 0 where
@@ -82,12 +77,7 @@ pub record Beneath (client server : Bool) (text : List ℕ) (counts : Counts) : 
 
 pub no_kind : (kind : Kind) → 0 ≡ count_of kind no_counts
 no_kind Event = refl
-no_kind Datagram = refl
-no_kind AcceptedSnapshot = refl
-no_kind SkippedSnapshot = refl
-no_kind ServerCommand = refl
-no_kind ClientCommand = refl
-no_kind MoveLine = refl
+no_kind kind = refl
 
 abbrev pub none_beneath : (client server : Bool) → Beneath client server [] no_counts
 none_beneath client server = record { lines = []; spelled = nothing; under = refl; counted = λ first by_client by_server kind. no_kind kind }

@@ -47,16 +47,6 @@ pub by_line : (P : Event → Type 0) → ((c : ℕ) (n : List ℕ) → P (events
 by_line P records stops ends plain (events.RecordTo c n) = records c n
 by_line P records stops ends plain (events.Stop c) = stops c
 by_line P records stops ends plain (events.End ms) = ends ms
-by_line P records stops ends plain (events.Client c challenge qport dup address) =
-    plain (events.Client c challenge qport dup address) (record { same = λ e k. refl; none = λ e k. refl; goes = refl; begins = λ n e. refl; ends = refl; other = λ n. tt })
-by_line P records stops ends plain (events.TypeText c text) =
-    plain (events.TypeText c text) (record { same = λ e k. refl; none = λ e k. refl; goes = refl; begins = λ n e. refl; ends = refl; other = λ n. tt })
-by_line P records stops ends plain (events.Move c one) =
-    plain (events.Move c one) (record { same = λ e k. refl; none = λ e k. refl; goes = refl; begins = λ n e. refl; ends = refl; other = λ n. tt })
-by_line P records stops ends plain (events.Send c) =
-    plain (events.Send c) (record { same = λ e k. refl; none = λ e k. refl; goes = refl; begins = λ n e. refl; ends = refl; other = λ n. tt })
-by_line P records stops ends plain (events.Show c) =
-    plain (events.Show c) (record { same = λ e k. refl; none = λ e k. refl; goes = refl; begins = λ n e. refl; ends = refl; other = λ n. tt })
 by_line P records stops ends plain event = plain event (record { same = λ e k. refl; none = λ e k. refl; goes = refl; begins = λ n e. refl; ends = refl; other = λ n. tt })
 
 -- ---- a turn behind which nobody records into the file

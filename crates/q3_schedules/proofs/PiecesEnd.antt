@@ -8,6 +8,7 @@ use Rattle.std.proofs.lemmas.Bool.{and_parts, cases_Bool, cases_lt, cond_both, e
 use Rattle.std.proofs.lemmas.List.{drop-append-le, length-append, length_push, take-append-le, take_all}
 use Rattle.std.proofs.lemmas.List.Elements.{All-drop, All-map, All-take, All-weaker}
 use Rattle.q3_built.specs.Built.{Built}
+use Rattle.q3_config.proofs.Faults.{admitted}
 use Rattle.q3_config.specs.Changes.{Applied, after_change, after_command, after_commands, after_shape, change_or, finish, go_on, grow, make_change, unchanged, without_pending}
 use Rattle.q3_config.specs.Commands.{Change, First, Last, Middle, Whole, Word, change_text, config_piece, piece_count, word_of}
 use Rattle.q3_config.specs.Laws.{IsChange, SpelledIsRead, piece_texts}
@@ -20,7 +21,6 @@ use Rattle.q3_world.specs.Games.{Carries}
 use Rattle.q3_world.specs.World.{built_at}
 use Rattle.q3_world.proofs.GamesParts.{built_end, built_front, carries_cases}
 use Rattle.q3_world.proofs.GamesTexts.{after_commands-append}
-use Rattle.q3_world.proofs.Maps.{may_go_out}
 
 -- ---- commands that leave nothing pending
 
@@ -157,7 +157,7 @@ module _ (law : SpelledIsRead) (index : ℕ) (text : List ℕ) (within : index <
 -- all pieces of a change that may go out
 pub pieces_leave : SpelledIsRead → (strings : Strings) (index : ℕ) (text : List ℕ) → admit_fault strings index text ≡ None → LeaveNone (piece_texts index text)
 pieces_leave law strings index text may now none =
-    let goes = may_go_out strings index text may in
+    let goes = admitted strings index text may in
     all_end law index text goes.within goes.carried now (piece_count (length text)) refl none
 
 -- ---- where messages were begun

@@ -86,21 +86,11 @@ plus a b = record {
 
 pub plus_is : (a b : Counts) (kind : Kind) → count_of kind a + count_of kind b ≡ count_of kind (plus a b)
 plus_is a b Event = refl
-plus_is a b Datagram = refl
-plus_is a b AcceptedSnapshot = refl
-plus_is a b SkippedSnapshot = refl
-plus_is a b ServerCommand = refl
-plus_is a b ClientCommand = refl
-plus_is a b MoveLine = refl
+plus_is a b kind = refl
 
 none_more : (a : Counts) (kind : Kind) → count_of kind (plus a no_counts) ≡ count_of kind a
 none_more a Event = omega arith
-none_more a Datagram = omega arith
-none_more a AcceptedSnapshot = omega arith
-none_more a SkippedSnapshot = omega arith
-none_more a ServerCommand = omega arith
-none_more a ClientCommand = omega arith
-none_more a MoveLine = omega arith
+none_more a kind = omega arith
 
 -- and nothing more
 pub plus_none : (a : Counts) → plus a no_counts ≡ a
@@ -114,12 +104,7 @@ applied_plus accepted skipped n =
 applied_kind : (accepted skipped n : ℕ) (kind : Kind)
     → count_of kind (applied_plus accepted skipped n) ≡ count_of kind (record one_event { accepted = accepted; skipped = skipped; server_commands = n })
 applied_kind accepted skipped n Event = omega arith
-applied_kind accepted skipped n Datagram = omega arith
-applied_kind accepted skipped n AcceptedSnapshot = omega arith
-applied_kind accepted skipped n SkippedSnapshot = omega arith
-applied_kind accepted skipped n ServerCommand = omega arith
-applied_kind accepted skipped n ClientCommand = omega arith
-applied_kind accepted skipped n MoveLine = omega arith
+applied_kind accepted skipped n kind = omega arith
 
 pub applied_counts : (accepted skipped n : ℕ) → applied_plus accepted skipped n ≡ record one_event { accepted = accepted; skipped = skipped; server_commands = n }
 applied_counts accepted skipped n =
@@ -131,12 +116,7 @@ ran_plus n m = plus one_event (plus (record no_counts { client_commands = n }) (
 
 ran_kind : (n m : ℕ) (kind : Kind) → count_of kind (ran_plus n m) ≡ count_of kind (record one_event { client_commands = n; moves = m })
 ran_kind n m Event = omega arith
-ran_kind n m Datagram = omega arith
-ran_kind n m AcceptedSnapshot = omega arith
-ran_kind n m SkippedSnapshot = omega arith
-ran_kind n m ServerCommand = omega arith
-ran_kind n m ClientCommand = omega arith
-ran_kind n m MoveLine = omega arith
+ran_kind n m kind = omega arith
 
 pub ran_counts : (n m : ℕ) → ran_plus n m ≡ record one_event { client_commands = n; moves = m }
 ran_counts n m = same_counts (ran_plus n m) (record one_event { client_commands = n; moves = m }) (ran_kind n m)

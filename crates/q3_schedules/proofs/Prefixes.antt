@@ -87,7 +87,7 @@ client_goes_on profile whole tag slot place cited is had =
     let built = named whole.histories tag in
     let count = length (history_at whole.histories tag.client).client_executed in
     let took = tagged client.gathering tag.number (built_bytes profile built) tag.index in
-    let does = cited.does client.gathering tag.number (built_bytes profile built) tag.index in
+    let does = cited.below.does client.gathering tag.number (built_bytes profile built) tag.index in
     let now = record client { gathering = took.gathering } in
     elim does.either [
       | inl waits ↦ subst (GoOn count) (sym (quiet_client now took.answer (λ n. Ok (receive_message client n built.message (plain_bytes profile built))) waits.quiet).heard) (none_go_on count)
@@ -107,7 +107,7 @@ slot_goes_on profile whole tag from slot place cited is had =
     let message = said.message in
     let count = length (history_at whole.histories c).server_executed in
     let took = tagged slot.gathering tag.number (said_bytes profile said) tag.index in
-    let does = cited.does slot.gathering tag.number (said_bytes profile said) tag.index in
+    let does = cited.below.does slot.gathering tag.number (said_bytes profile said) tag.index in
     let now = record slot { address = from; gathering = took.gathering } in
     elim does.either [
       | inl waits ↦ subst (GoOn count) (sym (quiet_slot map now c took.answer (λ n. Ok (came_as map message)) waits.quiet).commands) (none_go_on count)

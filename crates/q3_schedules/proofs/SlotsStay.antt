@@ -264,7 +264,6 @@ have_slots kept (events.Entity state) have =
     line_stays kept.ends state.number (handed.Entity state.number (Err (record {}))) (at_server.set_entity kept.ends.server state) have have
 have_slots kept (events.Remove number) have =
     line_stays kept.ends number (handed.Remove number (Err (record {}))) (at_server.remove_entity kept.ends.server number) have have
-have_slots kept (events.Time time) have = have
 have_slots kept (events.Player c player) have =
     let change : SlotState → SlotState = λ slot. with_player kept.ends.server.profile slot player in
     by_server kept.ends (give kept.ends.server c change (slot_at kept.ends.server c)).server (gives kept.ends.server c change (slot_at kept.ends.server c)) have
@@ -281,12 +280,9 @@ have_slots kept (events.Send c) have = send_puts kept c (place_at kept.ends c) r
 have_slots kept (events.Deliver number) have = deliver_puts kept.ends number (slice_get kept.datagrams (number - 1)) have
 have_slots kept (events.RecordTo c name) have = record_puts kept.ends c name (place_at kept.ends c) refl have
 have_slots kept (events.Stop c) have = stop_puts kept.ends c (place_at kept.ends c) refl have
-have_slots kept (events.Show c) have = have
-have_slots kept (events.Bytes number) have = have
 have_slots kept (events.Toclient c bytes) have = take_puts kept.ends c (fronts.Toclient c) bytes (place_at kept.ends c) refl have
 have_slots kept (events.Toserver c bytes) have = handed_puts kept.ends c bytes (place_at kept.ends c) have
-have_slots kept (events.At ms) have = have
-have_slots kept (events.End ms) have = have
+have_slots kept event have = have
 
 -- in the beginning nobody is anywhere
 pub nobody_yet : (profile : Profile) (c : ℕ) → place_at (new_ends profile) c ≡ None

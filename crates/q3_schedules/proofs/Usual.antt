@@ -54,10 +54,8 @@ usual_outcome laws ring accepted n (Some base) room are newer known =
 -- and of its section: a gamestate has no snapshot
 usual_in : (ring : ℕ) (accepted : List Snapshot) (base : Option Snapshot) (section : Told) → (number : ℕ) × (outcome_of ring accepted base ≡ Accepted number)
     → (outcome_in ring accepted base section ≡ NoSnap) ⊎ ((number : ℕ) × (outcome_in ring accepted base section ≡ Accepted number))
-usual_in ring accepted base told.Nothing is = inl refl
-usual_in ring accepted base (told.Game game) is = inl refl
 usual_in ring accepted base (told.Snap number head entities) is = inr is
-usual_in ring accepted base (told.Skipped number) is = inl refl
+usual_in ring accepted base section is = inl refl
 
 -- a client that is there has a place
 has_place : (clients : List (Option Place)) (c : ℕ) (place : Place) → get_or clients c None ≡ Some place → c < length clients

@@ -1,7 +1,6 @@
 -- A step by bytes is a step by tags: what that rests on, and where nothing changes.
 use Rattle.std.proofs.Common.{◌≡◌, ℕ, ◌≤◌, List, map, Option, Some, None, Ok, refl, sym, subst, inl, inr, false}
 use Rattle.std.specs.Prelude.{◌⊎◌, IfSome}
-use Rattle.q3_bits.specs.Laws.{MessageIsBytes}
 use Rattle.q3_profile.specs.declared.profile.Profile.{Profile}
 use Rattle.q3_player.specs.State.{zero_player, normal_player, IsState}
 use Rattle.q3_player.specs.declared.state.PlayerState.{PlayerState}
@@ -9,13 +8,9 @@ use Rattle.q3_fields.specs.States.{AreWords}
 use Rattle.q3_entity.specs.declared.state.EntityState.{EntityState}
 use Rattle.q3_entity.specs.Entities.{normal_entity, IsNormal}
 use Rattle.q3_profile.specs.Profile.{IsCodec}
-use Rattle.q3_server.specs.Laws.{MapStays, BeginsAsBuilt}
-use Rattle.q3_client.specs.Laws.{BeginsSaid, ClientStays}
 use Rattle.q3_clstate.specs.State.{new_state}
 use Rattle.q3_clstate.specs.Standing.{IsApplied}
 use Rattle.q3_map.specs.Map.{MapState, is_other}
-use Rattle.q3_chan.specs.Senders.{QportIsTold}
-use Rattle.q3_chan.specs.Laws.{SentIsTagged, TaggedDoes, EndsGather, EndsSend}
 use Rattle.q3_window.specs.Outgoing.{acknowledge_at, text_at}
 use Rattle.q3_client.specs.Client.{ClientState, receive_message, receive_bytes}
 use Rattle.q3_client.specs.Sending.{said_bytes, Said, IsSaid}
@@ -23,7 +18,7 @@ use Rattle.q3_slot.specs.Slot.{SlotState}
 use Rattle.q3_built.specs.Built.{Built, IsHeld, IsSnapshot, IsBuilt, built_bytes, plain_bytes}
 use Rattle.q3_slot.specs.Taking.{came_as, said_by}
 use Rattle.q3_messages.specs.MessageLaws.{HoldsThis}
-use Rattle.q3_world.specs.Layers.{ServerLaws, RingLaws, WindowLaws, ScramblingLaws, ConfigLaws}
+use Rattle.q3_world.specs.Layers.{Layers}
 use Rattle.q3_world.specs.declared.places.Place.{Place}
 use Rattle.q3_world.specs.Ends.{place_at}
 use Rattle.q3_world.specs.Kept.{Kept, KeptStep}
@@ -47,34 +42,19 @@ HearsBack profile = (map : MapState) (slot : SlotState) (said : Said) → IsSaid
     → (is_other map said.message.id ≡ false → said.feed ≡ map.feed)
     → said_by profile map slot (said_bytes profile said) ≡ Ok (came_as map said.message)
 
--- what is read back, which players and entities are in normal form, which numbers entities may have, how much room a client's ring
--- has, what a datagram does that was sent and which qport it tells, how many bytes a message has, what a server's frames and a
--- client hold, what becomes of commands, and what scrambling leaves
+-- that the codec is one and a client's ring has room, the laws of the layers below, and what they say of this profile: what is read back,
+-- what a client is at first, and which players and entities are in normal form
 pub record Cited (profile : Profile) : Type 0 where
+  pub codec : IsCodec profile
+  pub ring : 512 ≤ profile.parse_ring
+  pub below : Layers
   pub reads : ReadsBack profile
   pub hears : HearsBack profile
-  pub codec : IsCodec profile
-  pub maps : MapStays
-  pub begins : BeginsAsBuilt
-  pub says : BeginsSaid
-  pub stays : ClientStays
   pub first : IsApplied (new_state profile)
   pub zero : IsHeld profile zero_player
   pub normal : (player : PlayerState) → IsState player → IsHeld profile (normal_player profile.player.kinds player)
   pub normal_entity : (entity : EntityState) → AreWords 64 entity.words
       → AreWords 64 (normal_entity profile.entity entity).words × IsNormal profile.entity (normal_entity profile.entity entity)
-  pub ring : 512 ≤ profile.parse_ring
-  pub tags : SentIsTagged
-  pub qport : QportIsTold
-  pub does : TaggedDoes
-  pub gathers : EndsGather
-  pub sends : EndsSend
-  pub bytes : MessageIsBytes
-  pub server : ServerLaws
-  pub rings : RingLaws
-  pub windows : WindowLaws
-  pub scrambles : ScramblingLaws
-  pub configs : ConfigLaws
 
 -- ---- what is kept of a whole world
 

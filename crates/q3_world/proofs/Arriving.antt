@@ -95,14 +95,10 @@ Read = Result Reception Illegible
 
 -- where nothing came whole, nothing is read
 pub quiet_same : (client : ClientState) (answer : Gathered) (read other : ℕ → Read) → IsQuiet answer → take_answer client answer read ≡ take_answer client answer other
-quiet_same client (gathered.Whole number count) read other is = absurd is
 quiet_same client gathered.Partial read other is = refl
 quiet_same client gathered.Old read other is = refl
 quiet_same client gathered.OutOfOrder read other is = refl
-quiet_same client gathered.BadFragment read other is = absurd is
-quiet_same client gathered.BadCheck read other is = absurd is
-quiet_same client gathered.Runt read other is = absurd is
-quiet_same client gathered.Connectionless read other is = absurd is
+quiet_same client answer read other is = absurd is
 
 -- the client is as it was, and accepts, executes and applies nothing
 pub record Unmoved (client : ClientState) (taken : Taken) : Type 0 where
@@ -112,14 +108,10 @@ pub record Unmoved (client : ClientState) (taken : Taken) : Type 0 where
   pub game : (section : Told) → game_in taken.answer section ≡ None
 
 pub quiet_client : (client : ClientState) (answer : Gathered) (read : ℕ → Read) → IsQuiet answer → Unmoved client (take_answer client answer read)
-quiet_client client (gathered.Whole number count) read is = absurd is
 quiet_client client gathered.Partial read is = record { client_is = refl; accepted = refl; heard = refl; game = λ section. refl }
 quiet_client client gathered.Old read is = record { client_is = refl; accepted = refl; heard = refl; game = λ section. refl }
 quiet_client client gathered.OutOfOrder read is = record { client_is = refl; accepted = refl; heard = refl; game = λ section. refl }
-quiet_client client gathered.BadFragment read is = absurd is
-quiet_client client gathered.BadCheck read is = absurd is
-quiet_client client gathered.Runt read is = absurd is
-quiet_client client gathered.Connectionless read is = absurd is
+quiet_client client answer read is = absurd is
 
 -- what comes whole is received as the message that was built
 pub taken_alike : (profile : Profile) (client : ClientState) (took : Took) (number : ℕ) (built : Built)
@@ -173,7 +165,7 @@ tag_is profile whole tag place cited is found holds =
     let header : ℕ → Header = λ challenge. server_header (check_for profile.protocol challenge) in
     let from : place.client.gathering.form ≡ server_form (check_for profile.protocol had.0.challenge) =
     keeps.of_client.from ∙ ap (λ (challenge : ℕ). server_form (check_for profile.protocol challenge)) (sym keeps.challenge) in
-    piece_is messages place.client.gathering (header had.0.challenge) (length built) had.0.sending tag cited.tags had.1.joined.of_client.gathers.front from (lit< tt) keeps.of_slot.sending
+    piece_is messages place.client.gathering (header had.0.challenge) (length built) had.0.sending tag cited.below.tags had.1.joined.of_client.gathers.front from (lit< tt) keeps.of_slot.sending
     (subst (λ (challenge : ℕ). IsPiece (header challenge) messages (length built) tag) (sym keeps.joined) is.1)
     ∙ ap (λ (m : List ℕ). tagged place.client.gathering tag.number m tag.index) at
 
@@ -187,7 +179,7 @@ tag_gathers profile whole tag place cited is found holds =
     let messages = messages_of profile built in
     let had = has_client profile whole tag.client place is.0 found holds in
     subst (λ (m : List ℕ). Gathers messages (length built) (tagged place.client.gathering tag.number m tag.index).gathering) (at_number profile built tag.number is.1.some)
-    (cited.gathers.piece messages (length built) place.client.gathering tag.number tag.index had.1.joined.of_client.gathers is.1.begun)
+    (cited.below.gathers.piece messages (length built) place.client.gathering tag.number tag.index had.1.joined.of_client.gathers is.1.begun)
 
 -- a message for a client that doesn't play has no base
 pub waits_none : (profile : Profile) (challenge n : ℕ) (built : Built) → IsBuilt profile challenge n built → built.under ≡ None → built.base ≡ None
@@ -221,7 +213,7 @@ names profile whole tag slot place cited is had =
       carries = λ telling one. record { some = is.1.some; begun = is.1.begun; is = ap (λ (b : Built). b.message.section) one.is };
       base = λ newer. mapped_base whole.ends.server.map slot place.client history tag.number newer is.1.begun had.joined.mapped (waits_none profile place.client.challenge tag.number (named whole.histories tag) built) known;
       lines = λ newer. mapped_lines whole.ends.server.map slot place.client history tag.number newer is.1.begun had.joined.mapped;
-      hears = λ newer. client_hears cited.windows.flow slot place.client history tag.number newer is.1.begun had.joined.commanded;
+      hears = λ newer. client_hears cited.below.windows.flow slot place.client history tag.number newer is.1.begun had.joined.commanded;
     }
 
 -- by its bytes it is received as the value that was built
@@ -237,7 +229,7 @@ received_alike profile whole c n slot place built cited had named_is newer =
     let hears = named_is.hears newer in
     cited.reads place.client n built named_is.is had.keeps.of_client.by had.keeps.of_client.applied (named_is.lines newer) hears.takes hears.text
     (if_some_then built.base (KnownBase n history.built since) (λ base. IsSnapshot profile base × HoldsThis place.client.state.held base)
-    (λ base known. (was_built_is profile slot.challenge history.built base are known.1, holds_this cited.rings place.client.state.held history.built since base takes.stands were known.1))
+    (λ base known. (was_built_is profile slot.challenge history.built base are known.1, holds_this cited.below.rings place.client.state.held history.built since base takes.stands were known.1))
     (named_is.base newer))
 
 -- where nothing comes whole, the commands on their way are as they were
@@ -311,7 +303,7 @@ holds_piece profile whole c datagram n slot place took built cited lt within had
           let fresh = fresh_of state.executed.executed commands in
           let texts = texts_of fresh in
           let heard = history.client_executed ++ texts in
-          let still : IsOutgoing after = cited.windows.stays.acknowledges place.client.issued built.message.ack window in
+          let still : IsOutgoing after = cited.below.windows.stays.acknowledges place.client.issued built.message.ack window in
           let at_taken : (state : AppliedState) (games : List Played) (accepted : List Snapshot) (heard : List (List ℕ))
           → AreMapped map (standing_of slot) state n place.client.last_time history.built games history.said accepted heard
           → AreMapped map (standing_of slot) state g.taken place.client.last_time history.built games history.said accepted heard =
@@ -324,7 +316,7 @@ holds_piece profile whole c datagram n slot place took built cited lt within had
           subst (λ (k : ℕ). Flow slot.issued (executes state.executed commands) history.server_commands heard (carried_built history.built) (acks_said history.said) slot.gathering.taken k) (sym taken) hears.to_client in
           let applied_as : Application → Taken = λ application. applies now (record { message = plain; issued = after; application = application }) in
           let short = had.keeps.of_slot.sending.short in
-          let applied = cited.stays.receives place.client n (built_bytes profile built) (receive_message place.client n built.message plain) (omega (arith, within, short)) had.keeps.of_client.applied window
+          let applied = cited.below.stays.receives place.client n (built_bytes profile built) (receive_message place.client n built.message plain) (omega (arith, within, short)) had.keeps.of_client.applied window
           (received_alike profile whole c n slot place built cited had named_is newer) in
           let came_so : take_answer now took.answer read ≡ applied_as (apply_message state n built.message) = ap (λ (a : Gathered). take_answer now a read) came.answer in
           elim is.section [
@@ -333,11 +325,11 @@ holds_piece profile whole c datagram n slot place took built cited lt within had
                 let number_is = one.number in
                 let section = ap (λ (b : Built). b.message.section) one.is in
                 let known = if_some_then built.base (KnownBase n history.built since) (λ base. IsNear n base × Contains since base) (λ base known. (known.0, known.2)) (named_is.base newer) in
-                elim (applies_message cited.rings state since n built is.telling snapshot one.is joined.stands (omega (arith, newer, below)) known) [
+                elim (applies_message cited.below.rings state since n built is.telling snapshot one.is joined.stands (omega (arith, newer, below)) known) [
                   | inl accepted ↦
                       let state' = record (hearing state commands) { number = n; held = accept_at state.held snapshot } in
                       let since_is = since_more history.games history.accepted snapshot mapped.has in
-                      let takes = TakesBuilt-accepted cited.rings profile place.client history.built history.accepted since g state' plain after place.client.moves snapshot (taken ∙ sym number_is) gathers one.are.few (named_is.was is.telling one)
+                      let takes = TakesBuilt-accepted cited.below.rings profile place.client history.built history.accepted since g state' plain after place.client.moves snapshot (taken ∙ sym number_is) gathers one.are.few (named_is.was is.telling one)
                       (omega (arith, newer, number_is)) refl joined in
                       subst (λ (t : Taken). Holds profile (took_plain whole c place n built.message.section t)) (sym (came_so ∙ ap applied_as accepted.1))
                       (subst (λ (s : Told). Holds profile (took_plain whole c place n s (applied_as (heard_with state commands (accepts (hearing state commands) n (number_of built.base) snapshot))))) (sym section)
@@ -366,7 +358,7 @@ holds_piece profile whole c datagram n slot place took built cited lt within had
                 let played : Played = record { number = n; game = game; accepted = length history.accepted; executed = length heard; time = place.client.last_time } in
                 let games = history.games ++ played ∷ [] in
                 let since_is : accepted_since games history.accepted ≡ [] = since_none history.games history.accepted played refl in
-                let takes = TakesBuilt-started cited.rings profile place.client history.built history.accepted since g state' plain after [] (omega (arith, taken, newer)) gathers (subst (λ (k : ℕ). 512 ≤ k) (sym had.keeps.of_client.ring) cited.ring) refl joined in
+                let takes = TakesBuilt-started cited.below.rings profile place.client history.built history.accepted since g state' plain after [] (omega (arith, taken, newer)) gathers (subst (λ (k : ℕ). 512 ≤ k) (sym had.keeps.of_client.ring) cited.ring) refl joined in
                 subst (λ (t : Taken). Holds profile (took_plain whole c place n built.message.section t)) (sym (came_so ∙ ap applied_as (applies_game_message state n built is.telling game made.is)))
                 (subst (λ (s : Told). Holds profile (took_plain whole c place n s (applied_as (heard_with state commands (applies_game (hearing state commands) n game))))) (sym section)
                 (Holds-taken profile whole c slot place g state' plain after false true games history.accepted heard lt had does.form refl refl
@@ -392,7 +384,7 @@ delivered_to profile whole number tag (Some place) cited is at holds =
     let had = has_client profile whole tag.client place is.0 at holds in
     let named_is = names profile whole tag had.0 place cited is had.1 in
     let took = tagged client.gathering tag.number (built_bytes profile built) tag.index in
-    let does = cited.does client.gathering tag.number (built_bytes profile built) tag.index in
+    let does = cited.below.does client.gathering tag.number (built_bytes profile built) tag.index in
     record {
       same = ap (λ (t : Taken). kept_ends (kept_of profile whole) (by_ends.client_took whole.ends tag.client (fronts.Deliver number) place t))
           (taken_by_bytes client tag.bytes took had.1.joined.of_client.legible (tag_is profile whole tag place cited is at holds)
@@ -408,14 +400,10 @@ Heard = Result Came ClientIllegible
 
 -- where nothing came whole, nothing is read
 pub quiet_heard : (map : MapState) (slot : SlotState) (c : ℕ) (answer : Gathered) (read other : ℕ → Heard) → IsQuiet answer → by_slot.take_answer map slot c answer read ≡ by_slot.take_answer map slot c answer other
-quiet_heard map slot c (gathered.Whole number count) read other is = absurd is
 quiet_heard map slot c gathered.Partial read other is = refl
 quiet_heard map slot c gathered.Old read other is = refl
 quiet_heard map slot c gathered.OutOfOrder read other is = refl
-quiet_heard map slot c gathered.BadFragment read other is = absurd is
-quiet_heard map slot c gathered.BadCheck read other is = absurd is
-quiet_heard map slot c gathered.Runt read other is = absurd is
-quiet_heard map slot c gathered.Connectionless read other is = absurd is
+quiet_heard map slot c answer read other is = absurd is
 
 -- the slot is as it was, and executes and runs nothing
 pub record Idle (slot : SlotState) (taken : by_slot.SlotTaken) : Type 0 where
@@ -424,14 +412,10 @@ pub record Idle (slot : SlotState) (taken : by_slot.SlotTaken) : Type 0 where
   pub moves : taken.moves ≡ []
 
 pub quiet_slot : (map : MapState) (slot : SlotState) (c : ℕ) (answer : Gathered) (read : ℕ → Heard) → IsQuiet answer → Idle slot (by_slot.take_answer map slot c answer read)
-quiet_slot map slot c (gathered.Whole number count) read is = absurd is
 quiet_slot map slot c gathered.Partial read is = record { slot_is = refl; commands = refl; moves = refl }
 quiet_slot map slot c gathered.Old read is = record { slot_is = refl; commands = refl; moves = refl }
 quiet_slot map slot c gathered.OutOfOrder read is = record { slot_is = refl; commands = refl; moves = refl }
-quiet_slot map slot c gathered.BadFragment read is = absurd is
-quiet_slot map slot c gathered.BadCheck read is = absurd is
-quiet_slot map slot c gathered.Runt read is = absurd is
-quiet_slot map slot c gathered.Connectionless read is = absurd is
+quiet_slot map slot c answer read is = absurd is
 
 -- what comes whole is read as what the message that was said is to the map
 pub heard_alike : (profile : Profile) (map : MapState) (slot : SlotState) (c : ℕ) (took : Took) (number : ℕ) (said : Said)
@@ -476,7 +460,7 @@ heard_by_bytes profile whole tag from slot cited is at holds =
     let told : qport_of (is_checked server.profile.protocol) tag.bytes ≡ Ok history.qport =
     ap (λ (b : Bool). qport_of b tag.bytes) (sym checked)
     ∙ ap (qport_of (is_some header.form.check)) is.2.bytes
-    ∙ cited.qport header tag.number tag.index (messages tag.number) refl keeps.of_client.fits (omega (arith, begun, short))
+    ∙ cited.below.qport header tag.number tag.index (messages tag.number) refl keeps.of_client.fits (omega (arith, begun, short))
     (keeps.of_client.sending.sendable tag.number is.2.some is.2.begun) is.2.piece in
     let found : sender_of server from.host history.qport ≡ Some c =
     ap (λ (h : ℕ). sender_of server h history.qport) (is.1 ∙ sym keeps.of_slot.host)
@@ -595,7 +579,7 @@ holds_heard profile whole c number n from slot place took said cited lt had host
       | inr came ↦
           let heard = hears_so came.newer in
           let after = (acknowledge_at slot.issued message.command).window in
-          let still : IsOutgoing after = cited.windows.stays.acknowledges slot.issued message.command keeps.window in
+          let still : IsOutgoing after = cited.below.windows.stays.acknowledges slot.issued message.command keeps.window in
           let read_so : result ≡ by_slot.run_read map now c n (Ok (came_as map message)) = ap (λ (a : Gathered). by_slot.take_answer map now c a read) came.answer in
           elim (cases_Bool (is_other map message.id)) [
             | inl other ↦
@@ -630,7 +614,7 @@ pub said_hears : (profile : Profile) (whole : Whole) (tag : Tag) (from : Address
     → Has profile whole tag.client slot place → slot.gathering.taken < tag.number
     → SlotHears slot place.client (history_at whole.histories tag.client) tag.number (said_under whole.histories tag)
 said_hears profile whole tag from slot place cited is had newer =
-    slot_hears cited.windows.flow slot place.client (history_at whole.histories tag.client) tag.number newer is.2.begun had.joined.commanded
+    slot_hears cited.below.windows.flow slot place.client (history_at whole.histories tag.client) tag.number newer is.2.begun had.joined.commanded
 
 -- its client has a slot
 pub slot_of_tag : (profile : Profile) (whole : Whole) (tag : Tag) (from : Address) → IsOf profile whole tag from → Holds profile whole
@@ -662,7 +646,7 @@ said_tag_is profile whole tag from slot cited is at holds =
     let client = had.0.client in
     let from : slot.gathering.form ≡ client_form (check_for profile.protocol client.challenge) =
     keeps.of_slot.from ∙ ap (λ (challenge : ℕ). client_form (check_for profile.protocol challenge)) keeps.challenge in
-    piece_is (messages_said profile history.said) slot.gathering (header client.challenge) (length history.said) client.sending tag cited.tags had.1.joined.of_slot.gathers.front from keeps.of_client.fits
+    piece_is (messages_said profile history.said) slot.gathering (header client.challenge) (length history.said) client.sending tag cited.below.tags had.1.joined.of_slot.gathers.front from keeps.of_client.fits
     keeps.of_client.sending
     (subst (λ (challenge : ℕ). IsPiece (header challenge) (messages_said profile history.said) (length history.said) tag) (sym keeps.joined ∙ keeps.challenge) is.2)
     ∙ ap (λ (m : List ℕ). tagged slot.gathering tag.number m tag.index) at_said
@@ -686,7 +670,7 @@ heard_at profile whole number tag from cited is holds =
     let begun = is.2.begun in
     let within : tag.number - 1 < length history.said = omega (arith, some, begun) in
     let took = tagged slot.gathering tag.number (said_bytes profile said) tag.index in
-    let does = cited.does slot.gathering tag.number (said_bytes profile said) tag.index in
+    let does = cited.below.does slot.gathering tag.number (said_bytes profile said) tag.index in
     let takes = said_tag_is profile whole tag from slot cited is at holds in
     let hears_so = said_hears profile whole tag from slot had.0 cited is had.1 in
     let said_is : IsSaid profile slot.challenge said =
@@ -698,7 +682,7 @@ heard_at profile whole number tag from cited is holds =
     λ newer. let heard = hears_so newer in cited.hears map slot said said_is heard.takes heard.text (λ same. (mapped_runs map slot had.0.client history said there same (said_most profile had.0.client history said.message.moves keeps.of_client carried) had.1.joined.mapped).feed) in
     let gathers : Gathers messages (length history.said) took.gathering =
     subst (λ (m : List ℕ). Gathers messages (length history.said) (tagged slot.gathering tag.number m tag.index).gathering) at_said
-    (cited.gathers.piece messages (length history.said) slot.gathering tag.number tag.index had.1.joined.of_slot.gathers is.2.begun) in
+    (cited.below.gathers.piece messages (length history.said) slot.gathering tag.number tag.index had.1.joined.of_slot.gathers is.2.begun) in
     rw at (record {
       same = ap (λ (t : hears.Taken). kept_ends (kept_of profile whole) (by_ends.server_took whole.ends (fronts.Deliver number) t))
           (heard_by_bytes profile whole tag from slot cited is at holds

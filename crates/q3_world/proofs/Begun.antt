@@ -109,7 +109,7 @@ Holds-begun windows profile whole c slot place stage game owed built map frames 
     let joined = had.joined in
     let was = if_some_then built.base (BaseIs (slot.sending.number + 1) (asked slot) history.built) (WasBuilt history.built) (λ b known. known.1) base in
     let begun = KeepsSlot-begun profile stands history.qport history.host history.built history.run history.server_commands built sends fits is sendable was
-    (KeepsSlot-stands profile slot history.qport history.host history.built history.run history.server_commands stage game owed keeps.of_slot) in
+    (KeepsSlot-stands profile slot history.qport history.host history.built history.run history.server_commands stage game owed slot.delta keeps.of_slot) in
     let commanded = AreCommanded-built windows.flow slot place.client history built carries acks joined.commanded in
     let grows = HistoryGrows-built history built in
     Holds-slot profile whole c slot next place map frames noted (whole.sent ++ handed_tag c starts left ∷ []) lt had

@@ -27,29 +27,15 @@ cited_of below profile checked =
     let least = and_parts (nat_le 512 n) (nat_le n 65536) sized.0 in
     let at_first = below.zero profile.player.kinds is.player.kinds in
     record {
+      codec = is;
+      ring = leb-true 512 n least.0;
+      below = below;
       reads = below.reads profile is;
       hears = below.hears profile is;
-      codec = is;
-      maps = below.maps;
-      begins = below.begins;
-      says = below.says;
-      stays = below.stays;
       first = (below.stays.joins profile 0 0 0 is (leb-true 512 n least.0)).applied;
       zero = record { state = at_first.0; normal = at_first.1 };
       normal = λ player state. let made = below.normal profile.player.kinds player is.player.kinds state in record { state = made.0; normal = made.1 };
       normal_entity = λ state words. below.entity profile.entity state is.entity words;
-      ring = leb-true 512 n least.0;
-      tags = below.tags;
-      qport = below.qport;
-      does = below.does;
-      gathers = below.gathers;
-      sends = below.sends;
-      bytes = below.bytes;
-      server = below.server;
-      rings = below.rings;
-      windows = below.windows;
-      scrambles = below.scrambles;
-      configs = below.configs;
     }
 
 -- ---- bytes and tags

@@ -264,8 +264,4 @@ game_does Says profile ends (events.Stop c) client port types move begun stop sh
 game_does Says profile ends (events.Show c) client port types move begun stop show toclient toserver says = absurd (show c refl)
 game_does Says profile ends (events.Toclient c bytes) client port types move begun stop show toclient toserver says = absurd (toclient c bytes refl)
 game_does Says profile ends (events.Toserver c bytes) client port types move begun stop show toclient toserver says = absurd (toserver c bytes refl)
-game_does Says profile ends (events.Serve c) client port types move begun stop show toclient toserver says = tt
-game_does Says profile ends (events.Send c) client port types move begun stop show toclient toserver says = tt
-game_does Says profile ends (events.Deliver number) client port types move begun stop show toclient toserver says = tt
-game_does Says profile ends (events.Bytes number) client port types move begun stop show toclient toserver says = tt
-game_does Says profile ends other client port types move begun stop show toclient toserver says = says
+game_does Says profile ends other client port types move begun stop show toclient toserver says = assumption

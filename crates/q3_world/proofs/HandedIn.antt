@@ -1,5 +1,5 @@
 -- What the game hands in keeps what holds.
-use Rattle.std.proofs.Common.{◌≡◌, ℕ, ◌^◌, ◌<◌, ◌≤◌, true, false, Bool, cond, List, ◌++◌, length, get_or, Option, Some, None, Ok, Err, refl, sym, ap, subst, ◌∙◌, inl, inr, arith}
+use Rattle.std.proofs.Common.{◌≡◌, ℕ, ◌^◌, ◌<◌, ◌≤◌, true, false, Bool, cond, List, [], ◌++◌, length, get_or, Option, Some, None, Ok, Err, refl, sym, ap, subst, ◌∙◌, inl, inr, arith}
 use Rattle.std.specs.Prelude.{◌==◌, if◌then◌else◌, not, nat_le, nat_lt, position, All}
 use Rattle.std.specs.List.{position_or_len}
 use Rattle.std.proofs.lemmas.Bool.{cases_Bool, cases_lt, cond_both, leb-false, lt-leb, ltb-false, not-false, eqb-false}
@@ -20,6 +20,7 @@ use Rattle.q3_text.specs.Texts.{IsText}
 use Rattle.q3_config.specs.declared.error.ConfigError.{ConfigError}
 use Rattle.q3_config.specs.Strings.{with_string, admit_fault}
 use Rattle.q3_config.specs.Laws.{piece_texts}
+use Rattle.q3_config.proofs.Faults.{Admitted, admitted}
 use Rattle.q3_window.specs.Outgoing.{IsOutgoing, fits as has_room, total_of, with_texts}
 use Rattle.q3_clmsg.specs.declared.moves.Move.{Move}
 use Rattle.q3_clmsg.specs.Moves.{IsHeldMove}
@@ -30,6 +31,7 @@ use Rattle.q3_client.specs.Moves.{Handed as HandedMove, is_issuable, issue}
 use Rattle.q3_map.specs.declared.map.Late.{Late}
 use Rattle.q3_map.specs.Map.{MapState, Handed as HandedMap, after_new_map, set_baseline_at, with_config, with_entity, without_entity}
 use Rattle.q3_built.specs.Built.{Built, IsHeld, IsArea}
+use Rattle.q3_slot.specs.declared.stage.ClientStage.TheVariants.{Connected}
 use Rattle.q3_slot.specs.Slot.{new_slot, SlotState, is_connected, is_of, on_new_map, with_player}
 use Rattle.q3_slot.specs.Slots.{changes_own, lacks_room, tells}
 use Rattle.q3_server.specs.declared.server.ConfigRefused.{ConfigRefused}
@@ -53,12 +55,12 @@ use Rattle.q3_world.specs.World.{Whole, History, no_history, history_at, with_hi
 use Rattle.q3_world.proofs.MoveLists.{is_move}
 use Rattle.q3_world.proofs.Ranged.{in_range_or}
 use Rattle.q3_world.proofs.Growth.{Grow, HistoryGrows, HistoryGrows-same, HistoryGrows-beside}
-use Rattle.q3_world.proofs.Clients.{no_area, KeepsSlot-told}
+use Rattle.q3_world.proofs.Clients.{no_area, KeepsSlot-given, KeepsSlot-stands, KeepsSlot-told}
 use Rattle.q3_world.proofs.Joined.{TakesSaid-same}
 use Rattle.q3_world.proofs.Holding.{with_new, Holds, has_client, Holds-new, same_server}
 use Rattle.q3_world.proofs.Given.{with_new_slot, Holds-player, Holds-area, with_map, Holds-map, joined_stays, Holds-issued}
 use Rattle.q3_world.proofs.EverySlot.{LeavesClient, Holds-every}
-use Rattle.q3_world.proofs.Maps.{MayGoOut, may_go_out, pieces_own}
+use Rattle.q3_world.proofs.Maps.{pieces_own}
 use Rattle.q3_world.proofs.GamesBuilt.{AreMapped-new}
 use Rattle.q3_world.proofs.GamesMaps.{AreMapped-map, AreMapped-given, AreMapped-configured, AreMapped-lined}
 use Rattle.q3_world.proofs.Mapped.{mapped_issued}
@@ -85,7 +87,7 @@ holds_join profile whole c challenge qport dup address cited lt fits holds =
       | inl none ↦ rw none (elim (found_or (position (is_of address.host qport) slots)) [
         | inl alone ↦
             rw alone (subst (λ (p : Profile). Holds profile (with_new whole c challenge qport address (new_slot p.protocol challenge qport address) (new_client profile challenge qport dup))) (sym holds.facts.by)
-            (Holds-new cited.rings cited.windows profile whole c challenge qport dup address cited.ring cited.sends cited.gathers cited.first cited.zero lt fits none alone
+            (Holds-new cited.below.rings cited.below.windows profile whole c challenge qport dup address cited.ring cited.below.sends cited.below.gathers cited.first cited.zero lt fits none alone
             (AreMapped-new profile challenge qport address whole.ends.server.map) holds))
         | inr twin ↦ rw twin.1 (unnoted profile whole c holds)
       ])
@@ -121,7 +123,7 @@ holds_given profile whole time entities is holds =
 pub holds_time : (profile : Profile) (whole : Whole) (time : ℕ) → Cited profile → time < 2 ^ 32 → Holds profile whole → Holds profile (record whole { ends = (to_server whole.ends (at_server.set_time whole.ends.server time)).ends })
 holds_time profile whole time cited short holds =
     let map = whole.ends.server.map in
-    holds_given profile whole time map.entities (cited.maps.timed profile map time short holds.facts.map) holds
+    holds_given profile whole time map.entities (cited.below.maps.timed profile map time short holds.facts.map) holds
 
 -- a line about an entity, whose number is below the end mark where it does something
 in_range_holds : (profile : Profile) (whole : Whole) (number : ℕ) (refusal : HandedIn) (step : ServerStep) → Holds profile whole
@@ -139,14 +141,14 @@ holds_entity profile whole state cited words holds =
     let entity = normal_entity profile.entity state in
     in_range_holds profile whole state.number (answers.Entity state.number (Err (record {}))) (at_server.set_entity server state) holds (λ lt.
     subst (λ (p : Profile). Holds profile (with_map whole (record server.map { entities = with_entity (normal_entity p.entity state) server.map.entities }))) (sym facts.by)
-    (holds_given profile whole server.map.time (with_entity entity server.map.entities) (cited.maps.entered profile server.map state cited.codec lt words facts.map) holds))
+    (holds_given profile whole server.map.time (with_entity entity server.map.entities) (cited.below.maps.entered profile server.map state cited.codec lt words facts.map) holds))
 
 pub holds_removed : (profile : Profile) (whole : Whole) (number : ℕ) → Cited profile → Holds profile whole
     → Holds profile (record whole { ends = (to_server whole.ends (at_server.remove_line whole.ends.server number)).ends })
 holds_removed profile whole number cited holds =
     let server = whole.ends.server in
     in_range_holds profile whole number (answers.Remove number (Err (record {}))) (at_server.remove_entity server number) holds (λ lt.
-    holds_given profile whole server.map.time (without_entity number server.map.entities) (cited.maps.removed profile server.map number holds.facts.map) holds)
+    holds_given profile whole server.map.time (without_entity number server.map.entities) (cited.below.maps.removed profile server.map number holds.facts.map) holds)
 
 -- ---- maps
 
@@ -154,21 +156,8 @@ holds_removed profile whole number cited holds =
 slot_on_map : (profile : Profile) (slot : SlotState) (qport host : ℕ) (built : List Built) (run : List Move) (commands : List (List ℕ)) → IsHeld profile zero_player
     → KeepsSlot profile slot qport host built run commands → KeepsSlot profile (on_new_map slot) qport host built run commands
 slot_on_map profile slot qport host built run commands first keeps =
-    record {
-      qport = keeps.qport;
-      host = keeps.host;
-      sending = keeps.sending;
-      player = first;
-      area = no_area;
-      built = keeps.built;
-      bases = keeps.bases;
-      from = keeps.from;
-      last = keeps.last;
-      rise = keeps.rise;
-      window = keeps.window;
-      texts = keeps.texts;
-      own = keeps.own;
-    }
+    KeepsSlot-given profile (record slot { stage = Connected; game = None; owed = false; delta = 0 }) qport host built run commands zero_player (record { items = [] }) first no_area
+    (KeepsSlot-stands profile slot qport host built run commands Connected None false 0 keeps)
 
 -- what joins its ends
 joined_on_map : (profile : Profile) (map : MapState) (slot : SlotState) (client : ClientState) (history : History) (id feed : ℕ) → map.id < id → AreJoined profile map slot client history
@@ -196,7 +185,7 @@ holds_new_map profile whole id feed cited least short holds =
           rw later (Holds-every profile whole (after_new_map map id feed) on_new_map whole.histories
           (record {
             leaves = record { host = λ slot. refl; qport = λ slot. refl };
-            is = cited.maps.new_map profile map id feed least short holds.facts.map;
+            is = cited.below.maps.new_map profile map id feed least short holds.facts.map;
             count = holds.facts.histories;
             grows = λ c. HistoryGrows-same (history_at whole.histories c);
             built = λ c lt. refl;
@@ -228,7 +217,7 @@ holds_baseline profile whole state cited words holds =
     (λ (handed : HandedMap Late). IsMap profile handed.map → Holds profile (with_map whole handed.map))
     (λ begun is. holds)
     (λ before is. Holds-map profile whole next is (joined_stays profile map next (AreMapped-lined map (with_line map.lines entity) before)) holds)
-    (cited.maps.lined profile map state cited.codec lt words holds.facts.map)))
+    (cited.below.maps.lined profile map state cited.codec lt words holds.facts.map)))
 
 -- ---- config strings
 
@@ -344,10 +333,10 @@ Holds-config profile whole index text cited is may holds =
           ∙ (ap (λ (s : Option SlotState). told_history texts s (history_at whole.histories c)) none ∙ ap (λ (h : History). told_history texts None h) nothing);
       keeps = λ c slot place lt had.
           subst (AreEnds profile (tells texts slot) place.client place.address) (sym (noted c slot lt had.slot_is))
-          (ends_told cited.windows profile slot place.client (history_at whole.histories c) texts (lacks c slot lt had.slot_is) may.are may.own place.address had.keeps);
+          (ends_told cited.below.windows profile slot place.client (history_at whole.histories c) texts (lacks c slot lt had.slot_is) may.are may.own place.address had.keeps);
       joins = λ c slot place lt had.
           subst (AreJoined profile next (tells texts slot) place.client) (sym (noted c slot lt had.slot_is))
-          (joins_told cited.windows profile slot place.client (history_at whole.histories c) texts (lacks c slot lt had.slot_is) may.are may.own next had.keeps.of_slot.window
+          (joins_told cited.below.windows profile slot place.client (history_at whole.histories c) texts (lacks c slot lt had.slot_is) may.are may.own next had.keeps.of_slot.window
           (joined_stays profile server.map next (AreMapped-configured server.map (with_string server.map.strings index text)) (Some slot) (Some place) (history_at whole.histories c) had.joined));
     }) holds
   where
@@ -379,28 +368,28 @@ holds_config profile whole index text cited bytes holds =
     (λ own. holds)
     (λ other. of_fault (eqb-false index own_string other) (admit_fault server.map.strings index text) refl)
   where
-    told : (index ≡ 1 → ⊥) → MayGoOut whole.ends.server.map.strings index text → admit_fault whole.ends.server.map.strings index text ≡ None → position (lacks_room (piece_texts index text)) whole.ends.server.slots ≡ None
+    told : (index ≡ 1 → ⊥) → Admitted whole.ends.server.map.strings index text → admit_fault whole.ends.server.map.strings index text ≡ None → position (lacks_room (piece_texts index text)) whole.ends.server.slots ≡ None
         → Holds profile (config_changed whole index text)
-    told other may admitted none =
+    told other may fault none =
         Holds-config profile whole index text cited
-        (cited.maps.configured profile whole.ends.server.map index text other admitted holds.facts.map)
+        (cited.below.maps.configured profile whole.ends.server.map index text other fault holds.facts.map)
         (record {
           room = λ c lt. none_passes (lacks_room (piece_texts index text)) whole.ends.server.slots none c None (omega (arith, lt, holds.facts.slots));
-          are = cited.configs.pieces whole.ends.server.map.strings index text admitted;
-          own = pieces_own cited.configs.read index text other may.within may.carried;
+          are = cited.below.configs.pieces whole.ends.server.map.strings index text fault;
+          own = pieces_own cited.below.configs.read index text other may.within may.carried;
         }) holds
 
-    of_place : (index ≡ 1 → ⊥) → MayGoOut whole.ends.server.map.strings index text → admit_fault whole.ends.server.map.strings index text ≡ None → is_same whole.ends.server.map index text ≡ false → (found : Option ℕ)
+    of_place : (index ≡ 1 → ⊥) → Admitted whole.ends.server.map.strings index text → admit_fault whole.ends.server.map.strings index text ≡ None → is_same whole.ends.server.map index text ≡ false → (found : Option ℕ)
         → position (lacks_room (piece_texts index text)) whole.ends.server.slots ≡ found → Configured profile whole index text (change_unless whole.ends.server index text found)
-    of_place other may admitted changed (Some c) found = holds
-    of_place other may admitted changed None found = rw changed (told other may admitted found)
+    of_place other may fault changed (Some c) found = holds
+    of_place other may fault changed None found = rw changed (told other may fault found)
 
     of_fault : (index ≡ 1 → ⊥) → (fault : Option ConfigError) → admit_fault whole.ends.server.map.strings index text ≡ fault → Configured profile whole index text (change_or whole.ends.server index text fault)
     of_fault other (Some fault) refused = holds
-    of_fault other None admitted =
+    of_fault other None none =
         elim (cases_Bool (is_same whole.ends.server.map index text)) [
           | inl same ↦ rw same (rw same holds)
-          | inr changed ↦ rw changed (of_place other (may_go_out whole.ends.server.map.strings index text admitted) admitted changed (position (lacks_room (piece_texts index text)) whole.ends.server.slots) refl)
+          | inr changed ↦ rw changed (of_place other (admitted whole.ends.server.map.strings index text none) none changed (position (lacks_room (piece_texts index text)) whole.ends.server.slots) refl)
         ]
 
 -- ---- moves
@@ -461,7 +450,7 @@ holds_say profile whole c text cited is lt holds =
             | inr other ↦ rw other (elim (cases_Bool (is_connected slot.stage)) [
               | inl waits ↦ rw waits (slot_alone profile whole c slot found.1 holds)
               | inr begun ↦ rw begun (elim (cases_Bool (has_room slot.issued 1 (length text))) [
-                | inl room ↦ rw room (Holds-spoken cited.windows profile whole c slot text lt found.1 room is other holds)
+                | inl room ↦ rw room (Holds-spoken cited.below.windows profile whole c slot text lt found.1 room is other holds)
                 | inr full ↦ rw full (slot_alone profile whole c slot found.1 holds)
               ])
             ])
@@ -483,7 +472,7 @@ holds_type profile whole c text cited is lt holds =
       | inl none ↦ rw none (unnoted profile whole c holds)
       | inr found ↦
           rw found.1 (elim (cases_Bool (has_room found.0.client.issued 1 (length text))) [
-            | inl room ↦ rw room (Holds-typed cited.windows profile whole c found.0 text lt found.1 room is holds)
+            | inl room ↦ rw room (Holds-typed cited.below.windows profile whole c found.0 text lt found.1 room is holds)
             | inr full ↦ rw full (left_alone profile whole c found.0 whole.sent found.1 refl holds)
           ])
     ]

@@ -108,7 +108,7 @@ next_is_built profile whole c slot place cited lt had fits clear holds =
     let keeps = had.keeps.of_slot in
     let joined = had.joined in
     let names = executed_by_slot profile slot place.client history had.keeps.of_client joined.commanded in
-    cited.begins.snapshot profile map slot cited.codec holds.facts.map (is_joined profile whole c slot place had) (slot_stands profile slot keeps.window keeps.area names)
+    cited.below.begins.snapshot profile map slot cited.codec holds.facts.map (is_joined profile whole c slot place had) (slot_stands profile slot keeps.window keeps.area names)
     frames c fits clear
 
 -- a snapshot is begun, unless it is too long
@@ -132,21 +132,21 @@ served_built profile whole c slot cited lt is fits clear holds =
     let number = next_number map slot in
     let are = holds.facts.frames.each c lt in
     let has = asked_has slot history.said history.built history.accepted joined.of_client.accepted joined.asked in
-    let base = next_base cited.server profile map frames c slot history.built begun are has in
+    let base = next_base cited.below.server profile map frames c slot history.built begun are has in
     let names = executed_by_slot profile slot client history had.1.keeps.of_client joined.commanded in
-    let may = sendable cited.scrambles bits Server next.key cited.bytes (low_byte profile.protocol (bit_xor slot.challenge (slot.sending.number + 1))) names.text in
+    let may = sendable cited.below.scrambles bits Server next.key cited.below.bytes (low_byte profile.protocol (bit_xor slot.challenge (slot.sending.number + 1))) names.text in
     let count = length-map whole.sent bytes_of in
     elim (cases_Bool (nat_lt longest_message (message_length (length bits)))) [
-      | inl long ↦ rw long (record { same = rw count refl; holds = Holds-too_long cited.server profile whole c slot lt is holds })
+      | inl long ↦ rw long (record { same = rw count refl; holds = Holds-too_long cited.below.server profile whole c slot lt is holds })
       | inr short ↦
           let pushed = map_push bytes_of whole.sent (handed_tag c (slot_begun profile slot next) first) in
           let built = next_is_built profile whole c slot place cited lt had.1 fits clear holds in
-          let kept = KeepsFrames-built cited.server frames whole.histories c (with_built history (Some next)) (next_snapshot map slot) lt holds.facts.histories
-          (frames_begun cited.server frames c history.built (telling_of profile slot) map.lines next.base (next_snapshot map slot) (omega (arith, begun, number)) are) holds.facts.frames in
+          let kept = KeepsFrames-built cited.below.server frames whole.histories c (with_built history (Some next)) (next_snapshot map slot) lt holds.facts.histories
+          (frames_begun cited.below.server frames c history.built (telling_of profile slot) map.lines next.base (next_snapshot map slot) (omega (arith, begun, number)) are) holds.facts.frames in
           let mapped = mapped_snapshot map slot client history next (has_snapshot next refl) refl refl (asked_base slot next history.built (slot.sending.number + 1) base) joined.mapped in
           rw short (record {
             same = rw (count, pushed) refl;
-            holds = Holds-begun cited.windows profile whole c slot place slot.stage slot.game slot.owed next map (next_frames map frames c slot) first cited.sends cited.gathers lt had.1 fits built (may short) refl refl base refl
+            holds = Holds-begun cited.below.windows profile whole c slot place slot.stage slot.game slot.owed next map (next_frames map frames c slot) first cited.below.sends cited.below.gathers lt had.1 fits built (may short) refl refl base refl
                 holds.facts.map (λ s e h joined. joined) kept mapped holds;
           })
     ]
@@ -172,14 +172,14 @@ served_game profile whole c slot cited lt is owed fits clear holds =
     let keeps = had.1.keeps in
     let begun = keeps.of_slot.sending.begun in
     let names = executed_by_slot profile slot client history keeps.of_client joined.commanded in
-    let may = sendable cited.scrambles bits Server next.key cited.bytes (low_byte profile.protocol (bit_xor slot.challenge n)) names.text in
+    let may = sendable cited.below.scrambles bits Server next.key cited.below.bytes (low_byte profile.protocol (bit_xor slot.challenge n)) names.text in
     let count = length-map whole.sent bytes_of in
     elim (cases_Bool (nat_lt longest_message (message_length (length bits)))) [
       | inl long ↦ rw long (quiet profile whole c (with_slot server c slot) emitted.Overlong (same_server server c slot is) holds)
       | inr short ↦
           let pushed = map_push bytes_of whole.sent (handed_tag c (slot_begun profile stands next) first) in
           let other = joined.mapped.stands.owed owed in
-          let built = cited.begins.game profile map slot cited.codec holds.facts.map (is_joined profile whole c slot place had.1) (slot_stands profile slot keeps.of_slot.window keeps.of_slot.area names)
+          let built = cited.below.begins.game profile map slot cited.codec holds.facts.map (is_joined profile whole c slot place had.1) (slot_stands profile slot keeps.of_slot.window keeps.of_slot.area names)
           c (omega (arith, lt)) owed clear in
           let kept = KeepsFrames-game frames whole.histories c (with_built history (Some next)) lt holds.facts.histories
           (frames_of_game frames c history.built next refl (holds.facts.frames.each c lt)) holds.facts.frames in
@@ -187,8 +187,8 @@ served_game profile whole c slot cited lt is owed fits clear holds =
           joined.mapped in
           rw short (record {
             same = rw (count, pushed) refl;
-            holds = Holds-begun cited.windows profile whole c slot place Primed (Some n) false next (begins_game map) frames first cited.sends cited.gathers lt had.1 fits built (may short) refl refl tt refl
-                (cited.maps.begun profile map holds.facts.map) (joined_stays profile map (begins_game map) (AreMapped-begun map)) kept mapped holds;
+            holds = Holds-begun cited.below.windows profile whole c slot place Primed (Some n) false next (begins_game map) frames first cited.below.sends cited.below.gathers lt had.1 fits built (may short) refl refl tt refl
+                (cited.below.maps.begun profile map holds.facts.map) (joined_stays profile map (begins_game map) (AreMapped-begun map)) kept mapped holds;
           })
     ]
 
@@ -228,7 +228,7 @@ served_from profile whole c slot None cited lt is none holds = served_new profil
 served_from profile whole c slot (Some left) cited lt is some holds =
     let count = length-map whole.sent bytes_of in
     let pushed = map_push bytes_of whole.sent (handed_tag c slot left) in
-    record { same = rw (count, pushed) refl; holds = Holds-handed profile whole c slot left cited.sends lt is some holds }
+    record { same = rw (count, pushed) refl; holds = Holds-handed profile whole c slot left cited.below.sends lt is some holds }
 
 pub served : (profile : Profile) (whole : Whole) (c : ℕ) → Cited profile → c < places → Holds profile whole
     → Served profile whole c (emit_from whole.ends.server c (slot_at whole.ends.server c))
@@ -272,8 +272,8 @@ said_text profile whole c place cited lt found fits clear holds =
     let keeps = had.1.keeps.of_client in
     let is : IsClient place.client = record { applied = keeps.applied; taken = taken_fits profile whole c place lt found holds; window = keeps.window; few = keeps.moves.few; moves = record { each = keeps.moves.each } } in
     let said_is : IsSaid profile place.client.challenge next = subst (λ (p : Profile). IsSaid p place.client.challenge next) keeps.by
-    (cited.says.next place.client is (subst (λ (p : Profile). is_said_unclear p (next_message place.client) ≡ false) (sym keeps.by) clear)) in
-    let may = sendable cited.scrambles bits Client next.key cited.bytes (low_byte place.client.state.profile.protocol (bit_xor (bit_xor place.client.challenge place.client.state.id) place.client.gathering.taken)) keeps.applied.last in
+    (cited.below.says.next place.client is (subst (λ (p : Profile). is_said_unclear p (next_message place.client) ≡ false) (sym keeps.by) clear)) in
+    let may = sendable cited.below.scrambles bits Client next.key cited.below.bytes (low_byte place.client.state.profile.protocol (bit_xor (bit_xor place.client.challenge place.client.state.id) place.client.gathering.taken)) keeps.applied.last in
     elim (cases_Bool (nat_lt longest_message (message_length (length bits)))) [
       | inl long ↦ rw long (silent profile whole c place answered_sent.Overlong found holds)
       | inr short ↦
@@ -281,7 +281,7 @@ said_text profile whole c place cited lt found fits clear holds =
           let pushed = map_push bytes_of whole.sent (said_tag c (place.address) (client_begun profile place.client) first) in
           rw short (record {
             same = rw (count, pushed) refl;
-            holds = Holds-said cited.windows profile whole c had.0 place first cited.sends cited.gathers lt had.1 refl fits said_is (may short)
+            holds = Holds-said cited.below.windows profile whole c had.0 place first cited.below.sends cited.below.gathers lt had.1 refl fits said_is (may short)
                 (mapped_said whole.ends.server.map had.0 place.client (history_at whole.histories c) had.1.joined.of_client.asks.0 had.1.joined.since had.1.joined.mapped) holds;
           })
     ]
@@ -311,7 +311,7 @@ said_left profile whole c place None cited lt found none holds = said_new profil
 said_left profile whole c place (Some left) cited lt found some holds =
     let count = length-map whole.sent bytes_of in
     let pushed = map_push bytes_of whole.sent (said_tag c (place.address) place.client left) in
-    record { same = rw (count, pushed) refl; holds = Holds-goes profile whole c place left cited.sends lt found some holds }
+    record { same = rw (count, pushed) refl; holds = Holds-goes profile whole c place left cited.below.sends lt found some holds }
 
 -- what a client makes at a place with another end of it is what it makes at its own place
 said_there : (profile : Profile) (whole : Whole) (c : ℕ) (place : Place) (client : ClientState) (emission : speaks.Emission)

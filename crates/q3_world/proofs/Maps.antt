@@ -1,56 +1,14 @@
 -- Which texts of config strings may go out as commands.
-use Rattle.std.proofs.Common.{◌≡◌, ℕ, ◌*◌, ◌<◌, true, false, List, [], ◌∷◌, length, get_or, map, take, drop, Option, Some, None, refl, sym, ap, ◌∙◌, inl, inr, arith}
-use Rattle.std.specs.Prelude.{◌==◌, ◌&&◌, ◌||◌, not, nat_lt, nat_le, find, All}
+use Rattle.std.proofs.Common.{◌≡◌, ℕ, ◌*◌, ◌<◌, true, false, List, length, get_or, map, take, drop, Option, Some, refl, sym, ap, ◌∙◌, inl, inr, arith}
+use Rattle.std.specs.Prelude.{◌==◌, ◌&&◌, ◌||◌, not, nat_lt, nat_le, All}
 use Rattle.std.specs.List.{range_with_len}
-use Rattle.std.proofs.lemmas.Bool.{cases_Bool, cond_both, ltb-true, ne_eqb, not-false, not-true, and_parts, eqb-false}
-use Rattle.std.proofs.lemmas.List.Elements.{All-nil, All-cons, All-weaker, All-map, All-take, All-drop, All-from_get_or}
+use Rattle.std.proofs.lemmas.Bool.{cases_Bool, cond_both, ne_eqb, not-true, and_parts, eqb-false}
+use Rattle.std.proofs.lemmas.List.Elements.{All-weaker, All-map, All-take, All-drop, All-from_get_or}
 use Rattle.q3_text.specs.Texts.{translated}
-use Rattle.q3_config.specs.declared.error.ConfigError.{ConfigError}
-use Rattle.q3_config.specs.declared.error.ConfigError.TheVariants.{Index}
-use Rattle.q3_config.specs.Strings.{Strings, places, is_config_byte, chars_fault, admit_fault}
+use Rattle.q3_config.specs.Strings.{places, is_config_byte}
 use Rattle.q3_config.specs.Commands.{Change, piece_count, change_text, change_in, config_piece}
 use Rattle.q3_config.specs.Laws.{IsChange, SpelledIsRead, piece_texts}
 use Rattle.q3_slot.specs.Slots.{is_of_index, changes_own}
-
--- ---- a config string
-
--- a text that may go out as commands: its index is one of a string, and each of its bytes may be carried
-pub record MayGoOut (strings : Strings) (index : ℕ) (text : List ℕ) : Type 0 where
-  pub within : index < places
-  pub carried : All (λ byte. is_config_byte byte ≡ true) text
-
-abbrev some_fault : ConfigError → Option ConfigError
-some_fault fault = Some fault
-
-abbrev no_fault : Option ConfigError
-no_fault = None
-
-abbrev some_byte : ℕ → Option ℕ
-some_byte byte = Some byte
-
-abbrev no_byte : Option ℕ
-no_byte = None
-
--- where no byte is found, each of them may be carried
-all_carried : (text : List ℕ) → find (λ byte. not (is_config_byte byte)) text ≡ None → All (λ byte. is_config_byte byte ≡ true) text
-all_carried [] none = All-nil (λ byte. is_config_byte byte ≡ true)
-all_carried (byte ∷ text) none =
-    elim (cases_Bool (not (is_config_byte byte))) [
-      | inl bad ↦ let e : some_byte byte ≡ no_byte = rw bad at none in absurd cc
-      | inr fine ↦ All-cons (λ byte. is_config_byte byte ≡ true) byte text (not-false (is_config_byte byte) fine) (all_carried text (rw fine at none))
-    ]
-
-pub may_go_out : (strings : Strings) (index : ℕ) (text : List ℕ) → admit_fault strings index text ≡ None → MayGoOut strings index text
-unfolding admit_fault
-may_go_out strings index text none =
-    elim (cases_Bool (nat_lt index places)) [
-      | inl within ↦ of_chars within (find (λ byte. not (is_config_byte byte)) text) refl (rw within at none)
-      | inr past ↦ let e : some_fault Index ≡ no_fault = rw past at none in absurd cc
-    ]
-  where
-    of_chars : nat_lt index places ≡ true → (byte : Option ℕ) → find (λ byte. not (is_config_byte byte)) text ≡ byte → chars_fault strings index text byte ≡ None → MayGoOut strings index text
-    of_chars within None found fits = record { within = ltb-true index places within; carried = all_carried text found }
-    of_chars within (Some byte) found fits = absurd cc
 
 -- ---- the commands of a change
 

@@ -20,15 +20,15 @@ use Rattle.q3_world.proofs.Holding.{Holds, Holds-at, with_client_of}
 use Rattle.q3_world.proofs.OnePlace.{OnlyAt-same, OnlyAt-set, set_there}
 
 -- what is said of a client's end and address is said of another place too
-record Alike (profile : Profile) (old new : Place) : Type 0 where
-  is : (slot : Option SlotState) (history : History) → IsClient profile slot (Some old) history → IsClient profile slot (Some new) history
-  joined : (map : MapState) (slot : Option SlotState) (history : History) → IsJoined profile map slot (Some old) history → IsJoined profile map slot (Some new) history
+pub record Alike (profile : Profile) (old new : Place) : Type 0 where
+  pub is : (slot : Option SlotState) (history : History) → IsClient profile slot (Some old) history → IsClient profile slot (Some new) history
+  pub joined : (map : MapState) (slot : Option SlotState) (history : History) → IsJoined profile map slot (Some old) history → IsJoined profile map slot (Some new) history
 
 -- the world with another place of a client
-abbrev placed : Whole → ℕ → Place → Whole
+abbrev pub placed : Whole → ℕ → Place → Whole
 placed whole c new = record whole { ends = with_place whole.ends c new }
 
-holds_placed : (profile : Profile) (whole : Whole) (c : ℕ) (old new : Place) → Alike profile old new → c < places → place_at whole.ends c ≡ Some old → Holds profile whole
+pub holds_placed : (profile : Profile) (whole : Whole) (c : ℕ) (old new : Place) → Alike profile old new → c < places → place_at whole.ends c ≡ Some old → Holds profile whole
     → Holds profile (placed whole c new)
 holds_placed profile whole c old new alike lt at holds =
     let ends = whole.ends in

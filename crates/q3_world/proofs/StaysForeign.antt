@@ -9,7 +9,7 @@ use Rattle.q3_io.specs.declared.address.Address.{Address}
 use Rattle.q3_world.specs.declared.made.Direction.{Direction}
 use Rattle.q3_world.specs.declared.made.Direction.TheVariants.{ToClient, ToServer}
 use Rattle.q3_world.specs.declared.places.Place.{Place}
-use Rattle.q3_world.specs.Ends.{EndsStep, place_at, Line, Hands, Serves, Sends, Delivers, TellsBytes, HandsBytes}
+use Rattle.q3_world.specs.Ends.{EndsStep, place_at, Line, Sends, Delivers, HandsBytes}
 use Rattle.q3_world.specs.World.{Tag, Whole, History, arrive, deliver_as, send, to_client, to_server, whole_line, with_handed}
 
 pub sends_so : (whole : Whole) (c : ℕ) (found : Option Place) → (send whole c found).whole.foreign ≡ whole.foreign
@@ -39,9 +39,7 @@ handed_so whole (Some place) step foreign = refl
 
 -- no line changes it back
 pub stays_foreign : (profile : Profile) (whole : Whole) (note : Answered → List History) (line : Line) → whole.foreign ≡ true → (whole_line profile whole note line).whole.foreign ≡ true
-stays_foreign profile whole note (Hands step) foreign = foreign
-stays_foreign profile whole note (Serves c) foreign = foreign
 stays_foreign profile whole note (Sends c) foreign = sends_so whole c (place_at whole.ends c) ∙ foreign
 stays_foreign profile whole note (Delivers number) foreign = delivers_so whole.foreign profile whole number (slice_get whole.sent (number - 1)) ∙ foreign
-stays_foreign profile whole note (TellsBytes number) foreign = foreign
 stays_foreign profile whole note (HandsBytes c step) foreign = handed_so whole (place_at whole.ends c) step foreign
+stays_foreign profile whole note line foreign = foreign
