@@ -63,7 +63,7 @@ pub fn read_string<const N: usize>(
 
 /// Reads a string of at most 1,023 bytes into its place. After a refusal `into` may hold any. `Err` comes as in
 /// `read_string`.
-#[inline(never)]
+#[inline(always)]
 pub fn read_text(r: &mut Reader, into: &mut Text) -> Result<(), StringError>
     ensures { Reads r.old r.new (string_after r.old.words most_bytes r.old.left) (holding into.new result) }
 {
@@ -87,9 +87,13 @@ pub fn read_text(r: &mut Reader, into: &mut Text) -> Result<(), StringError>
 /// Reads a command behind its operation into its place. After a refusal `into` may hold any. `Err` comes as in
 /// `read_string`.
 #[tactic(auto, unfolding(crate::specs::Reading::command_after))]
+#[inline(always)]
 pub fn read_command(r: &mut Reader, into: &mut Command) -> Result<(), StringError>
     ensures { Reads r.old r.new (command_after r.old.words r.old.left) (holding into.new result) }
 {
-    into.number = r.get_fixed(32)?;
+    // a reader apart, so that this one can stay in registers
+    let mut apart = r.copy();
+    into.number = apart.get_fixed(32)?;
+    *r = apart.copy();
     read_text(r, &mut into.text)
 }
