@@ -3,6 +3,7 @@
 //! own.
 
 ghost use Rattle.std.specs.Prelude.{◌≡◌, ◌≤◌, All};
+ghost use Rattle.q3_bits.specs.Words.{field_at};
 ghost use Rattle.q3_bits.specs.Streams.{Reads, holding};
 ghost use Rattle.q3_text.specs.Texts.{IsTextByte, most_bytes};
 ghost use Rattle.q3_strings.specs.Reading.{bytes_after, string_after, command_after};
@@ -91,9 +92,18 @@ pub fn read_text(r: &mut Reader, into: &mut Text) -> Result<(), StringError>
 pub fn read_command(r: &mut Reader, into: &mut Command) -> Result<(), StringError>
     ensures { Reads r.old r.new (command_after r.old.words r.old.left) (holding into.new result) }
 {
-    // a reader apart, so that this one can stay in registers
-    let mut apart = r.copy();
-    into.number = apart.get_fixed(32)?;
-    *r = apart.copy();
+    into.number = read_number(r)?;
     read_text(r, &mut into.text)
+}
+
+/// Reads a field of 32 bits byte by byte, so that the reader stays in registers.
+#[inline(always)]
+fn read_number(r: &mut Reader) -> Result<u32, ReadError>
+    ensures { Reads r.old r.new (field_at r.old.words 32 r.old.left) result }
+{
+    let first = r.get_byte()?;
+    let second = r.get_byte()?;
+    let third = r.get_byte()?;
+    let fourth = r.get_byte()?;
+    Ok(u32::from_le_bytes([first, second, third, fourth]))
 }
