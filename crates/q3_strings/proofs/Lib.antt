@@ -2,6 +2,7 @@ pub mod Fronts
 pub mod Rows
 pub mod Spelled
 pub mod Numbered
+pub mod NumberRead
 pub mod Nops
 pub mod Turns
 pub mod OperationTurns

@@ -21,6 +21,7 @@ const NOP: u32 = 1;
 ///
 /// `Err` is the first fault in reading order: `Bits` where the bits don't read; `TextLong` where the byte behind 1,023 of a
 /// string isn't 0; `Commands` for a 65th command, before it is read.
+#[inline(never)]
 pub fn read_row(
     r: &mut Reader,
     command: u32,
@@ -32,15 +33,17 @@ pub fn read_row(
 {
     laws::turns_are_taken();
     laws::command_read_is_spelled();
+    let mut own = r.copy();
     loop {
-        let operation = read_operation(r)?;
+        let operation = read_operation(&mut own)?;
         if operation == NOP {
             continue;
         }
         if operation != command {
+            *r = own;
             return Ok(operation);
         }
-        read_next_command(r, commands)?;
+        read_next_command(&mut own, commands)?;
     }
 }
 
@@ -55,6 +58,7 @@ fn read_operation(r: &mut Reader) -> Result<u32, ReadError>
 
 /// Reads one command more behind its operation. A 65th is refused before it is read.
 #[tactic(auto, unfolding(crate::specs::Operations::commands_at))]
+#[inline(always)]
 fn read_next_command(r: &mut Reader, commands: &mut Commands) -> Result<(), OperationError>
     ensures { Reads r.old r.new (commands_at r.old.words commands.old r.old.left) (holding commands.new result) }
 {

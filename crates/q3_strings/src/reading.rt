@@ -3,6 +3,7 @@
 //! own.
 
 ghost use Rattle.std.specs.Prelude.{◌≡◌, ◌≤◌, All};
+ghost use Rattle.q3_bits.specs.Words.{field_at};
 ghost use Rattle.q3_bits.specs.Streams.{Reads, holding};
 ghost use Rattle.q3_text.specs.Texts.{IsTextByte, most_bytes};
 ghost use Rattle.q3_strings.specs.Reading.{bytes_after, string_after, command_at};
@@ -63,7 +64,7 @@ pub fn read_string<const N: usize>(
 
 /// Reads a string of at most 1,023 bytes into its place. After a refusal `into` may hold any. `Err` comes as in
 /// `read_string`.
-#[inline(never)]
+#[inline(always)]
 pub fn read_text(r: &mut Reader, into: &mut Text) -> Result<(), StringError>
     ensures { Reads r.old r.new (string_after r.old.words most_bytes r.old.left) (holding into.new result) }
 {
@@ -87,9 +88,22 @@ pub fn read_text(r: &mut Reader, into: &mut Text) -> Result<(), StringError>
 /// Reads a command behind its operation into its place. After a refusal `into` may hold any. `Err` comes as in
 /// `read_string`.
 #[tactic(auto, unfolding(crate::specs::Reading::command_at))]
+#[inline(always)]
 pub fn read_command(r: &mut Reader, into: &mut Command) -> Result<(), StringError>
     ensures { Reads r.old r.new (command_at r.old.words r.old.left) (holding into.new result) }
 {
-    into.number = r.get_fixed(32)?;
+    into.number = read_number(r)?;
     read_text(r, &mut into.text)
+}
+
+/// Reads a field of 32 bits byte by byte, so that the reader stays in registers.
+#[inline(always)]
+fn read_number(r: &mut Reader) -> Result<u32, ReadError>
+    ensures { Reads r.old r.new (field_at r.old.words 32 r.old.left) result }
+{
+    let first = r.get_byte()?;
+    let second = r.get_byte()?;
+    let third = r.get_byte()?;
+    let fourth = r.get_byte()?;
+    Ok(u32::from_le_bytes([first, second, third, fourth]))
 }

@@ -153,9 +153,15 @@ impl Text {
     }
 
     /// Becomes the same as another text. As many bytes are copied as the other has.
+    #[inline(never)]
     pub fn copy_from(&mut self, other: &Text)
         ensures { self.new ≡ other.now }
     {
+        // the bytes of a text as long are written over, and need no clearing
+        if self.bytes.len() == other.bytes.len() {
+            self.bytes.as_mut_slice().copy_from_slice(&other.bytes);
+            return;
+        }
         self.bytes.clear();
         let _ = self.bytes.try_extend_from_slice(&other.bytes);
     }

@@ -148,6 +148,7 @@ fn first_gap(executed: u32, commands: &[Command]) -> Option<u32>
 }
 
 /// Puts those of commands that are to be executed behind a number.
+#[inline(never)]
 fn put_fresh(executed: u32, commands: &[Command], ran: &mut Commands)
     requires empty { ran.old ≡ [] }
     requires few { length commands.now ≤ 64 }
