@@ -17,7 +17,7 @@ use Rattle.q3_entity.specs.Baselines.{Lines, AreLines}
 use Rattle.q3_gamestate.specs.Values.{Gamestate}
 use Rattle.q3_gamestate.specs.Laws.{IsGamestate}
 use Rattle.q3_svmsg.specs.Values.{Snap, Game, Message, base_from}
-use Rattle.q3_svmsg.specs.Texts.{message_text}
+use Rattle.q3_svmsg.specs.Texts.{server_message_bits}
 use Rattle.q3_ring.specs.Snapshot.{Snapshot}
 use Rattle.q3_map.specs.Map.{AreHeld}
 
@@ -71,7 +71,7 @@ is_unclear profile ack = chan.is_unclear profile.protocol Server (length (row_bi
 
 -- the bits of a message
 abbrev pub built_bits : Profile → Built → List Bool
-built_bits profile built = message_text profile built.lines (option_map base_from built.base) built.message
+built_bits profile built = server_message_bits profile built.lines (option_map base_from built.base) built.message
 
 -- its bytes before they are scrambled, if they are
 abbrev pub plain_bytes : Profile → Built → List ℕ

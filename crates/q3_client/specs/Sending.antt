@@ -11,7 +11,7 @@ use Rattle.q3_chan.specs.Keys.{Key, client_key, client_scrambled}
 use Rattle.q3_chan.specs.Keys as chan
 use Rattle.q3_clmsg.specs.declared.moves.Move.{Move}
 use Rattle.q3_clmsg.specs.Moves.{message_key}
-use Rattle.q3_clmsg.specs.Texts.{client_text}
+use Rattle.q3_clmsg.specs.Texts.{client_message_bits}
 use Rattle.q3_clmsg.specs.Values.{Message}
 use Rattle.q3_clmsg.specs.Laws.{IsMessage}
 use Rattle.q3_text.specs.Texts.{IsText}
@@ -56,7 +56,7 @@ next_said client = record {
 
 -- the bits of a message
 abbrev pub said_bits : Profile → Said → List Bool
-said_bits profile said = client_text profile.code (message_key said.feed said.message.acknowledged said.key.text) said.message
+said_bits profile said = client_message_bits profile.code (message_key said.feed said.message.acknowledged said.key.text) said.message
 
 -- and its bytes, scrambled after the three leading longs by protocol 68
 abbrev pub said_bytes : Profile → Said → List ℕ

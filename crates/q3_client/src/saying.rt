@@ -10,7 +10,7 @@ ghost use Rattle.q3_chan.specs.Keys.{client_key, is_unclear};
 ghost use Rattle.q3_chan.specs.declared.side.Side.TheVariants.{Client};
 ghost use Rattle.q3_window.specs.Outgoing.{IsOutgoing, carried as waiting_of};
 ghost use Rattle.q3_clmsg.specs.Moves.{message_key};
-ghost use Rattle.q3_clmsg.specs.Texts.{client_text};
+ghost use Rattle.q3_clmsg.specs.Texts.{client_message_bits};
 ghost use Rattle.q3_clmsg.specs.Values.{parts_said};
 ghost use Rattle.q3_clstate.specs.Standing.{IsApplied};
 ghost use Rattle.q3_client.specs.Moves.{most_moves};
@@ -54,7 +54,7 @@ pub(crate) fn write_scrambled(
     ensures stands { IsApplied state.now }
     ensures window { IsOutgoing outgoing.now }
     ensures fills { FillsScrambled (client_key state.now.profile.protocol challenge state.now.id acknowledged state.now.executed.last)
-        (client_text state.now.profile.code (message_key state.now.feed acknowledged state.now.executed.last)
+        (client_message_bits state.now.profile.code (message_key state.now.feed acknowledged state.now.executed.last)
         (message_with state.now.id acknowledged state.now.executed.executed (waiting_of outgoing.now) delta moves.now)) into.new result }
 {
     let text = state.last_text();

@@ -10,7 +10,7 @@ use Rattle.q3_bits.specs.Words.{IsCode, row_bits, field_at}
 use Rattle.q3_bits.specs.Laws.{ReadWasPut}
 use Rattle.q3_text.specs.declared.text.Command.{Command}
 use Rattle.q3_strings.specs.Commands.{commands_bits, SpellsNops, SpellsCommands, SpellsEnding}
-use Rattle.q3_strings.specs.Operations.{Row, row_after, ending_after}
+use Rattle.q3_strings.specs.Operations.{Row, row_at, ending_at}
 use Rattle.q3_strings.specs.Rows.{row-empty, row-none, row-behind, field_was_put}
 use Rattle.q3_strings.specs.Laws.{IsCommand, CommandsAreSpelled, WasRow, RowReadIsSpelled, EndingReadIsSpelled}
 use Rattle.q3_clmsg.specs.declared.moves.Move.{Move}
@@ -18,8 +18,8 @@ use Rattle.q3_clmsg.specs.declared.heads.Heads.{Heads}
 use Rattle.q3_clmsg.specs.declared.error.ClientIllegible.TheVariants.{Bits, MoveCount}
 use Rattle.q3_clmsg.specs.Moves.{IsMove, no_move, moves_bits, moves_at}
 use Rattle.q3_clmsg.specs.Values.{Message, empty_message}
-use Rattle.q3_clmsg.specs.Texts.{move_operation, section_bits, client_text}
-use Rattle.q3_clmsg.specs.Reading.{operation_error, field_read, heads_after, section_after, moved_after, rest_after, operations_after, client_after}
+use Rattle.q3_clmsg.specs.Texts.{move_operation, section_bits, client_message_bits}
+use Rattle.q3_clmsg.specs.Reading.{operation_error, field_read, heads_after, section_at, moved_at, rest_at, operations_at, client_message_at}
 use Rattle.q3_clmsg.specs.Spelling.{SpellsMoves, SpellsSection, SpellsMessage}
 use Rattle.q3_clmsg.specs.Laws.{IsMessage, WrittenIsSpelled, ReadIsSpelled}
 use Rattle.q3_clmsg.proofs.Steps.{none_is}
@@ -49,7 +49,7 @@ section_is_spelled words key delta (one ∷ moves) few each whole =
     (moves_bits words key no_move (one ∷ moves), few, moves_are_spelled words key no_move (one ∷ moves) none_is each, refl)
 
 pub message_is_spelled : CommandsAreSpelled → WrittenIsSpelled
-unfolding client_text
+unfolding client_message_bits
 message_is_spelled commands_are words key message code fits is =
     let commands = commands_bits words 4 message.commands in
     let section = section_bits words key message.delta message.moves in
@@ -83,9 +83,9 @@ record ReadSection (words : List (List Bool)) (key : ℕ) (bits : List Bool) (fo
   spells : SpellsMoves words key no_move found.0 text
   parts : bits ≡ row_bits words ((length found.0, 8) ∷ []) ++ (text ++ found.1)
 
-section_was_spelled : ReadWasPut → (words : List (List Bool)) → IsCode words → (key : ℕ) (bits : List Bool) (found : List Move × List Bool) → section_after words key bits ≡ Ok found
+section_was_spelled : ReadWasPut → (words : List (List Bool)) → IsCode words → (key : ℕ) (bits : List Bool) (found : List Move × List Bool) → section_at words key bits ≡ Ok found
     → ReadSection words key bits found
-unfolding section_after
+unfolding section_at
 section_was_spelled put words code key bits found e =
     let count = bind_ok (field_read words 8 bits)
     (λ count. cond (nat_le 1 count.0 && nat_le count.0 32) (fault_as Bits (moves_at words key count.0 no_move count.1)) (Err (MoveCount count.0))) found e in
@@ -209,23 +209,23 @@ module _ (words : List (List Bool)) (key : ℕ) (message : Message) (bits left :
       }
 
   moved_was_spelled : ReadWasPut → EndingReadIsSpelled → IsCode words → (delta : Bool) (found : Message × List Bool) → row.operation ≡ move_operation delta
-      → moved_after words key delta (record message { commands = row.commands }) left ≡ Ok found → ReadOperations words key message bits found
-  unfolding moved_after
+      → moved_at words key delta (record message { commands = row.commands }) left ≡ Ok found → ReadOperations words key message bits found
+  unfolding moved_at
   moved_was_spelled put ending_law code delta found is e =
       let after : Message = record message { commands = row.commands } in
-      let section = bind_ok (section_after words key left)
-      (λ moves. fault_as operation_error (ending_after words 5 (length moves.1) moves.1) >>= λ ending. Ok (record after { delta = delta; moves = moves.0 }, ending.1)) found e in
-      let ending = bind_ok (fault_as operation_error (ending_after words 5 (length section.0.1) section.0.1)) (λ ending. Ok (record after { delta = delta; moves = section.0.0 }, ending.1)) found section.2 in
+      let section = bind_ok (section_at words key left)
+      (λ moves. fault_as operation_error (ending_at words 5 (length moves.1) moves.1) >>= λ ending. Ok (record after { delta = delta; moves = moves.0 }, ending.1)) found e in
+      let ending = bind_ok (fault_as operation_error (ending_at words 5 (length section.0.1) section.0.1)) (λ ending. Ok (record after { delta = delta; moves = section.0.0 }, ending.1)) found section.2 in
       let made = ending.2 in
       let same : (record after { delta = delta; moves = section.0.0 }, ending.0.1) ≡ found = cc in
-      let ends = map_err_ok operation_error (ending_after words 5 (length section.0.1) section.0.1) ending.0 ending.1 in
+      let ends = map_err_ok operation_error (ending_at words 5 (length section.0.1) section.0.1) ending.0 ending.1 in
       subst (ReadOperations words key message bits) {x = (record after { delta = delta; moves = section.0.0 }, ending.0.1)} same
       (read_moves delta section.0 ending.0.1 is (section_was_spelled put words code key left section.0 section.1)
       (ending_law words 5 (length section.0.1) section.0.1 ending.0.1 code ends))
 
   rest_was_spelled : ReadWasPut → EndingReadIsSpelled → IsCode words → (found : Message × List Bool) → HasNoMoves message
-      → rest_after words key row.operation (record message { commands = row.commands }) left ≡ Ok found → ReadOperations words key message bits found
-  unfolding rest_after
+      → rest_at words key row.operation (record message { commands = row.commands }) left ≡ Ok found → ReadOperations words key message bits found
+  unfolding rest_at
   rest_was_spelled put ending_law code found none e =
       let after : Message = record message { commands = row.commands } in
       elim (cases_Bool (eqb row.operation 5)) [
@@ -247,12 +247,12 @@ module _ (words : List (List Bool)) (key : ℕ) (message : Message) (bits left :
       ]
 
 operations_were_spelled : ReadWasPut → RowReadIsSpelled → EndingReadIsSpelled → (words : List (List Bool)) → IsCode words → (key : ℕ) (message : Message) (bits : List Bool) (found : Message × List Bool)
-    → HasNoMoves message → length message.commands ≤ 64 → operations_after words key message bits ≡ Ok found → ReadOperations words key message bits found
-unfolding operations_after
+    → HasNoMoves message → length message.commands ≤ 64 → operations_at words key message bits ≡ Ok found → ReadOperations words key message bits found
+unfolding operations_at
 operations_were_spelled put row_law ending_law words code key message bits found none few e =
-    let row = bind_ok (fault_as operation_error (row_after words 4 (length bits) message.commands bits))
-    (λ row. rest_after words key row.0.operation (record message { commands = row.0.commands }) row.1) found e in
-    let was = row_law words 4 (length bits) message.commands bits row.0.0 row.0.1 code (map_err_ok operation_error (row_after words 4 (length bits) message.commands bits) row.0 row.1) in
+    let row = bind_ok (fault_as operation_error (row_at words 4 (length bits) message.commands bits))
+    (λ row. rest_at words key row.0.operation (record message { commands = row.0.commands }) row.1) found e in
+    let was = row_law words 4 (length bits) message.commands bits row.0.0 row.0.1 code (map_err_ok operation_error (row_at words 4 (length bits) message.commands bits) row.0 row.1) in
     rest_was_spelled words key message bits row.0.1 row.0.0 few was put ending_law code found none row.2
 
 -- ---- the message
@@ -343,9 +343,9 @@ message_behind words key message bits rest heads were read =
     )
 
 pub message_was_spelled : ReadWasPut → RowReadIsSpelled → EndingReadIsSpelled → ReadIsSpelled
-unfolding client_after
+unfolding client_message_at
 message_was_spelled put row_law ending_law words key message bits rest code fits e =
-    let heads = bind_ok (fault_as Bits (heads_after words bits)) (λ heads. operations_after words key (start_of heads.0) heads.1) (message, rest) e in
+    let heads = bind_ok (fault_as Bits (heads_after words bits)) (λ heads. operations_at words key (start_of heads.0) heads.1) (message, rest) e in
     let were = heads_were_spelled put words code bits heads.0 (map_err_ok Bits (heads_after words bits) heads.0 heads.1) in
     let read = operations_were_spelled put row_law ending_law words code key (start_of heads.0.0) heads.0.1 (message, rest) (record { delta = refl; moves = refl }) (omega arith) heads.2 in
     message_behind words key message bits rest heads.0 were read

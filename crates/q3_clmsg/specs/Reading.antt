@@ -5,7 +5,7 @@ use Rattle.q3_bits.specs.Words.{field_at}
 use Rattle.q3_bits.specs.declared.reader.ReadError.{ReadError}
 use Rattle.q3_strings.specs.declared.error.OperationError.{OperationError}
 use Rattle.q3_strings.specs.declared.error.OperationError.TheVariants as operations
-use Rattle.q3_strings.specs.Operations.{row_after, ending_after}
+use Rattle.q3_strings.specs.Operations.{row_at, ending_at}
 use Rattle.q3_clmsg.specs.declared.moves.Move.{Move}
 use Rattle.q3_clmsg.specs.declared.heads.Heads.{Heads}
 use Rattle.q3_clmsg.specs.declared.error.ClientIllegible.{ClientIllegible}
@@ -37,39 +37,39 @@ abbrev pub heads_at : List (List Bool) → List Bool → Result Heads ReadError
 heads_at words bits = heads_after words bits >>= λ read. Ok read.0
 
 -- the moves behind their operation: 1 to 32
-unfoldable pub section_after : List (List Bool) → ℕ → List Bool → Result (List Move × List Bool) ClientIllegible
-section_after words key bits = do
+unfoldable pub section_at : List (List Bool) → ℕ → List Bool → Result (List Move × List Bool) ClientIllegible
+section_at words key bits = do
   count ← field_read words 8 bits
   if nat_le 1 count.0 && nat_le count.0 32 then fault_as Bits (moves_at words key count.0 no_move count.1) else Err (MoveCount count.0)
 
 -- a message with its moves, and what is behind its end
-unfoldable pub moved_after : List (List Bool) → ℕ → Bool → Message → List Bool → Result (Message × List Bool) ClientIllegible
-moved_after words key delta message bits = do
-  moves ← section_after words key bits
-  ending ← fault_as operation_error (ending_after words 5 (length moves.1) moves.1)
+unfoldable pub moved_at : List (List Bool) → ℕ → Bool → Message → List Bool → Result (Message × List Bool) ClientIllegible
+moved_at words key delta message bits = do
+  moves ← section_at words key bits
+  ending ← fault_as operation_error (ending_at words 5 (length moves.1) moves.1)
   Ok (record message { delta = delta; moves = moves.0 }, ending.1)
 
 -- a message behind its commands, by the operation behind them: the end, or the moves
-unfoldable pub rest_after : List (List Bool) → ℕ → ℕ → Message → List Bool → Result (Message × List Bool) ClientIllegible
-rest_after words key operation message bits =
+unfoldable pub rest_at : List (List Bool) → ℕ → ℕ → Message → List Bool → Result (Message × List Bool) ClientIllegible
+rest_at words key operation message bits =
     if operation == 5 then Ok (message, bits) else
-    if operation == 2 then moved_after words key true message bits else
-    if operation == 3 then moved_after words key false message bits
+    if operation == 2 then moved_at words key true message bits else
+    if operation == 3 then moved_at words key false message bits
     else Err (BadOp operation)
 
 -- behind the leading longs: nops and commands, and the end of the message or its moves
-unfoldable pub operations_after : List (List Bool) → ℕ → Message → List Bool → Result (Message × List Bool) ClientIllegible
-operations_after words key message bits = do
-  row ← fault_as operation_error (row_after words 4 (length bits) message.commands bits)
-  rest_after words key row.0.operation (record message { commands = row.0.commands }) row.1
+unfoldable pub operations_at : List (List Bool) → ℕ → Message → List Bool → Result (Message × List Bool) ClientIllegible
+operations_at words key message bits = do
+  row ← fault_as operation_error (row_at words 4 (length bits) message.commands bits)
+  rest_at words key row.0.operation (record message { commands = row.0.commands }) row.1
 
 -- a client's message by its key: its value, and what is behind its end
-unfoldable pub client_after : List (List Bool) → ℕ → List Bool → Result (Message × List Bool) ClientIllegible
-client_after words key bits = do
+unfoldable pub client_message_at : List (List Bool) → ℕ → List Bool → Result (Message × List Bool) ClientIllegible
+client_message_at words key bits = do
   heads ← fault_as Bits (heads_after words bits)
-  operations_after words key
+  operations_at words key
       (record empty_message { id = heads.0.id; acknowledged = heads.0.acknowledged; command = heads.0.command }) heads.1
 
 -- its value alone
 abbrev pub client_at : List (List Bool) → ℕ → List Bool → Result Message ClientIllegible
-client_at words key bits = client_after words key bits >>= λ read. Ok read.0
+client_at words key bits = client_message_at words key bits >>= λ read. Ok read.0

@@ -18,8 +18,8 @@ section_bits words key delta moves =
     row_bits words ((move_operation delta, 8) ∷ (length moves, 8) ∷ []) ++ moves_bits words key no_move moves
 
 -- a message by its key: three longs, the commands with the operation 4, the moves, and the end
-unfoldable pub client_text : List (List Bool) → ℕ → Message → List Bool
-client_text words key message =
+unfoldable pub client_message_bits : List (List Bool) → ℕ → Message → List Bool
+client_message_bits words key message =
     row_bits words ((message.id, 32) ∷ (message.acknowledged, 32) ∷ (message.command, 32) ∷ [])
     ++ commands_bits words 4 message.commands
     ++ section_bits words key message.delta message.moves

@@ -7,7 +7,7 @@ ghost use Rattle.q3_bits.specs.Bits.{bits_of};
 ghost use Rattle.q3_bits.specs.Words.{IsCode};
 ghost use Rattle.q3_bits.specs.Streams.{Reads, holding};
 ghost use Rattle.q3_clmsg.specs.Values.{said_of};
-ghost use Rattle.q3_clmsg.specs.Reading.{section_after, moved_after, operations_after, client_at};
+ghost use Rattle.q3_clmsg.specs.Reading.{section_at, moved_at, operations_at, client_at};
 
 use crate::error::ClientIllegible;
 use crate::heads::heads_from;
@@ -19,13 +19,13 @@ use q3_bits::{Code, Reader};
 use q3_strings::{read_ending, read_row};
 
 /// Reads the moves behind their operation, and how many there are.
-#[tactic(auto, unfolding(crate::specs::Reading::section_after))]
+#[tactic(auto, unfolding(crate::specs::Reading::section_at))]
 fn read_section(
     r: &mut Reader,
     key: u32,
     into: &mut ArrayVec<Move, 32>,
 ) -> Result<(), ClientIllegible>
-    ensures { Reads r.old r.new (section_after r.old.words key r.old.left) (holding into.new.items result) }
+    ensures { Reads r.old r.new (section_at r.old.words key r.old.left) (holding into.new.items result) }
 {
     let count = r.get(8)?;
     if count < 1 || count > 32 {
@@ -36,7 +36,7 @@ fn read_section(
 }
 
 /// Reads the moves behind their operation, and the message to its end.
-#[tactic(auto, unfolding(crate::specs::Reading::moved_after))]
+#[tactic(auto, unfolding(crate::specs::Reading::moved_at))]
 fn read_moved(
     r: &mut Reader,
     key: u32,
@@ -44,7 +44,7 @@ fn read_moved(
     into: &mut ClientMessage,
 ) -> Result<(), ClientIllegible>
     requires { IsCode r.old.words }
-    ensures { Reads r.old r.new (moved_after r.old.words key delta (said_of into.old) r.old.left) (holding (said_of into.new) result) }
+    ensures { Reads r.old r.new (moved_at r.old.words key delta (said_of into.old) r.old.left) (holding (said_of into.new) result) }
 {
     read_section(r, key, &mut into.moves)?;
     into.delta = delta;
@@ -53,14 +53,14 @@ fn read_moved(
 }
 
 /// Reads what is behind the leading longs: nops and commands, and the end of the message or its moves.
-#[tactic(auto, unfolding(crate::specs::Reading::rest_after, crate::specs::Reading::operations_after))]
+#[tactic(auto, unfolding(crate::specs::Reading::rest_at, crate::specs::Reading::operations_at))]
 fn read_operations(
     r: &mut Reader,
     key: u32,
     into: &mut ClientMessage,
 ) -> Result<(), ClientIllegible>
     requires { IsCode r.old.words }
-    ensures { Reads r.old r.new (operations_after r.old.words key (said_of into.old) r.old.left) (holding (said_of into.new) result) }
+    ensures { Reads r.old r.new (operations_at r.old.words key (said_of into.old) r.old.left) (holding (said_of into.new) result) }
 {
     match read_row(r, CLIENT_COMMAND, &mut into.commands)? {
         EOF => Ok(()),
@@ -77,7 +77,7 @@ fn read_operations(
 /// stand there: before the moves others than nop, command, moves and the end, and behind them others than nop and the
 /// end; `Commands` for a 65th command; `TextLong` where the byte behind 1,023 of a string isn't 0; `MoveCount` for no
 /// move or more than 32.
-#[tactic(auto, unfolding(crate::specs::Reading::client_after))]
+#[tactic(auto, unfolding(crate::specs::Reading::client_message_at))]
 pub fn read_client_message(
     code: &Code,
     bytes: &[u8],

@@ -4,7 +4,7 @@
 ghost use Rattle.std.specs.Prelude.{◌≡◌, ◌≤◌, length};
 ghost use Rattle.q3_bits.specs.Streams.{Writes, Fills};
 ghost use Rattle.q3_clmsg.specs.Values.{said_of, parts_said};
-ghost use Rattle.q3_clmsg.specs.Texts.{move_operation, section_bits, client_text};
+ghost use Rattle.q3_clmsg.specs.Texts.{move_operation, section_bits, client_message_bits};
 
 use crate::message::{ClientMessage, SaidParts};
 use crate::moves::{Move, write_moves};
@@ -24,7 +24,7 @@ pub fn write_client_message(
 ) -> Result<usize, Overflow>
     requires some { 1 ≤ length into.old }
     requires most { length into.old ≤ 16384 }
-    ensures { Fills into.old into.new (client_text code.now key (said_of message.now)) result }
+    ensures { Fills into.old into.new (client_message_bits code.now key (said_of message.now)) result }
 {
     write_said(code, parts_of(message), key, into)
 }
@@ -40,7 +40,7 @@ pub fn write_said(
     requires some { 1 ≤ length into.old }
     requires most { length into.old ≤ 16384 }
     requires few { length parts.moves.now ≤ 32 }
-    ensures { Fills into.old into.new (client_text code.now key (parts_said parts.entry)) result }
+    ensures { Fills into.old into.new (client_message_bits code.now key (parts_said parts.entry)) result }
 {
     let mut w = Writer::new(code, into.len());
     write_message(&mut w, parts, key)?;
@@ -66,10 +66,10 @@ fn parts_of(message: &ClientMessage) -> SaidParts<'_>
 }
 
 /// Writes the three longs, the commands, the moves, and the end.
-#[tactic(auto, unfolding(crate::specs::Texts::client_text))]
+#[tactic(auto, unfolding(crate::specs::Texts::client_message_bits))]
 fn write_message(w: &mut Writer, parts: SaidParts, key: u32) -> Result<(), Overflow>
     requires few { length parts.moves.now ≤ 32 }
-    ensures { Writes w.old w.new (client_text w.old.words key (parts_said parts.entry)) result }
+    ensures { Writes w.old w.new (client_message_bits w.old.words key (parts_said parts.entry)) result }
 {
     laws::texts_are_written();
     w.put_all(&[

@@ -16,7 +16,7 @@ use Rattle.q3_gamestate.specs.Laws.{IsGamestate}
 use Rattle.q3_svmsg.specs.declared.error.Illegible.{Illegible}
 use Rattle.q3_svmsg.specs.Values.{Context, Told, Nothing, Game, Snap, Skipped, HasNumber, Message}
 use Rattle.q3_svmsg.specs.Laws.{IsReadTold, IsRead}
-use Rattle.q3_svmsg.specs.Reading.{message_after, message_at}
+use Rattle.q3_svmsg.specs.Reading.{server_message_at, message_at}
 use Rattle.q3_ring.specs.Snapshot.{Snapshot}
 use Rattle.q3_clstate.specs.declared.applied.SnapOutcome.{SnapOutcome}
 use Rattle.q3_clstate.specs.declared.applied.SnapOutcome.TheVariants.{NoSnap, Skipped as SkippedFor, Stale}
@@ -163,6 +163,6 @@ bytes_stay below state number message fits is = of_read (message_at state.profil
         → IsApplied (state_behind state (r >>= λ read. Ok (apply_read state number read)))
     of_read (Err e) answer = is
     of_read (Ok read) answer =
-        let found = bind_ok (message_after state.profile context number (bits_of message)) (λ read. Ok read.0) read answer in
+        let found = bind_ok (server_message_at state.profile context number (bits_of message)) (λ read. Ok read.0) read answer in
         let was = below.read state.profile context number found.0.0 (bits_of message) found.0.1 is.profile (context_is state is) found.1 in
         read_stays below state context number read fits (subst (IsRead state.profile context number) (same found.0.0 read found.2) (was.0 fits)) is

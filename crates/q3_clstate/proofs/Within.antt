@@ -11,7 +11,7 @@ use Rattle.q3_gamestate.specs.Values.{Gamestate}
 use Rattle.q3_svmsg.specs.declared.error.Illegible.{Illegible}
 use Rattle.q3_svmsg.specs.Values.{Context, Told, Nothing, Game, Snap, Skipped, HasNumber, Message}
 use Rattle.q3_svmsg.specs.Laws.{IsReadTold, IsRead, ReadIsSpelled}
-use Rattle.q3_svmsg.specs.Reading.{message_after, message_at}
+use Rattle.q3_svmsg.specs.Reading.{server_message_at, message_at}
 use Rattle.q3_ring.specs.Snapshot.{Snapshot, without_entities}
 use Rattle.q3_ring.specs.Places.{most_places, place_of, no_places}
 use Rattle.q3_rings.specs.Rings.{HeldSnapshot, HeldSnapshots, held_snapshot, held_remains, is_young, older, accept_at}
@@ -110,7 +110,7 @@ bytes_within law state most number message fits is within = of_read (message_at 
         → IsWithin (most + most_entities) (state_behind state (r >>= λ read. Ok (apply_read state number read)))
     of_read (Err e) answer = record { number = within.number; newest = within.newest; ages = longer most most_entities state.held.places within.ages }
     of_read (Ok read) answer =
-        let found = bind_ok (message_after state.profile context number (bits_of message)) (λ read. Ok read.0) read answer in
+        let found = bind_ok (server_message_at state.profile context number (bits_of message)) (λ read. Ok read.0) read answer in
         let was = law state.profile context number found.0.0 (bits_of message) found.0.1 is.profile (context_is state is) found.1 in
         let told : IsRead state.profile context number read = subst (IsRead state.profile context number) (same found.0.0 read found.2) (was.0 (omega (arith, fits))) in
         section_within (hearing state read.commands) context most number read.section fits told.section told.number_is

@@ -9,14 +9,14 @@ use Rattle.q3_bits.specs.Words.{field_at}
 use Rattle.q3_bits.specs.declared.reader.ReadError.{ReadError}
 use Rattle.q3_strings.specs.declared.error.OperationError.{OperationError}
 use Rattle.q3_strings.specs.declared.error.OperationError.TheVariants as operations
-use Rattle.q3_strings.specs.Operations.{Row, row_after}
+use Rattle.q3_strings.specs.Operations.{Row, row_at}
 use Rattle.q3_entity.specs.Entities.{most_entities}
 use Rattle.q3_profile.specs.declared.profile.Profile.{Profile}
 use Rattle.q3_svmsg.specs.declared.error.Illegible.{Illegible}
 use Rattle.q3_svmsg.specs.declared.error.Illegible.TheVariants.{Bits}
 use Rattle.q3_svmsg.specs.Values as told
 use Rattle.q3_svmsg.specs.Values.{Context, Told, HasNumber, Message}
-use Rattle.q3_svmsg.specs.Reading.{field_read, operation_error, rest_after, operations_after, message_after, message_at}
+use Rattle.q3_svmsg.specs.Reading.{field_read, operation_error, rest_at, operations_at, server_message_at, message_at}
 use Rattle.q3_svmsg.specs.Laws.{IsReadTold, ReadIsSpelled}
 use Rattle.q3_ring.specs.Snapshot.{Snapshot}
 use Rattle.q3_rings.specs.declared.rings.NoBase.{NoBase}
@@ -37,24 +37,24 @@ abbrev front_with : ℕ → Row × List Bool → Result Front OperationError
 front_with ack row = Ok (record { ack = ack; commands = row.0.commands })
 
 abbrev front_behind : List (List Bool) → ℕ × List Bool → Result Front OperationError
-front_behind words ack = row_after words 5 (length ack.1) [] ack.1 >>= front_with ack.0
+front_behind words ack = row_at words 5 (length ack.1) [] ack.1 >>= front_with ack.0
 
 -- where the operations behind the leading long are read, so is the front
 row_read : (profile : Profile) (context : Context) (number : ℕ) (ack : ℕ) (bits : List Bool) (read : Message × List Bool)
-    → operations_after profile context number (record { ack = ack; commands = []; section = told.Nothing }) bits ≡ Ok read
-    → (row : Row × List Bool) × (row_after profile.code 5 (length bits) [] bits ≡ Ok row)
-unfolding operations_after
+    → operations_at profile context number (record { ack = ack; commands = []; section = told.Nothing }) bits ≡ Ok read
+    → (row : Row × List Bool) × (row_at profile.code 5 (length bits) [] bits ≡ Ok row)
+unfolding operations_at
 row_read profile context number ack bits read e =
-    let found = bind_ok (fault_as operation_error (row_after profile.code 5 (length bits) [] bits))
-    (λ (row : Row × List Bool). rest_after profile context number row.0.operation (record { ack = ack; commands = row.0.commands; section = told.Nothing }) row.1) read e in
-    (found.0, map_err_ok operation_error (row_after profile.code 5 (length bits) [] bits) found.0 found.1)
+    let found = bind_ok (fault_as operation_error (row_at profile.code 5 (length bits) [] bits))
+    (λ (row : Row × List Bool). rest_at profile context number row.0.operation (record { ack = ack; commands = row.0.commands; section = told.Nothing }) row.1) read e in
+    (found.0, map_err_ok operation_error (row_at profile.code 5 (length bits) [] bits) found.0 found.1)
 
-front_read : (profile : Profile) (context : Context) (number : ℕ) (bits : List Bool) (read : Message × List Bool) → message_after profile context number bits ≡ Ok read
+front_read : (profile : Profile) (context : Context) (number : ℕ) (bits : List Bool) (read : Message × List Bool) → server_message_at profile context number bits ≡ Ok read
     → (front : Front) × ((fault_as operations.Bits (field_at profile.code 32 bits) >>= front_behind profile.code) ≡ Ok front)
-unfolding message_after
+unfolding server_message_at
 front_read profile context number bits read e =
     let found = bind_ok (field_read profile.code 32 bits)
-    (λ (ack : ℕ × List Bool). operations_after profile context number (record { ack = ack.0; commands = []; section = told.Nothing }) ack.1) read e in
+    (λ (ack : ℕ × List Bool). operations_at profile context number (record { ack = ack.0; commands = []; section = told.Nothing }) ack.1) read e in
     let ack = found.0 in
     let field = map_err_ok Bits (field_at profile.code 32 bits) ack found.1 in
     let row = row_read profile context number ack.0 ack.1 read found.2 in (
@@ -63,7 +63,7 @@ front_read profile context number bits read e =
           ∙ ap (λ (r : Result (Row × List Bool) OperationError). r >>= front_with ack.0) row.1,
     )
 
-is_front : (profile : Profile) (context : Context) (number : ℕ) (message : List ℕ) (read : Message × List Bool) → message_after profile context number (bits_of message) ≡ Ok read
+is_front : (profile : Profile) (context : Context) (number : ℕ) (message : List ℕ) (read : Message × List Bool) → server_message_at profile context number (bits_of message) ≡ Ok read
     → IsOk (front_at profile.code message)
 is_front profile context number message read e =
     let front = front_read profile context number (bits_of message) read e in
@@ -138,14 +138,14 @@ same_read one other e = cc
 record WasRead (state : AppliedState) (number : ℕ) (message : List ℕ) (applied : Application) : Type 0 where
   read : Message
   left : List Bool
-  by : message_after state.profile (context_of state.held state.lines) number (bits_of message) ≡ Ok (read, left)
+  by : server_message_at state.profile (context_of state.held state.lines) number (bits_of message) ≡ Ok (read, left)
   does : apply_read state number read ≡ applied
 
 was_read : (state : AppliedState) (number : ℕ) (message : List ℕ) (applied : Application) → apply_at state number message ≡ Ok applied → WasRead state number message applied
 was_read state number message applied e =
     let context = context_of state.held state.lines in
     let read = bind_ok (message_at state.profile context number (bits_of message)) (λ (read : Message). applied_as (apply_read state number read)) applied e in
-    let behind = bind_ok (message_after state.profile context number (bits_of message)) (λ (read : Message × List Bool). read_as read.0) read.0 read.1 in
+    let behind = bind_ok (server_message_at state.profile context number (bits_of message)) (λ (read : Message × List Bool). read_as read.0) read.0 read.1 in
     record {
       read = behind.0.0;
       left = behind.0.1;

@@ -8,12 +8,12 @@ use Rattle.q3_bits.specs.Words.{field_at}
 use Rattle.q3_text.specs.declared.text.Command.{Command}
 use Rattle.q3_strings.specs.declared.error.OperationError.{OperationError}
 use Rattle.q3_strings.specs.declared.error.OperationError.TheVariants.{Bits}
-use Rattle.q3_strings.specs.Operations.{row_after}
+use Rattle.q3_strings.specs.Operations.{row_at}
 use Rattle.q3_entity.specs.Baselines.{no_lines}
 use Rattle.q3_gamestate.specs.Values.{Gamestate}
 use Rattle.q3_profile.specs.declared.profile.Profile.{Profile}
 use Rattle.q3_svmsg.specs.Values.{Message, Game, Snap}
-use Rattle.q3_svmsg.specs.Texts.{message_text}
+use Rattle.q3_svmsg.specs.Texts.{server_message_bits}
 use Rattle.q3_ring.specs.Snapshot.{Snapshot}
 use Rattle.q3_rings.specs.Rings.{view_at}
 use Rattle.q3_clstate.specs.State.{AppliedState, Application}
@@ -43,7 +43,7 @@ game_in state = record { command = state.executed.executed; strings = state.stri
 
 -- a message with it, by the number of the last command that the client issued
 abbrev pub game_bits : AppliedState → ℕ → List Bool
-game_bits state issued = message_text state.profile no_lines None (record { ack = issued; commands = []; section = Game (game_in state) })
+game_bits state issued = server_message_bits state.profile no_lines None (record { ack = issued; commands = []; section = Game (game_in state) })
 
 -- what a message says before its section: its leading long, and its commands
 pub record Front : Type 0 where
@@ -53,7 +53,7 @@ pub record Front : Type 0 where
 abbrev pub front_at : List (List Bool) → List ℕ → Result Front OperationError
 front_at words message = do
   ack ← fault_as Bits (field_at words 32 (bits_of message))
-  row ← row_after words 5 (length ack.1) [] ack.1
+  row ← row_at words 5 (length ack.1) [] ack.1
   Ok (record { ack = ack.0; commands = row.0.commands })
 
 -- the answer of a reader that leaves the commands in their places
@@ -74,7 +74,7 @@ abbrev pub whole_of : AppliedState → List ℕ → Option Message
 whole_of state message = whole_with (result_ok (front_at state.profile.code message)) (view_at state.held state.number)
 
 abbrev pub whole_bits : AppliedState → Message → List Bool
-whole_bits state message = message_text state.profile state.lines None message
+whole_bits state message = server_message_bits state.profile state.lines None message
 
 -- ---- a recording goes on
 

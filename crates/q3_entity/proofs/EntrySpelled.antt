@@ -8,7 +8,7 @@ use Rattle.q3_bits.specs.Laws.{ReadWasPut, PutIsRead}
 use Rattle.q3_fields.specs.Kinds.{Layout, IsTable}
 use Rattle.q3_fields.specs.States.{AreWords, normal_words}
 use Rattle.q3_fields.specs.declared.delta.StateKind.TheVariants.{Entity}
-use Rattle.q3_fields.specs.Deltas.{words_after}
+use Rattle.q3_fields.specs.Deltas.{words_at}
 use Rattle.q3_fields.specs.Spelling.{SpellsWords}
 use Rattle.q3_fields.specs.Laws.{WordsReadAreSpelled, WordsSpelledAreRead}
 use Rattle.q3_entity.specs.declared.reading.Entry.{Entry}
@@ -106,8 +106,8 @@ marks_were_spelled put law words table from bits found code is_table are e =
                 })
             | inr some ↦
                 let second = bit_was put words mark.0.1 change.0 1 code reads' (bit_one put words mark.0.1 change.0 code reads' some) in
-                let delta = bind_ok (words_read (words_after Entity words table.kinds from change.0.1)) (λ read. Ok ((Changed, read.0), read.1)) found (rw some at change.2) in
-                let spelled = law Entity words table.kinds from delta.0.0 change.0.1 delta.0.1 code is_table.kinds are (map_err_ok entity_error (words_after Entity words table.kinds from change.0.1) delta.0 delta.1) in
+                let delta = bind_ok (words_read (words_at Entity words table.kinds from change.0.1)) (λ read. Ok ((Changed, read.0), read.1)) found (rw some at change.2) in
+                let spelled = law Entity words table.kinds from delta.0.0 change.0.1 delta.0.1 code is_table.kinds are (map_err_ok entity_error (words_at Entity words table.kinds from change.0.1) delta.0 delta.1) in
                 let made = delta.2 in
                 let same : ((Changed, delta.0.0), delta.0.1) ≡ found = cc in
                 subst (ReadMarks words table from bits) {x = ((Changed, delta.0.0), delta.0.1)} same (record {

@@ -10,7 +10,7 @@ use Rattle.q3_fields.specs.Laws.{WordsSpelledAreRead}
 use Rattle.q3_entity.specs.declared.state.EntityState.{EntityState}
 use Rattle.q3_entity.specs.Entities.{RiseFrom, AreStates, most_entities, with_number}
 use Rattle.q3_entity.specs.Baselines.{Lines, AreLines}
-use Rattle.q3_entity.specs.Lists.{words_from, numbers_after, list_after}
+use Rattle.q3_entity.specs.Lists.{words_from, numbers_after, entity_list_at}
 use Rattle.q3_entity.specs.Laws.{ZeroIsNormal, ListSpelledIsRead}
 use Rattle.q3_entity.specs.Spelling.{Entered, EntriesRise, RemoveFrom, state_after, words_there}
 use Rattle.q3_entity.proofs.Results.{number_is_read}
@@ -132,7 +132,7 @@ numbers_are_read put law law' words table lines base code is_table are states (s
 
 -- a list that is spelled so is read
 pub list_is_read : PutIsRead → WordsSpelledAreRead → ZeroIsNormal → ListSpelledIsRead
-unfolding list_after
+unfolding entity_list_at
 list_is_read put law law' words table lines base now text rest code is_table are list states s =
     let behind = behind_of_entries words table lines base s.entries text s.spells in
     let first = first_number table s.entries in

@@ -4,14 +4,14 @@ use Rattle.q3_bits.specs.ResultBind.{bind_ok, left_of, left_ok, bind_alike, bind
 use Rattle.q3_bits.specs.Words.{field_at}
 use Rattle.q3_fields.specs.declared.delta.StateKind.TheVariants.{Entity}
 use Rattle.q3_fields.specs.Kinds.{Layout, IsTable, end_mark}
-use Rattle.q3_fields.specs.Deltas.{words_after}
+use Rattle.q3_fields.specs.Deltas.{words_at}
 use Rattle.q3_fields.specs.Laws.{WordsEndAlike}
 use Rattle.q3_entity.specs.declared.state.EntityState.{EntityState}
 use Rattle.q3_entity.specs.declared.reading.Entry.TheVariants.{Removed, Changed, Same}
 use Rattle.q3_entity.specs.Entities.{AreStates, with_number}
 use Rattle.q3_entity.specs.Baselines.{Lines, AreLines}
 use Rattle.q3_entity.specs.Delta.{entity_error, bits_read, words_read, delta_at, present_at, entity_at}
-use Rattle.q3_entity.specs.Lists.{number_at, words_from, numbers_after, list_after, numbers_skipped, list_skipped}
+use Rattle.q3_entity.specs.Lists.{number_at, words_from, numbers_after, entity_list_at, numbers_skipped, list_skipped}
 use Rattle.q3_entity.specs.Laws.{ZeroIsNormal, ReadIsSkipped}
 use Rattle.q3_entity.proofs.ListSpelled.{from_words}
 use Rattle.q3_entity.proofs.Steps.{number_step}
@@ -20,9 +20,9 @@ use Rattle.q3_entity.proofs.Steps.{number_step}
 delta_alike : WordsEndAlike → (words : List (List Bool)) (table : Layout) (from other : List ℕ) (bits : List Bool) → length from ≡ length other
     → left_of (delta_at words table from bits) ≡ left_of (delta_at words table other bits)
 delta_alike law words table from other bits long =
-    bind_alike (words_read (words_after Entity words table.kinds from bits)) (words_read (words_after Entity words table.kinds other bits)) (λ read. Ok ((Changed, read.0), read.1))
+    bind_alike (words_read (words_at Entity words table.kinds from bits)) (words_read (words_at Entity words table.kinds other bits)) (λ read. Ok ((Changed, read.0), read.1))
     (λ read. Ok ((Changed, read.0), read.1))
-    (map_err_alike entity_error (words_after Entity words table.kinds from bits) (words_after Entity words table.kinds other bits) (law Entity words table.kinds from other bits long))
+    (map_err_alike entity_error (words_at Entity words table.kinds from bits) (words_at Entity words table.kinds other bits) (law Entity words table.kinds from other bits long))
     (λ p q rest. refl)
 
 present_alike : WordsEndAlike → (words : List (List Bool)) (table : Layout) (from other : List ℕ) (bits : List Bool) → length from ≡ length other
@@ -64,7 +64,7 @@ numbers_end alike law words table lines base is_table are states (suc left) numb
 
 -- a list that is read is skipped to the same place
 pub list_is_skipped : WordsEndAlike → ZeroIsNormal → ReadIsSkipped
-unfolding list_after list_skipped
+unfolding entity_list_at list_skipped
 list_is_skipped alike law words table lines base now bits rest is_table are states e =
     let first = bind_ok (number_at words table 0 bits) (λ first. numbers_after words table lines base (end_mark table) 0 first.0 [] first.1) (now, rest) e in
     rw first.1 (numbers_end alike law words table lines base is_table are states (end_mark table) 0 first.0.0 [] first.0.1 (now, rest) first.2)

@@ -15,7 +15,7 @@ use Rattle.q3_entity.specs.declared.reading.Entry.{Entry}
 use Rattle.q3_entity.specs.declared.reading.Entry.TheVariants.{Removed, Changed, Same}
 use Rattle.q3_entity.specs.Entities.{IsNormal, RiseFrom, IsList, AreStates, AreNormal, with_number}
 use Rattle.q3_entity.specs.Baselines.{Lines, AreLines}
-use Rattle.q3_entity.specs.Lists.{number_at, words_from, numbers_after, list_after}
+use Rattle.q3_entity.specs.Lists.{number_at, words_from, numbers_after, entity_list_at}
 use Rattle.q3_entity.specs.Laws.{ZeroIsNormal, ListReadIsSpelled}
 use Rattle.q3_entity.specs.Spelling.{Entered, SpellsEntries, EntriesRise, RemoveFrom, state_after, words_there}
 use Rattle.q3_entity.proofs.Results.{number_was_read}
@@ -211,13 +211,13 @@ numbers_were_spelled put law law' words table lines base code is_table are list 
 
 -- the same, folded
 list_after_is : (words : List (List Bool)) (table : Layout) (lines : Lines) (base : List EntityState) (bits : List Bool) (now : List EntityState) (rest : List Bool)
-    → (number_at words table 0 bits >>= λ first. numbers_after words table lines base (end_mark table) 0 first.0 [] first.1) ≡ Ok (now, rest) → list_after words table lines base bits ≡ Ok (now, rest)
-unfolding list_after
+    → (number_at words table 0 bits >>= λ first. numbers_after words table lines base (end_mark table) 0 first.0 [] first.1) ≡ Ok (now, rest) → entity_list_at words table lines base bits ≡ Ok (now, rest)
+unfolding entity_list_at
 list_after_is words table lines base bits now rest e = e
 
 -- a list that was read was spelled so
 pub list_was_spelled : ReadWasPut → WordsReadAreSpelled → ZeroIsNormal → ListReadIsSpelled
-unfolding list_after
+unfolding entity_list_at
 list_was_spelled put law law' words table lines base now bits rest code is_table are list states e =
     let first = bind_ok (number_at words table 0 bits) (λ first. numbers_after words table lines base (end_mark table) 0 first.0 [] first.1) (now, rest) e in
     let number = number_was_read put words table 0 bits first.0 code first.1 in

@@ -10,9 +10,9 @@ use Rattle.q3_entity.specs.declared.state.EntityState.{EntityState}
 use Rattle.q3_entity.specs.Entities.{RiseFrom, with_number}
 use Rattle.q3_entity.specs.Baselines.{Lines}
 use Rattle.q3_entity.specs.Delta.{removal}
-use Rattle.q3_entity.specs.Lists.{piece, list_text}
+use Rattle.q3_entity.specs.Lists.{piece, entity_list_bits}
 use Rattle.q3_entity.specs.Runs.{taken, from_number, ShareFront}
-use Rattle.q3_entity.specs.Merging.{removals, end_text, entry_text, left_behind}
+use Rattle.q3_entity.specs.Merging.{removals, end_bits, entry_bits, left_behind}
 use Rattle.q3_entity.proofs.DeltaTexts.{entity_delta-unchanged}
 use Rattle.q3_entity.proofs.Gone.{removals-next, removals-stay, removals-none, from_number-next, from_number-stay, from_number-none, is_first}
 use Rattle.q3_entity.proofs.Risen.{rise-lower, rise-behind, with_number-first, with_number-behind, with_number-below, from_number-rises, from_number-limit, is_taken}
@@ -47,18 +47,18 @@ pieces-first f g m a (suc count) le lt below gone same =
 
 module _ (words : List (List Bool)) (table : Layout) (lines : Lines) where
   -- where nothing is left, the end mark is
-  pub list_text-nothing : list_text words table lines [] [] ≡ field_bits words table.number_bits (end_mark table)
-  unfolding list_text
-  list_text-nothing = ap (λ t. t ++ field_bits words table.number_bits (end_mark table)) (pieces-none (λ n. []) 0 (end_mark table) (λ n. refl))
+  pub entity_list_bits-nothing : entity_list_bits words table lines [] [] ≡ field_bits words table.number_bits (end_mark table)
+  unfolding entity_list_bits
+  entity_list_bits-nothing = ap (λ t. t ++ field_bits words table.number_bits (end_mark table)) (pieces-none (λ n. []) 0 (end_mark table) (λ n. refl))
 
   -- the piece of a number below which there is nothing, and then the text of what is behind it
-  pub list_text-next : (number : ℕ) (base now base' now' : List EntityState) → number < end_mark table
+  pub entity_list_bits-next : (number : ℕ) (base now base' now' : List EntityState) → number < end_mark table
       → RiseFrom (end_mark table) number base → RiseFrom (end_mark table) number now
       → RiseFrom (end_mark table) (number + 1) base' → RiseFrom (end_mark table) (number + 1) now'
       → ((n : ℕ) → number < n → with_number n base ≡ with_number n base') → ((n : ℕ) → number < n → with_number n now ≡ with_number n now')
-      → list_text words table lines base now ≡ piece words table lines number (with_number number base) (with_number number now) ++ list_text words table lines base' now'
-  unfolding list_text
-  list_text-next number base now base' now' within rise rise-now rise' rise-now' same same-now =
+      → entity_list_bits words table lines base now ≡ piece words table lines number (with_number number base) (with_number number now) ++ entity_list_bits words table lines base' now'
+  unfolding entity_list_bits
+  entity_list_bits-next number base now base' now' within rise rise-now rise' rise-now' same same-now =
       let end = end_mark table in
       let f : ℕ → List Bool = λ n. piece words table lines n (with_number n base) (with_number n now) in
       let g : ℕ → List Bool = λ n. piece words table lines n (with_number n base') (with_number n now') in
@@ -70,55 +70,55 @@ module _ (words : List (List Bool)) (table : Layout) (lines : Lines) where
       ∙ append_assoc (f number) (flat_map g (range_with_len 0 end)) (field_bits words table.number_bits end)
 
   -- what is gone below a number is in front
-  pub list_text-gone : (number least : ℕ) (base now : List EntityState) → RiseFrom (end_mark table) least base → RiseFrom (end_mark table) number now
-      → list_text words table lines base now ≡ removals words table number base ++ list_text words table lines (from_number number base) now
-  list_text-gone number least [] now rise rise-now = rw (removals-none words table number, from_number-none number) refl
-  list_text-gone number least (entity ∷ others) now rise rise-now =
+  pub entity_list_bits-gone : (number least : ℕ) (base now : List EntityState) → RiseFrom (end_mark table) least base → RiseFrom (end_mark table) number now
+      → entity_list_bits words table lines base now ≡ removals words table number base ++ entity_list_bits words table lines (from_number number base) now
+  entity_list_bits-gone number least [] now rise rise-now = rw (removals-none words table number, from_number-none number) refl
+  entity_list_bits-gone number least (entity ∷ others) now rise rise-now =
       elim (cases_lt entity.number number) [
         | inl below ↦
             let end = end_mark table in
             let n = entity.number in
-            let next = list_text-next n (entity ∷ others) now others now rise.1 (omega arith, rise.1, rise.2) (rise-lower end number n now (omega (arith, below)) rise-now) rise.2
+            let next = entity_list_bits-next n (entity ∷ others) now others now rise.1 (omega arith, rise.1, rise.2) (rise-lower end number n now (omega (arith, below)) rise-now) rise.2
             (rise-lower end number (n + 1) now (omega (arith, below)) rise-now) (λ m above. with_number-behind m entity others (omega (arith, above))) (λ m above. refl) in
             rw (removals-next words table number entity others below, from_number-next number entity others below)
             (next
-            ∙ ap (λ o. piece words table lines n o (with_number n now) ++ list_text words table lines others now) (with_number-first entity others)
-            ∙ ap (λ o. piece words table lines n (Some entity) o ++ list_text words table lines others now) (with_number-below end number n now rise-now below)
-            ∙ ap (λ t. removal words table n ++ t) (list_text-gone number (n + 1) others now rise.2 rise-now)
-            ∙ sym (append_assoc (removal words table n) (removals words table number others) (list_text words table lines (from_number number others) now)))
+            ∙ ap (λ o. piece words table lines n o (with_number n now) ++ entity_list_bits words table lines others now) (with_number-first entity others)
+            ∙ ap (λ o. piece words table lines n (Some entity) o ++ entity_list_bits words table lines others now) (with_number-below end number n now rise-now below)
+            ∙ ap (λ t. removal words table n ++ t) (entity_list_bits-gone number (n + 1) others now rise.2 rise-now)
+            ∙ sym (append_assoc (removal words table n) (removals words table number others) (entity_list_bits words table lines (from_number number others) now)))
         | inr above ↦ rw (removals-stay words table number entity others above, from_number-stay number entity others above) refl
       ]
 
   -- an entity that there is now is behind what is gone below it
-  pub list_text-entry : (least : ℕ) (base : List EntityState) (to : EntityState) (now : List EntityState) → RiseFrom (end_mark table) least base → RiseFrom (end_mark table) 0 (to ∷ now)
-      → list_text words table lines base (to ∷ now) ≡ entry_text words table lines base to ++ list_text words table lines (left_behind to base) now
-  list_text-entry least base to now rise rise-now =
+  pub entity_list_bits-entry : (least : ℕ) (base : List EntityState) (to : EntityState) (now : List EntityState) → RiseFrom (end_mark table) least base → RiseFrom (end_mark table) 0 (to ∷ now)
+      → entity_list_bits words table lines base (to ∷ now) ≡ entry_bits words table lines base to ++ entity_list_bits words table lines (left_behind to base) now
+  entity_list_bits-entry least base to now rise rise-now =
       let end = end_mark table in
       let n = to.number in
       let left = from_number n base in
       let risen = from_number-rises end least n base rise in
       let h = is_taken end n left risen in
-      let next = list_text-next n left (to ∷ now) (taken n left).1 now rise-now.1 risen (omega arith, rise-now.1, rise-now.2) h.rise rise-now.2
+      let next = entity_list_bits-next n left (to ∷ now) (taken n left).1 now rise-now.1 risen (omega arith, rise-now.1, rise-now.2) h.rise rise-now.2
       h.behind (λ m above. with_number-behind m to now (omega (arith, above))) in
-      list_text-gone n least base (to ∷ now) rise (omega arith, rise-now.1, rise-now.2)
+      entity_list_bits-gone n least base (to ∷ now) rise (omega arith, rise-now.1, rise-now.2)
       ∙ ap (λ t. removals words table n base ++ t)
       (next
-      ∙ ap (λ o. piece words table lines n o (with_number n (to ∷ now)) ++ list_text words table lines (taken n left).1 now) (sym h.found)
-      ∙ ap (λ o. piece words table lines n (taken n left).0 o ++ list_text words table lines (taken n left).1 now) (with_number-first to now))
-      ∙ sym (append_assoc (removals words table n base) (piece words table lines n (taken n left).0 (Some to)) (list_text words table lines (taken n left).1 now))
+      ∙ ap (λ o. piece words table lines n o (with_number n (to ∷ now)) ++ entity_list_bits words table lines (taken n left).1 now) (sym h.found)
+      ∙ ap (λ o. piece words table lines n (taken n left).0 o ++ entity_list_bits words table lines (taken n left).1 now) (with_number-first to now))
+      ∙ sym (append_assoc (removals words table n base) (piece words table lines n (taken n left).0 (Some to)) (entity_list_bits words table lines (taken n left).1 now))
 
   -- where nothing is there now, all that is left is gone
-  pub list_text-ends : (base : List EntityState) → RiseFrom (end_mark table) 0 base
-      → list_text words table lines base [] ≡ end_text words table base
-  list_text-ends base rise =
-      list_text-gone (end_mark table) 0 base [] rise tt
-      ∙ ap (λ left. removals words table (end_mark table) base ++ list_text words table lines left []) (from_number-limit (end_mark table) 0 base rise)
-      ∙ ap (λ t. removals words table (end_mark table) base ++ t) list_text-nothing
+  pub entity_list_bits-ends : (base : List EntityState) → RiseFrom (end_mark table) 0 base
+      → entity_list_bits words table lines base [] ≡ end_bits words table base
+  entity_list_bits-ends base rise =
+      entity_list_bits-gone (end_mark table) 0 base [] rise tt
+      ∙ ap (λ left. removals words table (end_mark table) base ++ entity_list_bits words table lines left []) (from_number-limit (end_mark table) 0 base rise)
+      ∙ ap (λ t. removals words table (end_mark table) base ++ t) entity_list_bits-nothing
 
   -- one entity more of those that there are now, written by the same words: the text goes on by its entry, and what is left
   -- rises as before
   pub record IsTurn (same : List (List Bool)) (base : List EntityState) (to : EntityState) (now : List EntityState) : Type 0 where
-    pub text : list_text words table lines base (to ∷ now) ≡ entry_text same table lines base to ++ list_text words table lines (left_behind to base) now
+    pub text : entity_list_bits words table lines base (to ∷ now) ≡ entry_bits same table lines base to ++ entity_list_bits words table lines (left_behind to base) now
     pub rise : RiseFrom (end_mark table) 0 (left_behind to base)
     pub rise-now : RiseFrom (end_mark table) 0 now
 
@@ -128,29 +128,29 @@ module _ (words : List (List Bool)) (table : Layout) (lines : Lines) where
       let end = end_mark table in
       let left = from_number to.number base in
       record {
-        text = list_text-entry 0 base to now rise rise-now ∙ ap (λ ws. entry_text ws table lines base to ++ list_text words table lines (left_behind to base) now) (sym is);
+        text = entity_list_bits-entry 0 base to now rise rise-now ∙ ap (λ ws. entry_bits ws table lines base to ++ entity_list_bits words table lines (left_behind to base) now) (sym is);
         rise = rise-lower end (to.number + 1) 0 (taken to.number left).1 (omega arith) (is_taken end to.number left (from_number-rises end 0 to.number base rise)).rise;
         rise-now = rise-lower end (to.number + 1) 0 now (omega arith) rise-now.2;
       }
 
   -- of entities, the same in both, with which both begin, nothing is said
-  list_text-same : LastChangedIsLeast → (front base now : List EntityState) → RiseFrom (end_mark table) 0 (front ++ base) → RiseFrom (end_mark table) 0 (front ++ now)
-      → list_text words table lines (front ++ base) (front ++ now) ≡ list_text words table lines base now
-  list_text-same law [] base now rise rise-now = refl
-  list_text-same law (entity ∷ front) base now rise rise-now =
+  entity_list_bits-same : LastChangedIsLeast → (front base now : List EntityState) → RiseFrom (end_mark table) 0 (front ++ base) → RiseFrom (end_mark table) 0 (front ++ now)
+      → entity_list_bits words table lines (front ++ base) (front ++ now) ≡ entity_list_bits words table lines base now
+  entity_list_bits-same law [] base now rise rise-now = refl
+  entity_list_bits-same law (entity ∷ front) base now rise rise-now =
       let end = end_mark table in
       let n = entity.number in
       let fields = take (length table.kinds) entity.words in
       let none : changed_count table.kinds entity.words entity.words ≡ 0 = omega (arith, (law fields fields refl).1 0 refl) in
       let first = is_first words table lines (entity ∷ (front ++ base)) entity entity (front ++ base) (rw (eq-eqb n n refl) refl) in
-      list_text-entry 0 (entity ∷ (front ++ base)) entity (front ++ now) rise rise-now
-      ∙ ap (λ t. t ++ list_text words table lines (left_behind entity (entity ∷ (front ++ base))) (front ++ now)) (first.text ∙ entity_delta-unchanged words table entity entity false none)
-      ∙ ap (λ left. list_text words table lines left (front ++ now)) first.left
-      ∙ list_text-same law front base now (rise-lower end (n + 1) 0 (front ++ base) (omega arith) rise.2) (rise-lower end (n + 1) 0 (front ++ now) (omega arith) rise-now.2)
+      entity_list_bits-entry 0 (entity ∷ (front ++ base)) entity (front ++ now) rise rise-now
+      ∙ ap (λ t. t ++ entity_list_bits words table lines (left_behind entity (entity ∷ (front ++ base))) (front ++ now)) (first.text ∙ entity_delta-unchanged words table entity entity false none)
+      ∙ ap (λ left. entity_list_bits words table lines left (front ++ now)) first.left
+      ∙ entity_list_bits-same law front base now (rise-lower end (n + 1) 0 (front ++ base) (omega arith) rise.2) (rise-lower end (n + 1) 0 (front ++ now) (omega arith) rise-now.2)
 
   -- they are passed over
   pub record IsSkipped (base now base' now' : List EntityState) : Type 0 where
-    pub text : list_text words table lines base now ≡ list_text words table lines base' now'
+    pub text : entity_list_bits words table lines base now ≡ entity_list_bits words table lines base' now'
     pub rise : RiseFrom (end_mark table) 0 base'
     pub rise-now : RiseFrom (end_mark table) 0 now'
 
@@ -160,7 +160,7 @@ module _ (words : List (List Bool)) (table : Layout) (lines : Lines) where
       let risen = subst (RiseFrom (end_mark table) 0) share.base-is rise in
       let risen-now = subst (RiseFrom (end_mark table) 0) share.now-is rise-now in
       record {
-        text = rw (share.base-is, share.now-is) (list_text-same law share.front base' now' risen risen-now);
+        text = rw (share.base-is, share.now-is) (entity_list_bits-same law share.front base' now' risen risen-now);
         rise = rise-behind (end_mark table) share.front base' risen;
         rise-now = rise-behind (end_mark table) share.front now' risen-now;
       }

@@ -15,7 +15,7 @@ use Rattle.q3_entity.specs.declared.state.EntityState.{EntityState}
 use Rattle.q3_entity.specs.Entities.{zero_entity, normal_entity, IsNormal, RiseFrom, AreStates, AreNormal, with_number}
 use Rattle.q3_entity.specs.Baselines.{Lines, AreLines, set_at, line_of}
 use Rattle.q3_entity.specs.Delta.{removal, entity_delta}
-use Rattle.q3_entity.specs.Lists.{piece, list_text, words_from}
+use Rattle.q3_entity.specs.Lists.{piece, entity_list_bits, words_from}
 use Rattle.q3_entity.specs.Spelling.{Entered, SpellsEntry, SpellsEntries, EntriesRise, RemoveFrom, state_after}
 use Rattle.q3_entity.specs.Laws.{ZeroIsNormal, ListIsSpelled}
 use Rattle.q3_entity.proofs.DeltaTexts.{entity_delta-unchanged}
@@ -264,7 +264,7 @@ known-to now n states = known (with_number n now) refl (found-all (λ entity. Ar
     known (Some to) is words = (found-number n now to is, words)
 
 pub list_is_spelled : ZeroIsNormal → WordsAreSpelled → UnchangedIsNormal → ListIsSpelled
-unfolding list_text
+unfolding entity_list_bits
 list_is_spelled zeros law same words table lines base now code is_table are is_base states normal is_now states-now =
     let end = end_mark table in
     let from : (n : ℕ) → IfSome (with_number n base) (KnownFrom table n) = λ n. known-from table base n states normal in

@@ -14,7 +14,7 @@ use Rattle.q3_entity.specs.Baselines.{Lines}
 use Rattle.q3_entity.specs.Laws.{ListRises}
 use Rattle.q3_entity.proofs.ListWritten.{found-number}
 use Rattle.q3_entity.proofs.Steps.{number_step}
-use Rattle.q3_entity.specs.Lists.{number_at, one_more, stays, entered, numbers_after, list_after}
+use Rattle.q3_entity.specs.Lists.{number_at, one_more, stays, entered, numbers_after, entity_list_at}
 
 -- numbers below a limit are below a larger one
 pub rise-more : (limit more least : ℕ) (xs : List EntityState) → limit ≤ more → RiseFrom limit least xs → RiseFrom more least xs
@@ -85,8 +85,8 @@ numbers_below words table lines base (suc left) number next entities bits found 
     ])
 
 pub list_is_listed : (words : List (List Bool)) (table : Layout) (lines : Lines) (base : List EntityState) (bits : List Bool) (now : List EntityState) (rest : List Bool)
-    → list_after words table lines base bits ≡ Ok (now, rest) → IsList table now
-unfolding list_after
+    → entity_list_at words table lines base bits ≡ Ok (now, rest) → IsList table now
+unfolding entity_list_at
 list_is_listed words table lines base bits now rest e =
     let first = bind_ok (number_at words table 0 bits) (λ first. numbers_after words table lines base (end_mark table) 0 first.0 [] first.1) (now, rest) e in
     let below = numbers_below words table lines base (end_mark table) 0 first.0.0 [] first.0.1 (now, rest) (record { rise = tt; few = omega arith }) first.2 in

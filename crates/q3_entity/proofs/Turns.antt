@@ -10,7 +10,7 @@ use Rattle.q3_entity.specs.declared.error.EntityError.TheVariants.{Order, Many}
 use Rattle.q3_entity.specs.Entities.{RiseFrom, with_number, most_entities}
 use Rattle.q3_entity.specs.Baselines.{Lines}
 use Rattle.q3_entity.specs.Delta.{bits_read, entity_at}
-use Rattle.q3_entity.specs.Lists.{number_at, one_more, stays, entered, words_from, numbers_after, list_after}
+use Rattle.q3_entity.specs.Lists.{number_at, one_more, stays, entered, words_from, numbers_after, entity_list_at}
 use Rattle.q3_entity.specs.Runs.{taken}
 use Rattle.q3_entity.specs.Walking.{kept_below, Reached, next_at, entry_at, turn_at, count_after, first_of}
 use Rattle.q3_entity.proofs.Results.{number_was_read}
@@ -180,8 +180,8 @@ next_goes_on words table lines least base entities bits =
 
 -- a whole list is read from its first number on
 pub list_begins : ReadWasPut → (words : List (List Bool)) (table : Layout) (lines : Lines) (base : List EntityState) (limit : ℕ) (bits : List Bool) → IsCode words → RiseFrom limit 0 base
-    → list_after words table lines base bits ≡ (next_at words table 0 base [] bits >>= from_reached words table lines)
-unfolding list_after
+    → entity_list_at words table lines base bits ≡ (next_at words table 0 base [] bits >>= from_reached words table lines)
+unfolding entity_list_at
 list_begins put words table lines base limit bits code rise =
     bind_same (number_at words table 0 bits) (λ first. numbers_after words table lines base (end_mark table) 0 first.0 [] first.1)
     (λ first. kept_below first.0 [] base >>= λ kept. from_next words table lines first.0 kept.1 kept.0 first.1)
@@ -248,12 +248,12 @@ turn_rises words table lines at bits now limit rise e =
 -- what the code reads, as a whole list is read: its beginning
 pub list_begun : ReadWasPut → (words : List (List Bool)) (table : Layout) (lines : Lines) (base none : List EntityState) (limit : ℕ) (bits : List Bool) (at : Reached) (left : List Bool) → IsCode words → RiseFrom limit 0 base
     → none ≡ []
-    → Ok (at, left) ≡ next_at words table 0 base none bits → from_reached words table lines (at, left) ≡ list_after words table lines base bits
+    → Ok (at, left) ≡ next_at words table 0 base none bits → from_reached words table lines (at, left) ≡ entity_list_at words table lines base bits
 list_begun put words table lines base none limit bits at left code rise empty e = rw (list_begins put words table lines base limit bits code rise, ← empty, ← e) refl
 
 pub list_refused : ReadWasPut → (words : List (List Bool)) (table : Layout) (lines : Lines) (base none : List EntityState) (limit : ℕ) (bits : List Bool) (e : EntityError) → IsCode words → RiseFrom limit 0 base
     → none ≡ []
-    → Err e ≡ next_at words table 0 base none bits → Err e ≡ list_after words table lines base bits
+    → Err e ≡ next_at words table 0 base none bits → Err e ≡ entity_list_at words table lines base bits
 list_refused put words table lines base none limit bits e code rise empty is = rw (list_begins put words table lines base limit bits code rise, ← empty, ← is) refl
 
 -- a turn

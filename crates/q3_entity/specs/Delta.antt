@@ -7,7 +7,7 @@ use Rattle.q3_fields.specs.Kinds.{Layout}
 use Rattle.q3_fields.specs.declared.delta.StateKind.TheVariants.{Entity}
 use Rattle.q3_fields.specs.declared.delta.DeltaError.{DeltaError}
 use Rattle.q3_fields.specs.declared.delta.DeltaError.TheVariants as delta
-use Rattle.q3_fields.specs.Deltas.{changed_count, words_delta, words_after}
+use Rattle.q3_fields.specs.Deltas.{changed_count, words_delta, words_at}
 use Rattle.q3_entity.specs.declared.state.EntityState.{EntityState}
 use Rattle.q3_entity.specs.declared.reading.Entry.{Entry}
 use Rattle.q3_entity.specs.declared.reading.Entry.TheVariants.{Removed, Changed, Same}
@@ -50,7 +50,7 @@ words_read r = fault_as entity_error r
 -- the delta of an entity that changed
 abbrev pub delta_at : List (List Bool) → Layout → List ℕ → List Bool → Result ((Entry × List ℕ) × List Bool) EntityError
 delta_at words table from bits = do
-  read ← words_read (words_after Entity words table.kinds from bits)
+  read ← words_read (words_at Entity words table.kinds from bits)
   Ok ((Changed, read.0), read.1)
 
 -- an entity that is there: a bit that says whether it changed

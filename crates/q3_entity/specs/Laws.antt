@@ -9,7 +9,7 @@ use Rattle.q3_entity.specs.declared.reading.Entry.TheVariants.{Removed}
 use Rattle.q3_entity.specs.Entities.{zero_entity, normal_entity, IsNormal, IsList, Rises, AreStates, AreNormal}
 use Rattle.q3_entity.specs.Baselines.{Lines, AreLines, no_lines, with_line}
 use Rattle.q3_entity.specs.Delta.{entity_delta, entry_of, removal, entity_at}
-use Rattle.q3_entity.specs.Lists.{list_text, list_after, list_skipped}
+use Rattle.q3_entity.specs.Lists.{entity_list_bits, entity_list_at, list_skipped}
 use Rattle.q3_entity.specs.Spelling.{Entered, words_there, SpellsEntry, SpellsList, SpellsSkipped}
 
 -- the normal form of a state is a state, in normal form; so is the zero state
@@ -72,12 +72,12 @@ EntrySpelledIsRead = (words : List (List Bool)) (table : Layout) (from : List �
 abbrev pub ListIsSpelled : Type 0
 ListIsSpelled = (words : List (List Bool)) (table : Layout) (lines : Lines) (base now : List EntityState) → IsCode words → IsTable table
     → AreLines table lines → IsList table base → AreStates base → AreNormal table base → IsList table now → AreStates now
-    → SpellsList words table lines base (map (normal_entity table) now) (list_text words table lines base now)
+    → SpellsList words table lines base (map (normal_entity table) now) (entity_list_bits words table lines base now)
 
 -- what is read was spelled so, and is in normal form where the base and the baselines are
 abbrev pub ListReadIsSpelled : Type 0
 ListReadIsSpelled = (words : List (List Bool)) (table : Layout) (lines : Lines) (base now : List EntityState) (bits rest : List Bool) → IsCode words
-    → IsTable table → AreLines table lines → IsList table base → AreStates base → list_after words table lines base bits ≡ Ok (now, rest)
+    → IsTable table → AreLines table lines → IsList table base → AreStates base → entity_list_at words table lines base bits ≡ Ok (now, rest)
     → AreStates now × (AreNormal table base → AreNormal table now)
     × (text : List Bool) × (bits ≡ text ++ rest) × SpellsList words table lines base now text
 
@@ -85,19 +85,19 @@ ListReadIsSpelled = (words : List (List Bool)) (table : Layout) (lines : Lines) 
 abbrev pub ListSpelledIsRead : Type 0
 ListSpelledIsRead = (words : List (List Bool)) (table : Layout) (lines : Lines) (base now : List EntityState) (text rest : List Bool) → IsCode words
     → IsTable table → AreLines table lines → IsList table base → AreStates base → SpellsList words table lines base now text
-    → list_after words table lines base (text ++ rest) ≡ Ok (now, rest)
+    → entity_list_at words table lines base (text ++ rest) ≡ Ok (now, rest)
 
 -- what is written against a base and baselines in normal form is read back as the entities in normal form, with whatever
 -- follows it
 abbrev pub ListWrittenIsRead : Type 0
 ListWrittenIsRead = (words : List (List Bool)) (table : Layout) (lines : Lines) (base now : List EntityState) (rest : List Bool) → IsCode words
     → IsTable table → AreLines table lines → IsList table base → AreStates base → AreNormal table base → IsList table now → AreStates now
-    → list_after words table lines base (list_text words table lines base now ++ rest) ≡ Ok (map (normal_entity table) now, rest)
+    → entity_list_at words table lines base (entity_list_bits words table lines base now ++ rest) ≡ Ok (map (normal_entity table) now, rest)
 
 -- what is read as a list is skipped to the same place
 abbrev pub ReadIsSkipped : Type 0
 ReadIsSkipped = (words : List (List Bool)) (table : Layout) (lines : Lines) (base now : List EntityState) (bits rest : List Bool) → IsTable table
-    → AreLines table lines → AreStates base → list_after words table lines base bits ≡ Ok (now, rest) → list_skipped words table bits ≡ Ok (tt, rest)
+    → AreLines table lines → AreStates base → entity_list_at words table lines base bits ≡ Ok (now, rest) → list_skipped words table bits ≡ Ok (tt, rest)
 
 -- what is skipped was spelled so, and what is spelled so is skipped, with whatever follows it
 abbrev pub SkippedIsSpelled : Type 0

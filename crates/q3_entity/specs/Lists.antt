@@ -23,8 +23,8 @@ piece words table lines number (Some from) None = removal words table number
 piece words table lines number None None = []
 
 -- the list of the entities that there are now, against those of a base: the piece of each number, and the end mark
-unfoldable pub list_text : List (List Bool) → Layout → Lines → List EntityState → List EntityState → List Bool
-list_text words table lines base now =
+unfoldable pub entity_list_bits : List (List Bool) → Layout → Lines → List EntityState → List EntityState → List Bool
+entity_list_bits words table lines base now =
     flat_map (λ number. piece words table lines number (with_number number base) (with_number number now)) (range_with_len 0 (end_mark table))
     ++ field_bits words table.number_bits (end_mark table)
 
@@ -68,8 +68,8 @@ numbers_after words table lines base (suc left) number next entities bits =
       numbers_after words table lines base left (number + 1) next kept bits)
 
 -- the entities after a list against a base, and what is behind it, or the first fault in reading order
-unfoldable pub list_after : List (List Bool) → Layout → Lines → List EntityState → List Bool → Result (List EntityState × List Bool) EntityError
-list_after words table lines base bits = do
+unfoldable pub entity_list_at : List (List Bool) → Layout → Lines → List EntityState → List Bool → Result (List EntityState × List Bool) EntityError
+entity_list_at words table lines base bits = do
   first ← number_at words table 0 bits
   numbers_after words table lines base (end_mark table) 0 first.0 [] first.1
 

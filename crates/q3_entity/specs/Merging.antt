@@ -15,13 +15,13 @@ removals words table number [] = []
 removals words table number (entity ∷ base) = if nat_lt entity.number number then removal words table entity.number ++ removals words table number base else []
 
 -- an entity that there is now, behind what is gone below it
-abbrev pub entry_text : List (List Bool) → Layout → Lines → List EntityState → EntityState → List Bool
-entry_text words table lines base to =
+abbrev pub entry_bits : List (List Bool) → Layout → Lines → List EntityState → EntityState → List Bool
+entry_bits words table lines base to =
     removals words table to.number base ++ piece words table lines to.number (taken to.number (from_number to.number base)).0 (Some to)
 
 -- the end: what is left of the base is gone
-abbrev pub end_text : List (List Bool) → Layout → List EntityState → List Bool
-end_text words table base = removals words table (end_mark table) base ++ field_bits words table.number_bits (end_mark table)
+abbrev pub end_bits : List (List Bool) → Layout → List EntityState → List Bool
+end_bits words table base = removals words table (end_mark table) base ++ field_bits words table.number_bits (end_mark table)
 
 -- what is left of the base behind an entity's number
 abbrev pub left_behind : EntityState → List EntityState → List EntityState

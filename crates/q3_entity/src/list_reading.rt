@@ -7,7 +7,7 @@ ghost use Rattle.q3_bits.specs.Streams.{Reads, holding};
 ghost use Rattle.q3_fields.specs.Kinds.{end_mark};
 ghost use Rattle.q3_entity.specs.Entities.{IsList, Rises, run_of, most_entities};
 ghost use Rattle.q3_entity.specs.Baselines.{most_lines};
-ghost use Rattle.q3_entity.specs.Lists.{number_at, list_after, list_skipped};
+ghost use Rattle.q3_entity.specs.Lists.{number_at, entity_list_at, list_skipped};
 ghost use Rattle.q3_entity.specs.declared.state.EntityState.{EntityState};
 ghost use Rattle.q3_entity.specs.Walking.{kept_below, KeepsFront, next_at, entry_at, turn_at, skipped_at, with_kept, reached, first_of};
 
@@ -43,7 +43,7 @@ pub fn read_list(
     into: &mut List,
 ) -> Result<(), EntityError>
     requires { Rises (run_of base) }
-    ensures reads { Reads r.old r.new (list_after r.old.words table.now baselines.now (run_of base.entry) r.old.left) (holding into.new.items result) }
+    ensures reads { Reads r.old r.new (entity_list_at r.old.words table.now baselines.now (run_of base.entry) r.old.left) (holding into.new.items result) }
     ensures list { OnOk result (IsList table.now into.new.items) }
 {
     laws::read_was_put();

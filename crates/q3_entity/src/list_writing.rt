@@ -5,9 +5,9 @@ ghost use Rattle.std.specs.Option.{option_copied};
 ghost use Rattle.q3_bits.specs.Streams.{Writes};
 ghost use Rattle.q3_entity.specs.Entities.{IsList, run_of};
 ghost use Rattle.q3_entity.specs.Baselines.{most_lines};
-ghost use Rattle.q3_entity.specs.Lists.{piece, list_text};
+ghost use Rattle.q3_entity.specs.Lists.{piece, entity_list_bits};
 ghost use Rattle.q3_entity.specs.Runs.{from_number};
-ghost use Rattle.q3_entity.specs.Merging.{removals, end_text, entry_text, left_behind, done};
+ghost use Rattle.q3_entity.specs.Merging.{removals, end_bits, entry_bits, left_behind, done};
 
 use crate::baselines::Baselines;
 use crate::run::{skip_same, split_first, take_number};
@@ -28,7 +28,7 @@ pub fn write_list(
 ) -> Result<(), Overflow>
     requires base { IsList table.now (run_of base) }
     requires now { IsList table.now now.now }
-    ensures { Writes w.old w.new (list_text w.old.words table.now baselines.now (run_of base.entry) now.now) result }
+    ensures { Writes w.old w.new (entity_list_bits w.old.words table.now baselines.now (run_of base.entry) now.now) result }
 {
     write_run(w, table, baselines, base, Run::of(now))
 }
@@ -43,7 +43,7 @@ pub fn write_run(
 ) -> Result<(), Overflow>
     requires base { IsList table.now (run_of base) }
     requires now { IsList table.now (run_of now) }
-    ensures { Writes w.old w.new (list_text w.old.words table.now baselines.now (run_of base.entry) (run_of now.entry)) result }
+    ensures { Writes w.old w.new (entity_list_bits w.old.words table.now baselines.now (run_of base.entry) (run_of now.entry)) result }
 {
     laws::texts_are_written();
     // what stands there fits the room, and each number may have a baseline
@@ -61,7 +61,7 @@ pub fn write_run(
 
 /// Writes that what is left of the base is gone, and the end mark.
 fn write_end(w: &mut Writer, table: &Table, base: Run) -> Result<(), Overflow>
-    ensures { Writes w.old w.new (end_text w.old.words table.now (run_of base.entry)) result }
+    ensures { Writes w.old w.new (end_bits w.old.words table.now (run_of base.entry)) result }
 {
     laws::texts_are_written();
     let end = table.end();
@@ -78,7 +78,7 @@ fn write_entry<'a>(
     entity: &EntityState,
 ) -> Result<Run<'a>, Overflow>
     requires { entity.now.number < most_lines }
-    ensures writes { Writes w.old w.new (entry_text w.old.words table.now baselines.now (run_of base.entry) entity.now) (done result) }
+    ensures writes { Writes w.old w.new (entry_bits w.old.words table.now baselines.now (run_of base.entry) entity.now) (done result) }
     ensures left { IfOk result (λ left. run_of left ≡ left_behind entity.now (run_of base.entry)) }
 {
     let (from, others) = take_number(base, entity.number);
@@ -98,7 +98,7 @@ fn write_behind<'a>(
     entity: &EntityState,
 ) -> Result<Run<'a>, Overflow>
     requires { entity.now.number < most_lines }
-    ensures writes { Writes w.old w.new (entry_text w.old.words table.now baselines.now (run_of base.entry) entity.now) (done result) }
+    ensures writes { Writes w.old w.new (entry_bits w.old.words table.now baselines.now (run_of base.entry) entity.now) (done result) }
     ensures left { IfOk result (λ left. run_of left ≡ left_behind entity.now (run_of base.entry)) }
 {
     laws::texts_are_written();

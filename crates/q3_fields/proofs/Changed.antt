@@ -5,14 +5,14 @@ use Rattle.q3_fields.specs.declared.kind.Kind.{Kind}
 use Rattle.q3_fields.specs.declared.delta.StateKind.{StateKind}
 use Rattle.q3_fields.specs.declared.delta.StateKind.TheVariants.{Entity, Player}
 use Rattle.q3_fields.specs.Kinds.{IsKind, norm}
-use Rattle.q3_fields.specs.Deltas.{changed_text, changed_at}
+use Rattle.q3_fields.specs.Deltas.{changed_bits, changed_at}
 use Rattle.q3_fields.specs.Spelling.{SpellsChanged}
 use Rattle.q3_fields.specs.Laws.{PlayerFieldIsSpelled, EntityFieldIsSpelled, PlayerReadIsSpelled, EntityReadIsSpelled, PlayerSpelledIsRead, EntitySpelledIsRead}
 
 -- what is written is spelled
 abbrev pub ChangedIsSpelled : Type 0
 ChangedIsSpelled = (state : StateKind) (words : List (List Bool)) (kind : Kind) (word : ℕ) → IsKind kind → word < 2 ^ 32
-    → SpellsChanged state words kind (norm kind word) (changed_text state words kind word)
+    → SpellsChanged state words kind (norm kind word) (changed_bits state words kind word)
 
 pub changed_is_spelled : PlayerFieldIsSpelled → EntityFieldIsSpelled → ChangedIsSpelled
 changed_is_spelled player entity Entity = entity

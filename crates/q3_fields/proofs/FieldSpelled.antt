@@ -12,7 +12,7 @@ use Rattle.q3_fields.specs.declared.kind.Kind.{Kind}
 use Rattle.q3_fields.specs.declared.delta.StateKind.{StateKind}
 use Rattle.q3_fields.specs.Kinds.{IsKind, norm}
 use Rattle.q3_fields.specs.States.{normal_words}
-use Rattle.q3_fields.specs.Deltas.{last_changed, changed_text, changed_at, field_text, fields_text, field_after, fields_after}
+use Rattle.q3_fields.specs.Deltas.{last_changed, changed_bits, changed_at, marked_field_bits, fields_bits, marked_field_at, fields_at}
 use Rattle.q3_fields.specs.Spelling.{SpellsField, SpellsFields}
 use Rattle.q3_fields.proofs.LastChanged.{last_changed-agrees}
 use Rattle.q3_fields.proofs.Results.{answer_parts, bits_were_put, bits_were}
@@ -44,8 +44,8 @@ marked_parts state words kind from mark found e =
     ]
 
 field_was_spelled : ReadWasPut → ChangedWasSpelled → (state : StateKind) (words : List (List Bool)) → IsCode words → (kind : Kind) → IsKind kind → (from : ℕ) (bits : List Bool) (found : ℕ × List Bool)
-    → field_after state words kind from bits ≡ Ok found → ReadField state words kind from bits found
-unfolding field_after
+    → marked_field_at state words kind from bits ≡ Ok found → ReadField state words kind from bits found
+unfolding marked_field_at
 field_was_spelled put law state words code kind allowed from bits found e =
     let mark = bind_ok (field_at words 1 bits) (marked_at state words kind from) found e in
     let bit = bits_were_put put words code 1 bits mark.0 mark.1 in
@@ -71,8 +71,8 @@ field_was_spelled put law state words code kind allowed from bits found e =
 
 -- a field that is spelled so is read
 field_is_read : PutIsRead → ChangedIsRead → (state : StateKind) (words : List (List Bool)) → IsCode words → (kind : Kind) → IsKind kind → (from to : ℕ) (text rest : List Bool)
-    → SpellsField state words kind from to text → field_after state words kind from (text ++ rest) ≡ Ok (to, rest)
-unfolding field_after
+    → SpellsField state words kind from to text → marked_field_at state words kind from (text ++ rest) ≡ Ok (to, rest)
+unfolding marked_field_at
 field_is_read put law state words code kind allowed from to text rest (inl as_it_was) =
     rw (as_it_was.1, as_it_was.0, put words 1 0 rest code (omega arith)) refl
 field_is_read put law state words code kind allowed from to text rest (inr changed) =
@@ -80,11 +80,11 @@ field_is_read put law state words code kind allowed from to text rest (inr chang
 
 -- a field that is written spells the normal form of the word
 field_is_spelled : ChangedIsSpelled → (state : StateKind) (words : List (List Bool)) (kind : Kind) → IsKind kind → (from to : ℕ) → to < 2 ^ 32 → norm kind from ≡ from
-    → SpellsField state words kind from (norm kind to) (field_text state words kind from to)
+    → SpellsField state words kind from (norm kind to) (marked_field_bits state words kind from to)
 field_is_spelled law state words kind allowed from to fits normal =
     elim (cases_Bool (eqb from to)) [
       | inl same ↦ rw same (inl (ap (norm kind) (sym (eqb-true from to same)) ∙ normal, refl))
-      | inr differs ↦ rw differs (inr (changed_text state words kind to, law state words kind to allowed fits, refl))
+      | inr differs ↦ rw differs (inr (changed_bits state words kind to, law state words kind to allowed fits, refl))
     ]
 
 -- ---- the fields
@@ -112,12 +112,12 @@ none_was_spelled state words from bits found same left = record {
 
 -- the fields behind the first
 abbrev others_at : StateKind → List (List Bool) → List Kind → List ℕ → ℕ × List Bool → Result (List ℕ × List Bool) ReadError
-others_at state words kinds from first = fields_after state words kinds from first.1 >>= λ others. Ok (first.0 ∷ others.0, others.1)
+others_at state words kinds from first = fields_at state words kinds from first.1 >>= λ others. Ok (first.0 ∷ others.0, others.1)
 
 -- were spelled so
 pub fields_were_spelled : ReadWasPut → ChangedWasSpelled → (state : StateKind) (words : List (List Bool)) → IsCode words → (kinds : List Kind) → All IsKind kinds → (from : List ℕ) (bits : List Bool) (found : List ℕ × List Bool)
-    → fields_after state words kinds from bits ≡ Ok found → ReadFields state words kinds from bits found
-unfolding fields_after
+    → fields_at state words kinds from bits ≡ Ok found → ReadFields state words kinds from bits found
+unfolding fields_at
 fields_were_spelled put law state words code [] allowed from bits found e =
     let parts = answer_parts from found.0 bits found.1 e in
     none_was_spelled state words from bits found parts.0 parts.1
@@ -125,8 +125,8 @@ fields_were_spelled put law state words code (kind ∷ kinds) allowed [] bits fo
     let parts = answer_parts [] found.0 bits found.1 e in
     record { text = []; parts = parts.1; spells = (sym parts.0, refl); fits = subst (All Fits) parts.0; long = ap length (sym parts.0) }
 fields_were_spelled put law state words code (kind ∷ kinds) allowed (x ∷ from) bits found e =
-    let first = bind_ok (field_after state words kind x bits) (others_at state words kinds from) found e in
-    let others = bind_ok (fields_after state words kinds from first.0.1) (λ others. Ok (first.0.0 ∷ others.0, others.1)) found first.2 in
+    let first = bind_ok (marked_field_at state words kind x bits) (others_at state words kinds from) found e in
+    let others = bind_ok (fields_at state words kinds from first.0.1) (λ others. Ok (first.0.0 ∷ others.0, others.1)) found first.2 in
     let parts = answer_parts (first.0.0 ∷ others.0.0) found.0 others.0.1 found.1 others.2 in
     let one = field_was_spelled put law state words code kind (All-head IsKind kind kinds allowed) x bits first.0 first.1 in
     let more = fields_were_spelled put law state words code kinds (All-tail IsKind kind kinds allowed) from first.0.1 others.0 others.1 in
@@ -140,8 +140,8 @@ fields_were_spelled put law state words code (kind ∷ kinds) allowed (x ∷ fro
 
 -- fields that are read over normal words are normal
 pub fields_are_normal : ReadWasPut → ChangedWasSpelled → (state : StateKind) (words : List (List Bool)) → IsCode words → (count : ℕ) (table : List Kind) → All IsKind table → (from : List ℕ) (bits : List Bool) (found : List ℕ × List Bool)
-    → fields_after state words (take count table) from bits ≡ Ok found → normal_words table from ≡ from → normal_words table found.0 ≡ found.0
-unfolding fields_after normal_words
+    → fields_at state words (take count table) from bits ≡ Ok found → normal_words table from ≡ from → normal_words table found.0 ≡ found.0
+unfolding fields_at normal_words
 fields_are_normal put law state words code zero table allowed from bits found e normal =
     let parts = answer_parts from found.0 bits found.1 e in
     subst (λ (xs : List ℕ). normal_words table xs ≡ xs) parts.0 normal
@@ -154,8 +154,8 @@ fields_are_normal put law state words code (suc count) (kind ∷ table) allowed 
 fields_are_normal put law state words code (suc count) (kind ∷ table) allowed (x ∷ from) bits found e normal =
     let here : norm kind x ≡ x = cc in
     let behind : normal_words table from ≡ from = cc in
-    let first = bind_ok (field_after state words kind x bits) (others_at state words (take count table) from) found e in
-    let others = bind_ok (fields_after state words (take count table) from first.0.1) (λ others. Ok (first.0.0 ∷ others.0, others.1)) found first.2 in
+    let first = bind_ok (marked_field_at state words kind x bits) (others_at state words (take count table) from) found e in
+    let others = bind_ok (fields_at state words (take count table) from first.0.1) (λ others. Ok (first.0.0 ∷ others.0, others.1)) found first.2 in
     let parts = answer_parts (first.0.0 ∷ others.0.0) found.0 others.0.1 found.1 others.2 in
     let one = field_was_spelled put law state words code kind (All-head IsKind kind table allowed) x bits first.0 first.1 in
     let more = fields_are_normal put law state words code count table (All-tail IsKind kind table allowed) from first.0.1 others.0 others.1 behind in
@@ -163,8 +163,8 @@ fields_are_normal put law state words code (suc count) (kind ∷ table) allowed 
 
 -- fields that are spelled so are read
 pub fields_are_read : PutIsRead → ChangedIsRead → (state : StateKind) (words : List (List Bool)) → IsCode words → (kinds : List Kind) → All IsKind kinds → (from to : List ℕ) (text rest : List Bool)
-    → SpellsFields state words kinds from to text → fields_after state words kinds from (text ++ rest) ≡ Ok (to, rest)
-unfolding fields_after
+    → SpellsFields state words kinds from to text → fields_at state words kinds from (text ++ rest) ≡ Ok (to, rest)
+unfolding fields_at
 fields_are_read put law state words code [] allowed from to text rest s = rw (s.0, s.1) refl
 fields_are_read put law state words code (kind ∷ kinds) allowed [] to text rest s = rw (s.0, s.1) refl
 fields_are_read put law state words code (kind ∷ kinds) allowed (x ∷ from) to text rest s =
@@ -184,8 +184,8 @@ fronts count from to long = simp length-take (ap (min count) long)
 pub fields_are_spelled : ChangedIsSpelled → (state : StateKind) (words : List (List Bool)) (table : List Kind) → All IsKind table → (from to : List ℕ) → length from ≡ length to
     → All (λ word. word < 2 ^ 32) to → normal_words table from ≡ from
     → SpellsFields state words (take (last_changed (take (length table) from) (take (length table) to)) table) from (normal_words table to)
-    (fields_text state words (take (last_changed (take (length table) from) (take (length table) to)) table) from to)
-unfolding last_changed fields_text normal_words
+    (fields_bits state words (take (last_changed (take (length table) from) (take (length table) to)) table) from to)
+unfolding last_changed fields_bits normal_words
 fields_are_spelled law state words [] allowed from to long fits normal =
     (sym (normal_words-front [] from to long refl) ∙ normal, refl)
 fields_are_spelled law state words (kind ∷ table) allowed [] [] long fits normal = (refl, refl)
@@ -207,8 +207,8 @@ fields_are_spelled law state words (kind ∷ table) allowed (x ∷ from) (y ∷ 
           rw (some, add-one) (
             norm kind y,
             normal_words table to,
-            field_text state words kind x y,
-            fields_text state words (take (last_changed old new) table) from to,
+            marked_field_bits state words kind x y,
+            fields_bits state words (take (last_changed old new) table) from to,
             refl,
             refl,
             field_is_spelled law state words kind (All-head IsKind kind table allowed) x y (All-head Fits y to fits) here,

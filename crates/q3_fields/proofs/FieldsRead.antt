@@ -9,12 +9,12 @@ use Rattle.q3_bits.specs.declared.reader.ReadError.{ReadError}
 use Rattle.q3_bits.specs.declared.reader.ReadError.TheVariants.{End}
 use Rattle.q3_fields.specs.declared.kind.Kind.{Kind}
 use Rattle.q3_fields.specs.declared.delta.StateKind.{StateKind}
-use Rattle.q3_fields.specs.Deltas.{changed_at, field_after, fields_after}
+use Rattle.q3_fields.specs.Deltas.{changed_at, marked_field_at, fields_at}
 use Rattle.q3_fields.proofs.FieldTexts.{kinds-next, kinds-end}
 
 -- the fields of these kinds, where the mark of change of the first was read
 unfoldable pub marked_after : StateKind → List (List Bool) → List Kind → List ℕ → List Bool → ListRead
-marked_after state words (kind ∷ kinds) (x ∷ from) bits = changed_at state words kind bits >>= λ first. with_first first.0 (fields_after state words kinds from first.1)
+marked_after state words (kind ∷ kinds) (x ∷ from) bits = changed_at state words kind bits >>= λ first. with_first first.0 (fields_at state words kinds from first.1)
 marked_after state words kinds from bits = Ok (from, bits)
 
 -- nothing in front changes nothing
@@ -29,18 +29,18 @@ front-first x front (Err e) = refl
 
 -- a field, and those behind it
 fields-same : MarksAreBits → (state : StateKind) (words : List (List Bool)) (kind : Kind) (kinds : List Kind) (x : ℕ) (from : List ℕ) (bits : List Bool)
-    → fields_after state words (kind ∷ kinds) (x ∷ from) (false ∷ bits) ≡ with_first x (fields_after state words kinds from bits)
-unfolding fields_after field_after
+    → fields_at state words (kind ∷ kinds) (x ∷ from) (false ∷ bits) ≡ with_first x (fields_at state words kinds from bits)
+unfolding fields_at marked_field_at
 fields-same marks state words kind kinds x from bits = rw (marks.here words false bits) refl
 
 fields-changed : MarksAreBits → (state : StateKind) (words : List (List Bool)) (kind : Kind) (kinds : List Kind) (x : ℕ) (from : List ℕ) (bits : List Bool)
-    → fields_after state words (kind ∷ kinds) (x ∷ from) (true ∷ bits) ≡ marked_after state words (kind ∷ kinds) (x ∷ from) bits
-unfolding fields_after field_after marked_after
+    → fields_at state words (kind ∷ kinds) (x ∷ from) (true ∷ bits) ≡ marked_after state words (kind ∷ kinds) (x ∷ from) bits
+unfolding fields_at marked_field_at marked_after
 fields-changed marks state words kind kinds x from bits = rw (marks.here words true bits) refl
 
 fields-ended : MarksAreBits → (state : StateKind) (words : List (List Bool)) (kind : Kind) (kinds : List Kind) (x : ℕ) (from : List ℕ)
-    → fields_after state words (kind ∷ kinds) (x ∷ from) [] ≡ Err End
-unfolding fields_after field_after
+    → fields_at state words (kind ∷ kinds) (x ∷ from) [] ≡ Err End
+unfolding fields_at marked_field_at
 fields-ended marks state words kind kinds x from = rw (marks.none words) refl
 
 -- the parts of an answer
@@ -74,10 +74,10 @@ run-ended n = refl
 
 -- all of so many fields are as they were
 pub run-kept : MarksAreBits → (state : StateKind) (words : List (List Bool)) (n : ℕ) (kinds : List Kind) (from : List ℕ) (bits rest : List Bool) → n ≤ length kinds → n ≤ length from
-    → run_at n bits ≡ told n rest → fields_after state words kinds from bits ≡ with_front (take n from) (fields_after state words (drop n kinds) (drop n from) rest)
+    → run_at n bits ≡ told n rest → fields_at state words kinds from bits ≡ with_front (take n from) (fields_at state words (drop n kinds) (drop n from) rest)
 run-kept marks state words zero kinds from bits rest few few' e =
     let parts = told-parts 0 0 bits rest (sym (run-nothing bits) ∙ e) in
-    ap (fields_after state words kinds from) parts.1 ∙ sym (front-none (fields_after state words kinds from rest))
+    ap (fields_at state words kinds from) parts.1 ∙ sym (front-none (fields_at state words kinds from rest))
 run-kept marks state words (suc n) [] from bits rest few few' e = absurd (omega arith)
 run-kept marks state words (suc n) (kind ∷ kinds) [] bits rest few few' e = absurd (omega arith)
 run-kept marks state words (suc n) (kind ∷ kinds) (x ∷ from) [] rest few few' e = absurd (let bad = sym (run-ended n) ∙ e in cc)
@@ -91,11 +91,11 @@ run-kept marks state words (suc n) (kind ∷ kinds) (x ∷ from) (false ∷ bits
     let read : run_at n bits ≡ told n rest = others.1 ∙ told-same others.0.0 n others.0.1 rest count parts.1 in
     fields-same marks state words kind kinds x from bits
     ∙ ap (with_first x) (run-kept marks state words n kinds from bits rest (omega arith) (omega arith) read)
-    ∙ front-first x (take n from) (fields_after state words (drop n kinds) (drop n from) rest)
+    ∙ front-first x (take n from) (fields_at state words (drop n kinds) (drop n from) rest)
 
 -- fewer of them are, and the next one changed
 pub run-changed : MarksAreBits → (state : StateKind) (words : List (List Bool)) (n z : ℕ) (kinds : List Kind) (from : List ℕ) (bits rest : List Bool) → n ≤ length kinds → n ≤ length from → z < n
-    → run_at n bits ≡ told z rest → fields_after state words kinds from bits ≡ with_front (take z from) (marked_after state words (drop z kinds) (drop z from) rest)
+    → run_at n bits ≡ told z rest → fields_at state words kinds from bits ≡ with_front (take z from) (marked_after state words (drop z kinds) (drop z from) rest)
 run-changed marks state words zero z kinds from bits rest few few' short e = absurd (omega arith)
 run-changed marks state words (suc n) z [] from bits rest few few' short e = absurd (omega arith)
 run-changed marks state words (suc n) z (kind ∷ kinds) [] bits rest few few' short e = absurd (omega arith)
@@ -127,7 +127,7 @@ stopped (Ok x) e is = absurd cc
 stopped (Err d) e is = cc
 
 pub run-fault : MarksAreBits → (state : StateKind) (words : List (List Bool)) (n : ℕ) (kinds : List Kind) (from : List ℕ) (bits : List Bool) (e : ReadError) → n ≤ length kinds → n ≤ length from
-    → run_at n bits ≡ Err e → fields_after state words kinds from bits ≡ Err e
+    → run_at n bits ≡ Err e → fields_at state words kinds from bits ≡ Err e
 run-fault marks state words zero kinds from bits e few few' is = absurd (let bad = sym (run-nothing bits) ∙ is in cc)
 run-fault marks state words (suc n) [] from bits e few few' is = absurd (omega arith)
 run-fault marks state words (suc n) (kind ∷ kinds) [] bits e few few' is = absurd (omega arith)
@@ -140,7 +140,7 @@ run-fault marks state words (suc n) (kind ∷ kinds) (x ∷ from) (false ∷ bit
 
 -- what the loop has left: the fields from k on
 abbrev pub left_at : StateKind → List (List Bool) → List Kind → ℕ → ℕ → List ℕ → List Bool → ListRead
-left_at state words table count k from bits = fields_after state words (drop k (take count table)) (drop k from) bits
+left_at state words table count k from bits = fields_at state words (drop k (take count table)) (drop k from) bits
 
 abbrev pub marked_at : StateKind → List (List Bool) → List Kind → ℕ → ℕ → List ℕ → List Bool → ListRead
 marked_at state words table count k from bits = marked_after state words (drop k (take count table)) (drop k from) bits
@@ -184,7 +184,7 @@ marked-fault state words table count k kind from bits e more few here within rea
     rw (kinds-next table count k kind more few here, drop_more from k 0 within, ← read) refl
 
 -- no field is left
-pub fields_after-end : (state : StateKind) (words : List (List Bool)) (table : List Kind) (count k : ℕ) (from : List ℕ) (bits : List Bool) → count ≤ k → count ≤ length table
-    → fields_after state words (drop k (take count table)) from bits ≡ Ok (from, bits)
-unfolding fields_after
-fields_after-end state words table count k from bits past few = rw (kinds-end table count k past few) refl
+pub fields_at-end : (state : StateKind) (words : List (List Bool)) (table : List Kind) (count k : ℕ) (from : List ℕ) (bits : List Bool) → count ≤ k → count ≤ length table
+    → fields_at state words (drop k (take count table)) from bits ≡ Ok (from, bits)
+unfolding fields_at
+fields_at-end state words table count k from bits past few = rw (kinds-end table count k past few) refl

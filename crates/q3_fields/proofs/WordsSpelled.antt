@@ -11,7 +11,7 @@ use Rattle.q3_fields.specs.declared.delta.StateKind.{StateKind}
 use Rattle.q3_fields.specs.declared.delta.DeltaError.{DeltaError}
 use Rattle.q3_fields.specs.declared.delta.DeltaError.TheVariants.{Count}
 use Rattle.q3_fields.specs.Kinds.{IsKind}
-use Rattle.q3_fields.specs.Deltas.{changed_count, fields_text, words_delta, fields_after, bits_read, words_after}
+use Rattle.q3_fields.specs.Deltas.{changed_count, fields_bits, words_delta, fields_at, bits_read, words_at}
 use Rattle.q3_fields.specs.Laws.{NormIsNormal, NormalWordsAreNormal, WordsAreSpelled, UnchangedIsNormal, WordsReadAreSpelled, WordsSpelledAreRead}
 use Rattle.q3_fields.proofs.LastChanged.{last_changed-agrees, last_changed-le}
 use Rattle.q3_fields.proofs.NormalWords.{normal_words-twice, normal_words-fit, length-normal_words, normal_words-front}
@@ -36,7 +36,7 @@ delta_is_spelled law state words table from to code is_table are normal are' =
     let front : length (take (length table) from) ≡ length table = length-take-le (length table) from within in
     record {
       count = count;
-      fields = fields_text state words (take count table) from to;
+      fields = fields_bits state words (take count table) from to;
       in_table = omega (arith, last_changed-le (take (length table) from) (take (length table) to), front);
       of_fields = fields_are_spelled law state words table is_table.each from to long are'.each normal;
       whole = refl;
@@ -51,16 +51,16 @@ unchanged table from to is_table are normal are' none =
 
 -- the fields, where the table has so many
 abbrev some_fields : StateKind → List (List Bool) → List Kind → List ℕ → ℕ × List Bool → Result (List ℕ × List Bool) DeltaError
-some_fields state words table from count = cond (ltb (length table) count.0) (Err (Count count.0)) (bits_read (fields_after state words (take count.0 table) from count.1))
+some_fields state words table from count = cond (ltb (length table) count.0) (Err (Count count.0)) (bits_read (fields_at state words (take count.0 table) from count.1))
 
 -- words that are read were spelled so
 pub words_were_spelled : ReadWasPut → ChangedWasSpelled → WordsReadAreSpelled
-unfolding words_after
+unfolding words_at
 words_were_spelled put law state words table from to bits rest code is_table are e =
     let count = bind_ok (bits_read (field_at words 8 bits)) (some_fields state words table from) (to, rest) e in
     let kinds = take count.0.0 table in
-    let few = guard_ok (ltb (length table) count.0.0) (Count count.0.0) (bits_read (fields_after state words kinds from count.0.1)) (to, rest) count.2 in
-    let reads = bits_ok (fields_after state words kinds from count.0.1) (to, rest) few.1 in
+    let few = guard_ok (ltb (length table) count.0.0) (Count count.0.0) (bits_read (fields_at state words kinds from count.0.1)) (to, rest) count.2 in
+    let reads = bits_ok (fields_at state words kinds from count.0.1) (to, rest) few.1 in
     let spelled = fields_were_spelled put law state words code kinds (All-take IsKind count.0.0 table is_table.each) from count.0.1 (to, rest) reads in
     let eight = field_bits words 8 count.0.0 in
     let first : bits ≡ eight ++ count.0.1 = (bits_were_put put words code 8 bits count.0 (bits_ok (field_at words 8 bits) count.0 count.1)).1 in (
@@ -79,7 +79,7 @@ words_were_spelled put law state words table from to bits rest code is_table are
 
 -- words that are spelled so are read
 pub words_are_read : PutIsRead → ChangedIsRead → WordsSpelledAreRead
-unfolding words_after
+unfolding words_at
 words_are_read put law state words table from to text rest code is_table are s =
     let few : s.count < 2 ^ 8 = omega (arith, s.in_table, is_table.few) in
     let within : ltb (length table) s.count ≡ false = le-ltb (length table) s.count s.in_table in

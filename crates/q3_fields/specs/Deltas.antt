@@ -21,27 +21,27 @@ abbrev pub changed_count : List Kind → List ℕ → List ℕ → ℕ
 changed_count table from to = last_changed (take (length table) from) (take (length table) to)
 
 -- the text of a changed field of an entity or of a player
-abbrev pub changed_text : StateKind → List (List Bool) → Kind → ℕ → List Bool
-changed_text Entity words kind word = entity_field words kind word
-changed_text Player words kind word = player_field words kind word
+abbrev pub changed_bits : StateKind → List (List Bool) → Kind → ℕ → List Bool
+changed_bits Entity words kind word = entity_field words kind word
+changed_bits Player words kind word = player_field words kind word
 
 -- a field: bit 0 where it is as it was, else bit 1 and its text
-abbrev pub field_text : StateKind → List (List Bool) → Kind → ℕ → ℕ → List Bool
-field_text state words kind from to =
-    if from == to then field_bits words 1 0 else field_bits words 1 1 ++ changed_text state words kind to
+abbrev pub marked_field_bits : StateKind → List (List Bool) → Kind → ℕ → ℕ → List Bool
+marked_field_bits state words kind from to =
+    if from == to then field_bits words 1 0 else field_bits words 1 1 ++ changed_bits state words kind to
 
 -- the fields of these kinds
-unfoldable pub fields_text : StateKind → List (List Bool) → List Kind → List ℕ → List ℕ → List Bool
-fields_text state words (kind ∷ kinds) (x ∷ from) (y ∷ to) = field_text state words kind x y ++ fields_text state words kinds from to
-fields_text state words kinds from to = []
+unfoldable pub fields_bits : StateKind → List (List Bool) → List Kind → List ℕ → List ℕ → List Bool
+fields_bits state words (kind ∷ kinds) (x ∷ from) (y ∷ to) = marked_field_bits state words kind x y ++ fields_bits state words kinds from to
+fields_bits state words kinds from to = []
 
 -- a count, and the first fields of the table, so many
-abbrev pub counted_text : StateKind → List (List Bool) → List Kind → ℕ → List ℕ → List ℕ → List Bool
-counted_text state words table count from to = field_bits words 8 count ++ fields_text state words (take count table) from to
+abbrev pub counted_bits : StateKind → List (List Bool) → List Kind → ℕ → List ℕ → List ℕ → List Bool
+counted_bits state words table count from to = field_bits words 8 count ++ fields_bits state words (take count table) from to
 
 -- the delta: how many fields follow, and these
 unfoldable pub words_delta : StateKind → List (List Bool) → List Kind → List ℕ → List ℕ → List Bool
-words_delta state words table from to = counted_text state words table (changed_count table from to) from to
+words_delta state words table from to = counted_bits state words table (changed_count table from to) from to
 
 -- a changed field that is read
 abbrev pub changed_at : StateKind → List (List Bool) → Kind → List Bool → Result (ℕ × List Bool) ReadError
@@ -49,18 +49,18 @@ changed_at Entity words kind bits = entity_field_at words kind bits
 changed_at Player words kind bits = player_field_at words kind bits
 
 -- a field that is read: a mark, and behind a mark of change its text
-unfoldable pub field_after : StateKind → List (List Bool) → Kind → ℕ → List Bool → Result (ℕ × List Bool) ReadError
-field_after state words kind from bits = do
+unfoldable pub marked_field_at : StateKind → List (List Bool) → Kind → ℕ → List Bool → Result (ℕ × List Bool) ReadError
+marked_field_at state words kind from bits = do
   mark ← field_at words 1 bits
   if mark.0 == 0 then Ok (from, mark.1) else changed_at state words kind mark.1
 
 -- the words after the fields of these kinds were read
-unfoldable pub fields_after : StateKind → List (List Bool) → List Kind → List ℕ → List Bool → Result (List ℕ × List Bool) ReadError
-fields_after state words (kind ∷ kinds) (x ∷ from) bits = do
-  first ← field_after state words kind x bits
-  others ← fields_after state words kinds from first.1
+unfoldable pub fields_at : StateKind → List (List Bool) → List Kind → List ℕ → List Bool → Result (List ℕ × List Bool) ReadError
+fields_at state words (kind ∷ kinds) (x ∷ from) bits = do
+  first ← marked_field_at state words kind x bits
+  others ← fields_at state words kinds from first.1
   Ok (first.0 ∷ others.0, others.1)
-fields_after state words kinds from bits = Ok (from, bits)
+fields_at state words kinds from bits = Ok (from, bits)
 
 -- a fault of bits
 abbrev pub bits_read : {A : Type 0} → Result A ReadError → Result A DeltaError
@@ -68,7 +68,7 @@ bits_read r = fault_as Bits r
 
 -- the words that a delta spells against others, and what is behind it, or the first fault: a count above the table's
 -- is refused before its fields are read
-unfoldable pub words_after : StateKind → List (List Bool) → List Kind → List ℕ → List Bool → Result (List ℕ × List Bool) DeltaError
-words_after state words table from bits = do
+unfoldable pub words_at : StateKind → List (List Bool) → List Kind → List ℕ → List Bool → Result (List ℕ × List Bool) DeltaError
+words_at state words table from bits = do
   count ← bits_read (field_at words 8 bits)
-  if nat_lt (length table) count.0 then Err (Count count.0) else bits_read (fields_after state words (take count.0 table) from count.1)
+  if nat_lt (length table) count.0 then Err (Count count.0) else bits_read (fields_at state words (take count.0 table) from count.1)

@@ -6,7 +6,7 @@ use Rattle.q3_fields.specs.declared.kind.Kind.{Kind}
 use Rattle.q3_fields.specs.declared.delta.StateKind.{StateKind}
 use Rattle.q3_fields.specs.Kinds.{IsKind, AreKinds, norm}
 use Rattle.q3_fields.specs.States.{AreWords, normal_words}
-use Rattle.q3_fields.specs.Deltas.{last_changed, changed_count, words_delta, words_after}
+use Rattle.q3_fields.specs.Deltas.{last_changed, changed_count, words_delta, words_at}
 use Rattle.q3_fields.specs.Floats.{pattern, small_float}
 use Rattle.q3_fields.specs.Texts.{player_field, entity_field, player_field_at, entity_field_at}
 use Rattle.q3_fields.specs.Spelling.{SpellsPlayerField, SpellsEntityField, SpellsWords}
@@ -99,7 +99,7 @@ UnchangedIsNormal = (table : List Kind) (from to : List ℕ) → AreKinds table 
 -- what is read was spelled so, and is words, in normal form where the others are
 abbrev pub WordsReadAreSpelled : Type 0
 WordsReadAreSpelled = (state : StateKind) (words : List (List Bool)) (table : List Kind) (from to : List ℕ) (bits rest : List Bool) → IsCode words
-    → AreKinds table → AreWords 64 from → words_after state words table from bits ≡ Ok (to, rest)
+    → AreKinds table → AreWords 64 from → words_at state words table from bits ≡ Ok (to, rest)
     → AreWords 64 to × (normal_words table from ≡ from → normal_words table to ≡ to)
     × (text : List Bool) × (bits ≡ text ++ rest) × SpellsWords state words table from to text
 
@@ -107,9 +107,9 @@ WordsReadAreSpelled = (state : StateKind) (words : List (List Bool)) (table : Li
 abbrev pub WordsSpelledAreRead : Type 0
 WordsSpelledAreRead = (state : StateKind) (words : List (List Bool)) (table : List Kind) (from to : List ℕ) (text rest : List Bool) → IsCode words
     → AreKinds table → AreWords 64 from → SpellsWords state words table from to text
-    → words_after state words table from (text ++ rest) ≡ Ok (to, rest)
+    → words_at state words table from (text ++ rest) ≡ Ok (to, rest)
 
 -- what is read over other words ends at the same place, or is refused in the same way
 abbrev pub WordsEndAlike : Type 0
 WordsEndAlike = (state : StateKind) (words : List (List Bool)) (table : List Kind) (from other : List ℕ) (bits : List Bool) → length from ≡ length other
-    → left_of (words_after state words table from bits) ≡ left_of (words_after state words table other bits)
+    → left_of (words_at state words table from bits) ≡ left_of (words_at state words table other bits)

@@ -8,7 +8,7 @@ ghost use Rattle.q3_bits.specs.Streams.{Reads, Writes, holding};
 ghost use Rattle.q3_fields.specs.Kinds.{IsKind};
 ghost use Rattle.q3_fields.specs.States.{normal_words};
 ghost use Rattle.q3_fields.specs.declared.delta.DeltaError.TheVariants.{Bits};
-ghost use Rattle.q3_fields.specs.Deltas.{last_changed, changed_count as changed_of, changed_text, field_text, fields_text, counted_text, changed_at, field_after, fields_after, words_after};
+ghost use Rattle.q3_fields.specs.Deltas.{last_changed, changed_count as changed_of, changed_bits, marked_field_bits, fields_bits, counted_bits, changed_at, marked_field_at, fields_at, words_at};
 
 use crate::kind::{Kind, norm};
 use crate::reading::{read_entity_field, read_player_field};
@@ -133,7 +133,7 @@ pub fn write_counted(
 ) -> Result<(), Overflow>
     requires in_table { count ≤ length table.now.kinds }
     requires few { count ≤ 64 }
-    ensures { Writes w.old w.new (counted_text state w.old.words table.now.kinds count from.now to.now) result }
+    ensures { Writes w.old w.new (counted_bits state w.old.words table.now.kinds count from.now to.now) result }
 {
     laws::texts_are_written();
     w.put(count as u32, 8)?;
@@ -157,7 +157,7 @@ pub fn write_numbered(
     requires short { mark.1 ≤ 7 }
     requires in_table { count ≤ length table.now.kinds }
     requires few { count ≤ 64 }
-    ensures { Writes w.old w.new (field_bits w.old.words number.1 number.0 ++ (field_bits w.old.words mark.1 mark.0 ++ counted_text state w.old.words table.now.kinds count from.now to.now)) result }
+    ensures { Writes w.old w.new (field_bits w.old.words number.1 number.0 ++ (field_bits w.old.words mark.1 mark.0 ++ counted_bits state w.old.words table.now.kinds count from.now to.now)) result }
 {
     laws::texts_are_written();
     w.put_three(number, mark, (count as u32, 8))?;
@@ -175,7 +175,7 @@ fn write_fields(
 ) -> Result<(), Overflow>
     requires in_table { count ≤ length table.now.kinds }
     requires few { count ≤ 64 }
-    ensures { Writes w.old w.new (fields_text state w.old.words (take count table.now.kinds) from.now to.now) result }
+    ensures { Writes w.old w.new (fields_bits state w.old.words (take count table.now.kinds) from.now to.now) result }
 {
     laws::texts_are_written();
     // what stands there fits the room
@@ -195,7 +195,7 @@ fn write_field(
     to: u32,
 ) -> Result<(), Overflow>
     requires { IsKind kind }
-    ensures { Writes w.old w.new (field_text state w.old.words kind from to) result }
+    ensures { Writes w.old w.new (marked_field_bits state w.old.words kind from to) result }
 {
     if from == to {
         return w.put(0, 1);
@@ -206,7 +206,7 @@ fn write_field(
 /// Writes a mark of change, and the changed field.
 fn write_changed(w: &mut Writer, state: StateKind, kind: Kind, word: u32) -> Result<(), Overflow>
     requires { IsKind kind }
-    ensures { Writes w.old w.new (field_bits w.old.words 1 1 ++ changed_text state w.old.words kind word) result }
+    ensures { Writes w.old w.new (field_bits w.old.words 1 1 ++ changed_bits state w.old.words kind word) result }
 {
     match state {
         StateKind::Entity => write_marked_entity_field(w, kind, word),
@@ -217,14 +217,14 @@ fn write_changed(w: &mut Writer, state: StateKind, kind: Kind, word: u32) -> Res
 /// Reads a count and as many fields over the words that stand there. After a refusal these may be any.
 /// `Count` comes exactly where the count is above the table's, before any field is read; `Bits` where the bits don't
 /// read.
-#[tactic(auto, unfolding(crate::specs::Deltas::words_after))]
+#[tactic(auto, unfolding(crate::specs::Deltas::words_at))]
 pub fn read_counted(
     r: &mut Reader,
     state: StateKind,
     table: &Table,
     words: &mut [u32; 64],
 ) -> Result<(), DeltaError>
-    ensures { Reads r.old r.new (words_after state r.old.words table.now.kinds words.old r.old.left) (holding words.new result) }
+    ensures { Reads r.old r.new (words_at state r.old.words table.now.kinds words.old r.old.left) (holding words.new result) }
 {
     let count = usize::from(r.get_byte()?);
     if count > table.count() {
@@ -245,7 +245,7 @@ fn read_fields(
 ) -> Result<(), ReadError>
     requires in_table { count ≤ length table.now.kinds }
     requires few { count ≤ 64 }
-    ensures { Reads r.old r.new (fields_after state r.old.words (take count table.now.kinds) words.old r.old.left) (holding words.new result) }
+    ensures { Reads r.old r.new (fields_at state r.old.words (take count table.now.kinds) words.old r.old.left) (holding words.new result) }
 {
     laws::lists_are_read();
     laws::marks_are_bits();

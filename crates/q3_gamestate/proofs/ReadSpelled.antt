@@ -13,7 +13,7 @@ use Rattle.q3_profile.specs.Profile.{IsCodec}
 use Rattle.q3_gamestate.specs.declared.error.GamestateError.{GamestateError}
 use Rattle.q3_gamestate.specs.declared.error.GamestateError.TheVariants.{NoServerId}
 use Rattle.q3_gamestate.specs.Values.{Gamestate}
-use Rattle.q3_gamestate.specs.Reading.{field_read, settings_after, gamestate_after}
+use Rattle.q3_gamestate.specs.Reading.{field_read, settings_at, gamestate_at}
 use Rattle.q3_gamestate.specs.Spelling.{SpellsGamestate}
 use Rattle.q3_gamestate.specs.Laws.{IsGamestate, ReadIsSpelled}
 use Rattle.q3_gamestate.proofs.Below.{WasRead}
@@ -78,9 +78,9 @@ gamestate_of_parts no_lines_law profile bits command settings slot feed command_
           ∙ sym (append_assoc (first ++ were.text) (row_bits words ((8, 8) ∷ last)) feed.1);
     }
 
-gamestate_was_read : WasRead → (profile : Profile) (bits : List Bool) (found : Gamestate × List Bool) → IsCodec profile → gamestate_after profile bits ≡ Ok found
+gamestate_was_read : WasRead → (profile : Profile) (bits : List Bool) (found : Gamestate × List Bool) → IsCodec profile → gamestate_at profile bits ≡ Ok found
     → ReadGamestate profile bits found
-unfolding gamestate_after
+unfolding gamestate_at
 gamestate_was_read laws profile bits found codec e =
     let words = profile.code in
     let game = λ (command : ℕ) (settings : Strings × Lines) (slot feed : ℕ).
@@ -90,9 +90,9 @@ gamestate_was_read laws profile bits found codec e =
     let on_settings : ℕ → (Strings × Lines) × List Bool → Result (Gamestate × List Bool) GamestateError = λ command settings.
     cond (is_some (server_id settings.0.0)) (on_slot command settings.0 settings.1) (Err NoServerId) in
     let on_command : ℕ × List Bool → Result (Gamestate × List Bool) GamestateError =
-    λ command. settings_after profile (length command.1) no_strings no_lines command.1 >>= λ settings. on_settings command.0 settings in
+    λ command. settings_at profile (length command.1) no_strings no_lines command.1 >>= λ settings. on_settings command.0 settings in
     let command = bind_ok (field_read words 32 bits) on_command found e in
-    let settings = bind_ok (settings_after profile (length command.0.1) no_strings no_lines command.0.1) (λ settings. on_settings command.0.0 settings) found command.2 in
+    let settings = bind_ok (settings_at profile (length command.0.1) no_strings no_lines command.0.1) (λ settings. on_settings command.0.0 settings) found command.2 in
     elim (cases_Bool (is_some (server_id settings.0.0.0))) [
       | inr none ↦ absurd (let wrong = rw none at settings.2 in cc)
       | inl some ↦

@@ -30,7 +30,7 @@ use Rattle.q3_profile.specs.declared.profile.Profile.{Profile}
 use Rattle.q3_profile.specs.Profile.{IsCodec}
 use Rattle.q3_gamestate.specs.declared.error.GamestateError.{GamestateError}
 use Rattle.q3_gamestate.specs.declared.error.GamestateError.TheVariants.{Bits, BadOp, Entity, Config}
-use Rattle.q3_gamestate.specs.Reading.{field_read, string_error, config_set, config_after, baseline_set, baseline_after, settings_after}
+use Rattle.q3_gamestate.specs.Reading.{field_read, string_error, config_set, config_at, baseline_set, baseline_at, settings_at}
 use Rattle.q3_gamestate.specs.Spelling.{Setting, ConfigString, Baseline, SpellsSettings, strings_after, lines_after, StayWithin}
 use Rattle.q3_gamestate.proofs.Below.{WasRead}
 use Rattle.q3_gamestate.proofs.Fields.{field_was}
@@ -112,8 +112,8 @@ pub record ReadConfig (words : List (List Bool)) (strings : Strings) (bits : Lis
   pub parts : bits ≡ row_bits words ((index, 16) ∷ []) ++ (string ++ found.1)
 
 pub config_was : ReadWasPut → StringReadIsSpelled → (words : List (List Bool)) → IsCode words → (strings : Strings) (bits : List Bool) (found : Strings × List Bool)
-    → config_after words strings bits ≡ Ok found → ReadConfig words strings bits found
-unfolding config_after
+    → config_at words strings bits ≡ Ok found → ReadConfig words strings bits found
+unfolding config_at
 config_was put law words code strings bits found e =
     let on_text : ℕ → List ℕ × List Bool → Result (Strings × List Bool) GamestateError = λ index text. config_set strings index text.0 (set_fault strings index text.0) >>= λ set. Ok (set, text.1) in
     let on_index : ℕ × List Bool → Result (Strings × List Bool) GamestateError =
@@ -146,7 +146,7 @@ config_was put law words code strings bits found e =
 
 -- no bit is taken twice
 pub config_shorter : ReadWasPut → StringReadIsSpelled → (words : List (List Bool)) → IsCode words → (strings : Strings) (bits : List Bool) (found : Strings × List Bool)
-    → config_after words strings bits ≡ Ok found → length found.1 ≤ length bits
+    → config_at words strings bits ≡ Ok found → length found.1 ≤ length bits
 config_shorter put law words code strings bits found e =
     let was = config_was put law words code strings bits found e in
     let row = row_bits words ((was.index, 16) ∷ []) in
@@ -163,9 +163,9 @@ pub record ReadBaseline (profile : Profile) (lines : Lines) (bits : List Bool) (
   pub is : found.0 ≡ with_line lines state
   pub parts : bits ≡ text ++ found.1
 
-pub baseline_was : ReadWasPut → ZeroIsNormal → EntryReadIsSpelled → (profile : Profile) → IsCode profile.code → IsTable profile.entity → (lines : Lines) (bits : List Bool) (found : Lines × List Bool) → baseline_after profile lines bits ≡ Ok found
+pub baseline_was : ReadWasPut → ZeroIsNormal → EntryReadIsSpelled → (profile : Profile) → IsCode profile.code → IsTable profile.entity → (lines : Lines) (bits : List Bool) (found : Lines × List Bool) → baseline_at profile lines bits ≡ Ok found
     → ReadBaseline profile lines bits found
-unfolding baseline_after row_bits
+unfolding baseline_at row_bits
 baseline_was put no_entity entry profile code is_table lines bits found e =
     let words = profile.code in
     let table = profile.entity in
@@ -198,7 +198,7 @@ baseline_was put no_entity entry profile code is_table lines bits found e =
     ]
 
 pub baseline_shorter : ReadWasPut → ZeroIsNormal → EntryReadIsSpelled → (profile : Profile) → IsCode profile.code → IsTable profile.entity → (lines : Lines) (bits : List Bool) (found : Lines × List Bool)
-    → baseline_after profile lines bits ≡ Ok found → length found.1 ≤ length bits
+    → baseline_at profile lines bits ≡ Ok found → length found.1 ≤ length bits
 baseline_shorter put no_entity entry profile code is_table lines bits found e =
     let was = baseline_was put no_entity entry profile code is_table lines bits found e in
     omega (arith, ap length was.parts, length-append was.text found.1)
@@ -271,13 +271,13 @@ baseline_first law profile strings lines bits left baseline found is first other
     }
 
 pub settings_were : WasRead → (profile : Profile) → IsCodec profile → (turns : ℕ) (strings : Strings) (lines : Lines) (bits : List Bool) (found : (Strings × Lines) × List Bool)
-    → settings_after profile turns strings lines bits ≡ Ok found → ReadSettings profile strings lines bits found
-unfolding settings_after
+    → settings_at profile turns strings lines bits ≡ Ok found → ReadSettings profile strings lines bits found
+unfolding settings_at
 settings_were laws profile codec zero strings lines bits found e = absurd cc
 settings_were laws profile codec (suc turns) strings lines bits found e =
     let words = profile.code in
-    let on_config = λ (left : List Bool). config_after words strings left >>= λ config. settings_after profile turns config.0 lines config.1 in
-    let on_baseline = λ (left : List Bool). baseline_after profile lines left >>= λ baseline. settings_after profile turns strings baseline.0 baseline.1 in
+    let on_config = λ (left : List Bool). config_at words strings left >>= λ config. settings_at profile turns config.0 lines config.1 in
+    let on_baseline = λ (left : List Bool). baseline_at profile lines left >>= λ baseline. settings_at profile turns strings baseline.0 baseline.1 in
     let operation = bind_ok (field_read words 8 bits)
     (λ operation. cond (eqb operation.0 8) (Ok ((strings, lines), operation.1))
     (cond (eqb operation.0 3) (on_config operation.1) (cond (eqb operation.0 4) (on_baseline operation.1) (Err (BadOp operation.0))))) found e in
@@ -295,14 +295,14 @@ settings_were laws profile codec (suc turns) strings lines bits found e =
           let next = rw more at operation.2 in
           elim (cases_Bool (eqb operation.0.0 3)) [
             | inl string ↦
-                let config = bind_ok (config_after words strings left) (λ config. settings_after profile turns config.0 lines config.1) found (rw string at next) in
+                let config = bind_ok (config_at words strings left) (λ config. settings_at profile turns config.0 lines config.1) found (rw string at next) in
                 config_first profile strings lines bits left config.0 found (front 3 string) (config_was laws.put laws.string words codec.code strings left config.0 config.1)
                 (settings_were laws profile codec turns config.0.0 lines config.0.1 found config.2)
             | inr other ↦
                 let last = rw other at next in
                 elim (cases_Bool (eqb operation.0.0 4)) [
                   | inl line ↦
-                      let baseline = bind_ok (baseline_after profile lines left) (λ baseline. settings_after profile turns strings baseline.0 baseline.1) found (rw line at last) in
+                      let baseline = bind_ok (baseline_at profile lines left) (λ baseline. settings_at profile turns strings baseline.0 baseline.1) found (rw line at last) in
                       baseline_first laws.line profile strings lines bits left baseline.0 found (front 4 line) (baseline_was laws.put laws.no_entity laws.entry profile codec.code codec.entity lines left baseline.0 baseline.1)
                       (settings_were laws profile codec turns strings baseline.0.0 baseline.0.1 found baseline.2)
                   | inr bad ↦ absurd (let wrong = rw bad at last in cc)

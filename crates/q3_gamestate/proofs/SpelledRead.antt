@@ -14,7 +14,7 @@ use Rattle.q3_config.specs.Strings.{Strings, places, longest_string, most_size, 
 use Rattle.q3_profile.specs.declared.profile.Profile.{Profile}
 use Rattle.q3_profile.specs.Profile.{IsCodec}
 use Rattle.q3_gamestate.specs.Values.{Gamestate}
-use Rattle.q3_gamestate.specs.Reading.{config_after, baseline_after, settings_after, gamestate_after}
+use Rattle.q3_gamestate.specs.Reading.{config_at, baseline_at, settings_at, gamestate_at}
 use Rattle.q3_gamestate.specs.Spelling.{Setting, ConfigString, Baseline, SpellsSettings, strings_after, lines_after, StayWithin, SpellsGamestate}
 use Rattle.q3_gamestate.specs.Laws.{SpelledIsRead}
 use Rattle.q3_gamestate.proofs.Below.{IsRead}
@@ -23,8 +23,8 @@ use Rattle.q3_gamestate.proofs.SettingsSpelled.{over, within_set, line_is, strin
 
 config_is : IsRead → (words : List (List Bool)) → IsCode words → (strings : Strings) (index : ℕ) (text : List ℕ) (string rest : List Bool) → index < places
     → SpellsString words longest_string text string → length text ≤ longest_string → config_size (with_string strings index text).texts ≤ most_size
-    → config_after words strings (row_bits words ((index, 16) ∷ []) ++ (string ++ rest)) ≡ Ok (with_string strings index text, rest)
-unfolding config_after
+    → config_at words strings (row_bits words ((index, 16) ∷ []) ++ (string ++ rest)) ≡ Ok (with_string strings index text, rest)
+unfolding config_at
 config_is laws words code strings index text string rest inside spelled short small =
     let low : nat_lt index places ≡ true = grind (arith, nat_tests) in
     rw (
@@ -36,8 +36,8 @@ config_is laws words code strings index text string rest inside spelled short sm
 
 baseline_is : IsRead → (profile : Profile) → IsCodec profile → (lines : Lines) (state : EntityState) (text rest : List Bool) → state.number < end_mark profile.entity
     → SpellsEntry profile.code profile.entity (replicate 64 0) (record { number = state.number; words = Some state.words }) text
-    → baseline_after profile lines (text ++ rest) ≡ Ok (with_line lines state, rest)
-unfolding baseline_after
+    → baseline_at profile lines (text ++ rest) ≡ Ok (with_line lines state, rest)
+unfolding baseline_at
 baseline_is laws profile codec lines state text rest within spelled =
     let table = profile.entity in
     let read = laws.entry profile.code table (replicate 64 0) (record { number = state.number; words = Some state.words }) text rest codec.code codec.entity
@@ -47,14 +47,14 @@ baseline_is laws profile codec lines state text rest within spelled =
 
 settings_are : IsRead → (profile : Profile) → IsCodec profile → (settings : List Setting) (turns : ℕ) (strings : Strings) (lines : Lines) (text rest : List Bool)
     → SpellsSettings profile.code profile.entity settings text → StayWithin strings settings → length (text ++ (over profile.code ++ rest)) ≤ turns
-    → settings_after profile turns strings lines (text ++ (over profile.code ++ rest)) ≡ Ok ((strings_after strings settings, lines_after lines settings), rest)
+    → settings_at profile turns strings lines (text ++ (over profile.code ++ rest)) ≡ Ok ((strings_after strings settings, lines_after lines settings), rest)
 settings_are laws profile codec [] turns strings lines text rest s within enough =
     let words = profile.code in
     let bits = over words ++ rest in
     let read = sym (row-last words codec.code laws.put 8 8 rest (omega arith)) in
     let same : text ++ bits ≡ bits = ap (λ (text : List Bool). text ++ bits) s in
     let one = laws.turns.turn words bits rest 8 turns codec.code read (omega (arith, enough, ap length same)) in
-    ap (λ (bits : List Bool). settings_after profile turns strings lines bits) same ∙ settings_done profile strings lines bits rest turns one.left read one.is
+    ap (λ (bits : List Bool). settings_at profile turns strings lines bits) same ∙ settings_done profile strings lines bits rest turns one.left read one.is
 settings_are laws profile codec (ConfigString index value ∷ settings) turns strings lines text rest (first, others, whole, (string, inside, spelled, first_is), more) within enough =
     let words = profile.code in
     let behind = others ++ (over words ++ rest) in
@@ -65,7 +65,7 @@ settings_are laws profile codec (ConfigString index value ∷ settings) turns st
     let read = sym (row-first words codec.code laws.put 3 8 fields (string ++ behind) (omega arith)) in
     let one = laws.turns.turn words bits left 3 turns codec.code read (omega (arith, enough, ap length same)) in
     let config = sym (config_is laws words codec.code strings index value string behind inside spelled (string_short words longest_string value string spelled) within.0) in
-    ap (λ (bits : List Bool). settings_after profile turns strings lines bits) same
+    ap (λ (bits : List Bool). settings_at profile turns strings lines bits) same
     ∙ settings_config profile strings lines bits left behind (with_string strings index value) turns one.left read one.is config
     ∙ settings_are laws profile codec settings one.left (with_string strings index value) lines others rest more within.1
     (omega (arith, one.enough, length-append (row_bits words fields) (string ++ behind), length-append string behind))
@@ -78,7 +78,7 @@ settings_are laws profile codec (Baseline state ∷ settings) turns strings line
     let read = sym (row-last words codec.code laws.put 4 8 left (omega arith)) in
     let one = laws.turns.turn words bits left 4 turns codec.code read (omega (arith, enough, ap length same)) in
     let baseline = sym (baseline_is laws profile codec lines state entry behind inside spelled) in
-    ap (λ (bits : List Bool). settings_after profile turns strings lines bits) same
+    ap (λ (bits : List Bool). settings_at profile turns strings lines bits) same
     ∙ settings_baseline profile strings lines bits left behind (with_line lines state) turns one.left read one.is baseline
     ∙ settings_are laws profile codec settings one.left strings (with_line lines state) others rest more within (omega (arith, one.enough, length-append entry behind))
 
@@ -87,9 +87,9 @@ is_some_id (Some id) some = refl
 is_some_id None some = absurd cc
 
 gamestate_behind : IsRead → (profile : Profile) → IsCodec profile → (game : Gamestate) (text rest : List Bool) → (s : SpellsGamestate profile game text)
-    → gamestate_after profile (row_bits profile.code ((game.command, 32) ∷ []) ++ (s.text ++ (over profile.code ++ (row_bits profile.code ((game.slot, 32) ∷ (game.feed, 32) ∷ []) ++ rest))))
+    → gamestate_at profile (row_bits profile.code ((game.command, 32) ∷ []) ++ (s.text ++ (over profile.code ++ (row_bits profile.code ((game.slot, 32) ∷ (game.feed, 32) ∷ []) ++ rest))))
     ≡ Ok (game, rest)
-unfolding gamestate_after
+unfolding gamestate_at
 gamestate_behind laws profile codec game text rest s =
     let words = profile.code in
     let last = row_bits words ((game.slot, 32) ∷ (game.feed, 32) ∷ []) ++ rest in
@@ -119,5 +119,5 @@ gamestate_is_read laws profile game text rest codec s =
       bits,
       s.whole ∙ append_assoc (row_bits words ((2, 8) ∷ (game.command, 32) ∷ [])) s.text last ∙ one
           ∙ ap (λ (left : List Bool). row_bits words ((2, 8) ∷ []) ++ left) (sym (append_assoc command s.text last)),
-      ap (λ (bits : List Bool). gamestate_after profile bits) same ∙ gamestate_behind laws profile codec game text rest s,
+      ap (λ (bits : List Bool). gamestate_at profile bits) same ∙ gamestate_behind laws profile codec game text rest s,
     )

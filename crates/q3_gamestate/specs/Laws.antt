@@ -8,7 +8,7 @@ use Rattle.q3_profile.specs.declared.profile.Profile.{Profile}
 use Rattle.q3_profile.specs.Profile.{IsCodec}
 use Rattle.q3_gamestate.specs.Values.{Gamestate}
 use Rattle.q3_gamestate.specs.Texts.{gamestate_bits}
-use Rattle.q3_gamestate.specs.Reading.{gamestate_after}
+use Rattle.q3_gamestate.specs.Reading.{gamestate_at}
 use Rattle.q3_gamestate.specs.Spelling.{SpellsGamestate}
 
 -- a gamestate as an end may send it: texts that a string can carry, baselines in normal form, and a server id
@@ -29,11 +29,11 @@ WrittenIsSpelled = (profile : Profile) (game : Gamestate) → IsCodec profile �
 
 -- what is read as a gamestate, behind the operation 2, is one that an end may send, and was spelled so
 abbrev pub ReadIsSpelled : Type 0
-ReadIsSpelled = (profile : Profile) (game : Gamestate) (bits rest : List Bool) → IsCodec profile → gamestate_after profile bits ≡ Ok (game, rest)
+ReadIsSpelled = (profile : Profile) (game : Gamestate) (bits rest : List Bool) → IsCodec profile → gamestate_at profile bits ≡ Ok (game, rest)
     → IsGamestate profile game × (text : List Bool) × (row_bits profile.code ((2, 8) ∷ []) ++ bits ≡ text ++ rest) × SpellsGamestate profile game text
 
 -- what is spelled so is read behind the operation 2, with whatever follows it: so where a reader refuses, no front of the
 -- bits is spelled so
 abbrev pub SpelledIsRead : Type 0
 SpelledIsRead = (profile : Profile) (game : Gamestate) (text rest : List Bool) → IsCodec profile → SpellsGamestate profile game text
-    → (bits : List Bool) × (text ≡ row_bits profile.code ((2, 8) ∷ []) ++ bits) × (gamestate_after profile (bits ++ rest) ≡ Ok (game, rest))
+    → (bits : List Bool) × (text ≡ row_bits profile.code ((2, 8) ∷ []) ++ bits) × (gamestate_at profile (bits ++ rest) ≡ Ok (game, rest))

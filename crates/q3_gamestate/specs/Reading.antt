@@ -36,8 +36,8 @@ config_set strings index text None = Ok (with_string strings index text)
 config_set strings index text (Some fault) = Err (Config fault)
 
 -- a config string behind its operation: its index, which is refused above 1,023 before the text is read, and its string
-unfoldable pub config_after : List (List Bool) → Strings → List Bool → Result (Strings × List Bool) GamestateError
-config_after words strings bits = do
+unfoldable pub config_at : List (List Bool) → Strings → List Bool → Result (Strings × List Bool) GamestateError
+config_at words strings bits = do
   index ← field_read words 16 bits
   if nat_lt index.0 places then (do
     text ← fault_as string_error (string_after words longest_string index.1)
@@ -52,8 +52,8 @@ baseline_set lines number other words = Ok (with_line lines (record { number = n
 
 -- a baseline behind its operation: its number, which is refused where it is the end mark before its text is read, and its
 -- state against the zero state
-unfoldable pub baseline_after : Profile → Lines → List Bool → Result (Lines × List Bool) GamestateError
-baseline_after profile lines bits = do
+unfoldable pub baseline_at : Profile → Lines → List Bool → Result (Lines × List Bool) GamestateError
+baseline_at profile lines bits = do
   number ← field_read profile.code profile.entity.number_bits bits
   if number.0 == end_mark profile.entity then Err (Entity (Order number.0)) else (do
     state ← fault_as Entity (entity_at profile.code profile.entity (replicate 64 0) number.1)
@@ -62,24 +62,24 @@ baseline_after profile lines bits = do
 
 -- config strings and baselines in any order, a later one for an earlier, up to the operation 8; there are at most so many,
 -- since each takes a bit
-unfoldable pub settings_after : Profile → ℕ → Strings → Lines → List Bool → Result ((Strings × Lines) × List Bool) GamestateError
-settings_after profile zero strings lines bits = Err (Bits End)
-settings_after profile (suc most) strings lines bits = do
+unfoldable pub settings_at : Profile → ℕ → Strings → Lines → List Bool → Result ((Strings × Lines) × List Bool) GamestateError
+settings_at profile zero strings lines bits = Err (Bits End)
+settings_at profile (suc most) strings lines bits = do
   operation ← field_read profile.code 8 bits
   if operation.0 == 8 then Ok ((strings, lines), operation.1) else
       if operation.0 == 3 then (do
-        config ← config_after profile.code strings operation.1
-        settings_after profile most config.0 lines config.1) else
+        config ← config_at profile.code strings operation.1
+        settings_at profile most config.0 lines config.1) else
       if operation.0 == 4 then (do
-        baseline ← baseline_after profile lines operation.1
-        settings_after profile most strings baseline.0 baseline.1)
+        baseline ← baseline_at profile lines operation.1
+        settings_at profile most strings baseline.0 baseline.1)
       else Err (BadOp operation.0)
 
 -- a gamestate behind its operation; one whose strings give no server id is refused before its slot is read
-unfoldable pub gamestate_after : Profile → List Bool → Result (Gamestate × List Bool) GamestateError
-gamestate_after profile bits = do
+unfoldable pub gamestate_at : Profile → List Bool → Result (Gamestate × List Bool) GamestateError
+gamestate_at profile bits = do
   command ← field_read profile.code 32 bits
-  settings ← settings_after profile (length command.1) no_strings no_lines command.1
+  settings ← settings_at profile (length command.1) no_strings no_lines command.1
   if is_some (server_id settings.0.0) then (do
     slot ← field_read profile.code 32 settings.1
     feed ← field_read profile.code 32 slot.1

@@ -5,7 +5,7 @@ ghost use Rattle.std.specs.Prelude.{◌≡◌, length};
 ghost use Rattle.q3_bits.specs.Words.{IsCode};
 ghost use Rattle.q3_bits.specs.Streams.{Reads, holding};
 ghost use Rattle.q3_gamestate.specs.Values.{with_settings};
-ghost use Rattle.q3_gamestate.specs.Reading.{config_after, baseline_after, settings_after, gamestate_after};
+ghost use Rattle.q3_gamestate.specs.Reading.{config_at, baseline_at, settings_at, gamestate_at};
 
 use crate::error::GamestateError;
 use crate::numbers::Numbers;
@@ -32,7 +32,7 @@ pub type BigString = ArrayVec<u8, 8_191>;
 /// `Index`, before the string is read, or with `Full`, behind it; `Entity` where a baseline doesn't read, with `Order`
 /// for the end mark, before its state is read, and with `Removes` for a removal; `NoServerId` where the strings give
 /// none, before the slot is read.
-#[tactic(auto, unfolding(crate::specs::Reading::gamestate_after))]
+#[tactic(auto, unfolding(crate::specs::Reading::gamestate_at))]
 pub fn read_gamestate(
     r: &mut Reader,
     profile: &Profile,
@@ -40,7 +40,7 @@ pub fn read_gamestate(
     baselines: &mut Baselines,
     string: &mut BigString,
 ) -> Result<Numbers, GamestateError>
-    ensures { Reads r.old r.new (gamestate_after (record profile.now { code = r.old.words }) r.old.left) (with_settings configs.new baselines.new result) }
+    ensures { Reads r.old r.new (gamestate_at (record profile.now { code = r.old.words }) r.old.left) (with_settings configs.new baselines.new result) }
 {
     configs.clear();
     baselines.clear();
@@ -67,7 +67,7 @@ fn read_settings(
     string: &mut BigString,
 ) -> Result<(), GamestateError>
     requires { IsCode r.old.words }
-    ensures { Reads r.old r.new (settings_after (record profile.now { code = r.old.words }) (length r.old.left) configs.old baselines.old r.old.left)
+    ensures { Reads r.old r.new (settings_at (record profile.now { code = r.old.words }) (length r.old.left) configs.old baselines.old r.old.left)
         (holding (configs.new, baselines.new) result) }
 {
     laws::read_was_put();
@@ -89,13 +89,13 @@ fn read_settings(
 
 /// Reads a config string behind its operation, and sets it. An index above 1,023 is refused before the string is read, and
 /// a string with which all would be too large once it was.
-#[tactic(auto, unfolding(crate::specs::Reading::config_after))]
+#[tactic(auto, unfolding(crate::specs::Reading::config_at))]
 fn read_config(
     r: &mut Reader,
     configs: &mut Configs,
     string: &mut BigString,
 ) -> Result<(), GamestateError>
-    ensures { Reads r.old r.new (config_after r.old.words configs.old r.old.left) (holding configs.new result) }
+    ensures { Reads r.old r.new (config_at r.old.words configs.old r.old.left) (holding configs.new result) }
 {
     let index = r.get(16)?;
     if index >= STRINGS {
@@ -108,13 +108,13 @@ fn read_config(
 
 /// Reads a baseline behind its operation, and sets it. The end mark is refused as its number before its state is read, and
 /// a removal once it was.
-#[tactic(auto, unfolding(crate::specs::Reading::baseline_after, q3_entity::specs::Entities::zero_entity))]
+#[tactic(auto, unfolding(crate::specs::Reading::baseline_at, q3_entity::specs::Entities::zero_entity))]
 fn read_baseline(
     r: &mut Reader,
     profile: &Profile,
     baselines: &mut Baselines,
 ) -> Result<(), GamestateError>
-    ensures { Reads r.old r.new (baseline_after (record profile.now { code = r.old.words }) baselines.old r.old.left) (holding baselines.new result) }
+    ensures { Reads r.old r.new (baseline_at (record profile.now { code = r.old.words }) baselines.old r.old.left) (holding baselines.new result) }
 {
     let number = r.get(u32::from(profile.entity.bits()))? as u16;
     if number == profile.entity.end() {

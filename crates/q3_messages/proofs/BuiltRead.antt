@@ -19,9 +19,9 @@ use Rattle.q3_profile.specs.Profile.{IsCodec}
 use Rattle.q3_entity.specs.Baselines.{Lines}
 use Rattle.q3_svmsg.specs.declared.error.Illegible.{Illegible}
 use Rattle.q3_svmsg.specs.Values.{Base, base_from, Message}
-use Rattle.q3_svmsg.specs.Texts.{section_bits, message_text}
+use Rattle.q3_svmsg.specs.Texts.{section_bits, server_message_bits}
 use Rattle.q3_svmsg.specs.declared.error.Illegible.TheVariants.{Bits}
-use Rattle.q3_svmsg.specs.Reading.{ack_at, message_after, message_at}
+use Rattle.q3_svmsg.specs.Reading.{ack_at, server_message_at, message_at}
 use Rattle.q3_svmsg.specs.Laws.{IsContext, WrittenIsRead, ReadIsSkipped}
 use Rattle.q3_clstate.specs.State.{Application, context_of, received, apply_read, apply_at}
 use Rattle.q3_clstate.specs.Laws.{AppliedIsContext}
@@ -38,8 +38,8 @@ long_of profile message = row_bits profile.code ((message.ack, 32) ∷ [])
 
 -- a message's text begins with it, also with what follows it
 begins_with_long : (profile : Profile) (lines : Lines) (against : Option Base) (message : Message) (rest : List Bool)
-    → (left : List Bool) × (message_text profile lines against message ++ rest ≡ long_of profile message ++ left)
-unfolding message_text
+    → (left : List Bool) × (server_message_bits profile lines against message ++ rest ≡ long_of profile message ++ left)
+unfolding server_message_bits
 begins_with_long profile lines against message rest =
     ((commands_bits profile.code 5 message.commands ++ section_bits profile lines against message.section ++ row_bits profile.code ((8, 8) ∷ [])) ++ rest, simp append_assoc)
 
@@ -106,7 +106,7 @@ is_headed profile challenge n built is =
 -- its bits are read against all that a client has, whatever follows them
 abbrev AreRead : Profile → ClientState → ℕ → Built → Type 0
 AreRead profile client n built = (rest : List Bool)
-    → message_after profile (context_of client.state.held client.state.lines) n (built_bits profile built ++ rest) ≡ read_so client.state.held built.message rest
+    → server_message_at profile (context_of client.state.held client.state.lines) n (built_bits profile built ++ rest) ≡ read_so client.state.held built.message rest
 
 bits_are_read : WrittenIsRead → ReadIsSkipped → (profile : Profile) → IsCodec profile → (client : ClientState) (n : ℕ) (built : Built) → IsBuilt profile client.challenge n built
     → IsContext profile (context_of client.state.held client.state.lines) → IfSome built.under (λ game. client.state.lines ≡ built.lines)
@@ -123,7 +123,7 @@ bits_are_read law skips profile codec client n built is context same known =
           (if_some_then base (λ b. IsSnapshot profile b × HoldsThis held b) (IsSnapshot profile) (λ b two. two.0) known)
           (if_some_then base (λ b. IsSnapshot profile b × HoldsThis held b) (HoldsThis held) (λ b two. two.1) known) in
           subst (AreRead profile client n) (sym one.is)
-          (λ rest. ap (λ (bits : List Bool). message_after profile (context_of held lines) n (bits ++ rest))
+          (λ rest. ap (λ (bits : List Bool). server_message_at profile (context_of held lines) n (bits ++ rest))
           (text_alike profile built.lines lines telling base one.snapshot telling.under under one.waits)
           ∙ text_is_received profile client.challenge law skips codec held lines n telling base one.snapshot rest context is.tells one.are one.number bases)
       | inr made ↦

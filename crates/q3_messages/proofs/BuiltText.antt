@@ -13,13 +13,13 @@ use Rattle.q3_player.specs.declared.head.SnapHead.{SnapHead}
 use Rattle.q3_entity.specs.declared.state.EntityState.{EntityState}
 use Rattle.q3_entity.specs.Entities.{normal_entity, IsNormal, AreNormal}
 use Rattle.q3_entity.specs.Baselines.{Lines, AreLines}
-use Rattle.q3_entity.specs.Lists.{list_text}
+use Rattle.q3_entity.specs.Lists.{entity_list_bits}
 use Rattle.q3_gamestate.specs.Values.{Gamestate}
 use Rattle.q3_gamestate.specs.Laws.{IsGamestate}
 use Rattle.q3_svmsg.specs.declared.error.Illegible.{Illegible}
 use Rattle.q3_svmsg.specs.Values.{Base, base_from, IsNamed, Context, Message}
-use Rattle.q3_svmsg.specs.Texts.{snapshot_bits, section_bits, message_text}
-use Rattle.q3_svmsg.specs.Reading.{held_base, message_after}
+use Rattle.q3_svmsg.specs.Texts.{snapshot_bits, section_bits, server_message_bits}
+use Rattle.q3_svmsg.specs.Reading.{held_base, server_message_at}
 use Rattle.q3_svmsg.specs.Laws.{IsBase, IsContext, IsMessage, WrittenIsRead, ReadIsSkipped}
 use Rattle.q3_ring.specs.Snapshot.{Snapshot}
 use Rattle.q3_rings.specs.declared.rings.NoBase.{NoBase}
@@ -134,18 +134,18 @@ value_of read = read >>= λ one. Ok one.0
 
 -- the text of a message with a snapshot
 abbrev pub text : Profile → Lines → Telling → Option Snapshot → Snapshot → List Bool
-text profile lines telling base snapshot = message_text profile lines (option_map base_from base) (message_of telling base snapshot)
+text profile lines telling base snapshot = server_message_bits profile lines (option_map base_from base) (message_of telling base snapshot)
 
 module _ (profile : Profile) (challenge : ℕ) (law : WrittenIsRead) (codec : IsCodec profile) (n : ℕ) (telling : Telling) (tells : IsTelling profile challenge n telling) (lines : Lines) (base : Option Snapshot) (snapshot : Snapshot) (is : IsSnapshot profile snapshot) (number : snapshot.head.number ≡ n) (rest : List Bool) where
   -- where its base is found, it is read back from its text by the same baselines, with whatever follows it
   pub text_is_read : (bases : ℕ → Option Base) → IsContext profile (with_bases bases lines) → IfSome base (IsNear n)
       → held_base (with_bases bases lines) (number_of base) ≡ option_map base_from base
-      → message_after profile (with_bases bases lines) n (text profile lines telling base snapshot ++ rest) ≡ done telling base rest snapshot
+      → server_message_at profile (with_bases bases lines) n (text profile lines telling base snapshot ++ rest) ≡ done telling base rest snapshot
   text_is_read bases context near found =
       let head = snapshot.head in
       let entities = snapshot.entities in
       let message = message_of telling base snapshot in
-      ap (λ (o : Option Base). message_after profile (with_bases bases lines) n (message_text profile lines o message ++ rest)) (sym found)
+      ap (λ (o : Option Base). server_message_at profile (with_bases bases lines) n (server_message_bits profile lines o message ++ rest)) (sym found)
       ∙ (law profile (with_bases bases lines) n message rest codec context (built_is_message profile challenge (with_bases bases lines) n telling base snapshot tells is number near found)
       ∙ (ap (λ (p : PlayerState). done telling base rest (record { head = record head { player = p }; entities = map (normal_entity profile.entity) entities })) is.player.normal
       ∙ ap (λ (es : List EntityState). done telling base rest (record { head = head; entities = es })) (all_normal profile.entity entities is.entities.normal)))
@@ -163,7 +163,7 @@ held_or (Err cause) = inr (cause, refl)
 -- a message with a snapshot is read so by the baselines by which it was written
 pub text_is_received : (profile : Profile) (challenge : ℕ) → WrittenIsRead → ReadIsSkipped → IsCodec profile → (held : HeldSnapshots) (lines : Lines) (n : ℕ) (telling : Telling) (base : Option Snapshot) (snapshot : Snapshot) (rest : List Bool)
     → IsContext profile (context_of held lines) → IsTelling profile challenge n telling → IsSnapshot profile snapshot → snapshot.head.number ≡ n → IfSome base (λ b. IsNear n b × IsSnapshot profile b × HoldsThis held b)
-    → message_after profile (context_of held lines) n (text profile lines telling base snapshot ++ rest) ≡ read_so held (message_of telling base snapshot) rest
+    → server_message_at profile (context_of held lines) n (text profile lines telling base snapshot ++ rest) ≡ read_so held (message_of telling base snapshot) rest
 text_is_received profile challenge law skips codec held lines n telling None snapshot rest is_context tells is number known =
     text_is_read profile challenge law codec n telling tells lines None snapshot is number rest (context_of held lines).base is_context tt refl
 text_is_received profile challenge law skips codec held lines n telling (Some base) snapshot rest is_context tells is number known =
@@ -196,14 +196,14 @@ text_is_received profile challenge law skips codec held lines n telling (Some ba
 -- ---- what has the same text whatever the baselines are
 
 -- a list in which nothing is, against one in which nothing is
-nothing_alike : (words : List (List Bool)) (table : Layout) (lines others : Lines) → list_text words table lines [] [] ≡ list_text words table others [] []
-unfolding list_text
+nothing_alike : (words : List (List Bool)) (table : Layout) (lines others : Lines) → entity_list_bits words table lines [] [] ≡ entity_list_bits words table others [] []
+unfolding entity_list_bits
 nothing_alike words table lines others = refl
 
 -- so a snapshot in which nothing is, without a base
 waiting_alike : (profile : Profile) (lines others : Lines) (telling : Telling) (head : SnapHead)
     → text profile lines telling None (record { head = head; entities = [] }) ≡ text profile others telling None (record { head = head; entities = [] })
-unfolding message_text section_bits snapshot_bits
+unfolding server_message_bits section_bits snapshot_bits
 waiting_alike profile lines others telling head = rw (nothing_alike profile.code profile.entity lines others) refl
 
 -- the text of a snapshot for a client that has the baselines, or for one that doesn't play
@@ -218,17 +218,17 @@ text_alike profile lines others telling base snapshot (Some game) same waits = a
 
 -- and that of a gamestate
 game_alike : (profile : Profile) (lines others : Lines) (telling : Telling) (game : Gamestate)
-    → message_text profile lines None (game_message_of telling game) ≡ message_text profile others None (game_message_of telling game)
-unfolding message_text section_bits
+    → server_message_bits profile lines None (game_message_of telling game) ≡ server_message_bits profile others None (game_message_of telling game)
+unfolding server_message_bits section_bits
 game_alike profile lines others telling game = refl
 
 -- so a message with a gamestate is read back whatever is held, and by which baselines ever
 pub game_is_received : (profile : Profile) (challenge : ℕ) → WrittenIsRead → IsCodec profile → (held : HeldSnapshots) (lines others : Lines) (n : ℕ) (telling : Telling) (game : Gamestate) (rest : List Bool)
     → IsContext profile (context_of held lines) → IsTelling profile challenge n telling → IsGamestate profile game
-    → message_after profile (context_of held lines) n (message_text profile others None (game_message_of telling game) ++ rest) ≡ read_so held (game_message_of telling game) rest
+    → server_message_at profile (context_of held lines) n (server_message_bits profile others None (game_message_of telling game) ++ rest) ≡ read_so held (game_message_of telling game) rest
 game_is_received profile challenge law codec held lines others n telling game rest is_context tells is =
     let context = context_of held lines in
     let message = game_message_of telling game in
-    ap (λ (bits : List Bool). message_after profile context n (bits ++ rest)) (game_alike profile others lines telling game)
+    ap (λ (bits : List Bool). server_message_at profile context n (bits ++ rest)) (game_alike profile others lines telling game)
     ∙ law profile context n message rest codec is_context
     (record { ack = tells.ack; few = tells.few; commands = tells.commands; section = is; number_is = tt })

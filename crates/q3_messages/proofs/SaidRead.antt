@@ -18,7 +18,7 @@ use Rattle.q3_clmsg.specs.declared.error.ClientIllegible.{ClientIllegible}
 use Rattle.q3_clmsg.specs.declared.heads.Heads.{Heads}
 use Rattle.q3_clmsg.specs.Moves.{message_key}
 use Rattle.q3_clmsg.specs.Values.{Message}
-use Rattle.q3_clmsg.specs.Texts.{section_bits, client_text}
+use Rattle.q3_clmsg.specs.Texts.{section_bits, client_message_bits}
 use Rattle.q3_clmsg.specs.declared.error.ClientIllegible.TheVariants.{Bits}
 use Rattle.q3_clmsg.specs.Reading.{heads_after, heads_at, client_at}
 use Rattle.q3_clmsg.specs.Laws.{WrittenIsRead}
@@ -37,8 +37,8 @@ longs words message = row_bits words ((message.id, 32) ∷ (message.acknowledged
 
 -- a message's text begins with them, also with what follows it
 begins_with_longs : (words : List (List Bool)) (key : ℕ) (message : Message) (rest : List Bool)
-    → (left : List Bool) × (client_text words key message ++ rest ≡ longs words message ++ left)
-unfolding client_text
+    → (left : List Bool) × (client_message_bits words key message ++ rest ≡ longs words message ++ left)
+unfolding client_message_bits
 begins_with_longs words key message rest =
     ((commands_bits words 4 message.commands ++ section_bits words key message.delta message.moves ++ row_bits words ((5, 8) ∷ [])) ++ rest, simp append_assoc)
 

@@ -15,7 +15,7 @@ use Rattle.q3_fields.specs.Places.{Change, with_changes, AreRising}
 use Rattle.q3_fields.specs.Texts.{player_field_at}
 use Rattle.q3_fields.specs.Laws.{PlayerFieldIsSpelled, PlayerReadIsSpelled, PlayerSpelledIsRead}
 use Rattle.q3_player.specs.Arrays.{changes, mask_of}
-use Rattle.q3_player.specs.Delta.{values_text, array_text, place_after, places_after, array_after}
+use Rattle.q3_player.specs.Delta.{values_bits, array_bits, value_at, values_at, array_at}
 use Rattle.q3_player.specs.Spelling.{SpellsValues, SpellsArray}
 use Rattle.q3_player.proofs.Results.{answer_parts}
 use Rattle.q3_player.proofs.BitsSpelled.{bits_were_put, bits_were}
@@ -27,7 +27,7 @@ use Rattle.q3_player.proofs.PlacesRead.{places_after_none}
 
 -- the places behind the first
 abbrev others_at : List (List Bool) → Kind → ℕ → List ℕ → ℕ × List Bool → Result (List ℕ × List Bool) ReadError
-others_at words kind mask from first = places_after words kind mask from first.1 >>= λ others. Ok (first.0 ∷ others.0, others.1)
+others_at words kind mask from first = values_at words kind mask from first.1 >>= λ others. Ok (first.0 ∷ others.0, others.1)
 
 -- what places spell: a map whose mask is the one that was read
 pub record ReadPlaces (words : List (List Bool)) (kind : Kind) (mask : ℕ) (from : List ℕ) (bits : List Bool) (found : List ℕ × List Bool) : Type 0 where
@@ -42,9 +42,9 @@ pub record ReadPlaces (words : List (List Bool)) (kind : Kind) (mask : ℕ) (fro
   pub long : length found.0 ≡ length from
 
 -- a place that is read: its value, or what it was
-place_parts : (words : List (List Bool)) (kind : Kind) (mask x : ℕ) (bits : List Bool) (found : ℕ × List Bool) → place_after words kind mask x bits ≡ Ok found
+place_parts : (words : List (List Bool)) (kind : Kind) (mask x : ℕ) (bits : List Bool) (found : ℕ × List Bool) → value_at words kind mask x bits ≡ Ok found
     → ((mask % 2 ≡ 1) × (player_field_at words kind bits ≡ Ok found)) ⊎ ((mask % 2 ≡ 0) × (x ≡ found.0) × (bits ≡ found.1))
-unfolding place_after
+unfolding value_at
 place_parts words kind mask x bits found e =
     elim (cases_Bool (eqb (mask % 2) 1)) [
       | inl one ↦ inl (eqb-true (mask % 2) 1 one, rw one at e)
@@ -55,8 +55,8 @@ place_parts words kind mask x bits found e =
 
 -- places that are read were spelled so
 pub places_were_spelled : PlayerReadIsSpelled → (words : List (List Bool)) → IsCode words → (kind : Kind) → IsKind kind → (mask : ℕ) (from : List ℕ) (bits : List Bool) (found : List ℕ × List Bool)
-    → mask < 2 ^ length from → places_after words kind mask from bits ≡ Ok found → ReadPlaces words kind mask from bits found
-unfolding places_after place_after mask_of with_changes
+    → mask < 2 ^ length from → values_at words kind mask from bits ≡ Ok found → ReadPlaces words kind mask from bits found
+unfolding values_at value_at mask_of with_changes
 places_were_spelled law words code kind allowed mask [] bits found below e =
     let parts = answer_parts [] found.0 bits found.1 e in
     record {
@@ -72,8 +72,8 @@ places_were_spelled law words code kind allowed mask [] bits found below e =
     }
 places_were_spelled law words code kind allowed mask (x ∷ from) bits found below e =
     let half : mask / 2 < 2 ^ length from = omega (arith, pow-suc 2 (length from)) in
-    let first = bind_ok (place_after words kind mask x bits) (others_at words kind (mask / 2) from) found e in
-    let others = bind_ok (places_after words kind (mask / 2) from first.0.1) (λ others. Ok (first.0.0 ∷ others.0, others.1)) found first.2 in
+    let first = bind_ok (value_at words kind mask x bits) (others_at words kind (mask / 2) from) found e in
+    let others = bind_ok (values_at words kind (mask / 2) from first.0.1) (λ others. Ok (first.0.0 ∷ others.0, others.1)) found first.2 in
     let parts = answer_parts (first.0.0 ∷ others.0.0) found.0 others.0.1 found.1 others.2 in
     let more = places_were_spelled law words code kind allowed (mask / 2) from first.0.1 others.0 half others.1 in
     elim (place_parts words kind mask x bits first.0 first.1) [
@@ -105,8 +105,8 @@ places_were_spelled law words code kind allowed mask (x ∷ from) bits found bel
 
 -- places that are spelled so are read
 pub places_are_read : PlayerSpelledIsRead → (words : List (List Bool)) → IsCode words → (kind : Kind) → IsKind kind → (from : List ℕ) (changed : List Change) (text rest : List Bool)
-    → AreRising (length from) 0 changed → SpellsValues words kind changed text → places_after words kind (mask_of changed) from (text ++ rest) ≡ Ok (with_changes from changed, rest)
-unfolding places_after place_after mask_of with_changes
+    → AreRising (length from) 0 changed → SpellsValues words kind changed text → values_at words kind (mask_of changed) from (text ++ rest) ≡ Ok (with_changes from changed, rest)
+unfolding values_at value_at mask_of with_changes
 places_are_read law words code kind allowed [] [] text rest rises spells = rw spells refl
 places_are_read law words code kind allowed [] (change ∷ others) text rest rises spells = absurd (omega (arith, rises.1))
 places_are_read law words code kind allowed (x ∷ from) changed text rest rises spells =
@@ -140,22 +140,22 @@ places_are_read law words code kind allowed (x ∷ from) changed text rest rises
 
 -- a map of what changed, written
 map_is_spelled : PlayerFieldIsSpelled → (words : List (List Bool)) (kind : Kind) → IsKind kind → (from to : List ℕ) → All (IsKept kind) to
-    → (changed : List Change) → changed ≡ changes from to → AreRising 16 0 changed → with_changes from changed ≡ to → SpellsArray words kind from to (array_text words kind changed)
-unfolding array_text with_changes
+    → (changed : List Change) → changed ≡ changes from to → AreRising 16 0 changed → with_changes from changed ≡ to → SpellsArray words kind from to (array_bits words kind changed)
+unfolding array_bits with_changes
 map_is_spelled law words kind allowed from to kept [] is rising over = inl (sym over, refl)
 map_is_spelled law words kind allowed from to kept (change ∷ others) is rising over =
     rw (eqb-suc-zero (length others)) (inr (
       change ∷ others,
-      values_text words kind (change ∷ others),
+      values_bits words kind (change ∷ others),
       rising,
       sym over,
-      subst (λ (xs : List Change). SpellsValues words kind xs (values_text words kind xs)) (sym is) (values-spelled law words kind allowed 0 from to kept),
+      subst (λ (xs : List Change). SpellsValues words kind xs (values_bits words kind xs)) (sym is) (values-spelled law words kind allowed 0 from to kept),
       refl,
     ))
 
 -- an array that is written against another spells what it holds
 pub array_is_spelled : PlayerFieldIsSpelled → (words : List (List Bool)) (kind : Kind) → IsKind kind → (from to : List ℕ) → length from ≡ 16 → length to ≡ 16 → All (IsKept kind) to
-    → SpellsArray words kind from to (array_text words kind (changes from to))
+    → SpellsArray words kind from to (array_bits words kind (changes from to))
 array_is_spelled law words kind allowed from to long long' kept =
     let rises = subst (λ (n : ℕ). AreRising n 0 (changes from to)) long (changes-rise from to) in
     map_is_spelled law words kind allowed from to kept (changes from to) refl rises (with_changes-changes from to (long ∙ sym long'))
@@ -173,7 +173,7 @@ abbrev mask_at : List (List Bool) → ℕ × List Bool → Result (ℕ × List B
 mask_at words mark = cond (eqb mark.0 0) (Ok (0, mark.1)) (field_at words 16 mark.1)
 
 abbrev places_at : List (List Bool) → Kind → List ℕ → ℕ × List Bool → Result (List ℕ × List Bool) ReadError
-places_at words kind from mask = places_after words kind mask.0 from mask.1
+places_at words kind from mask = values_at words kind mask.0 from mask.1
 
 -- no mask, or one of 16 bits
 mask_parts : (words : List (List Bool)) (mark mask : ℕ × List Bool) → mask_at words mark ≡ Ok mask
@@ -188,14 +188,14 @@ mask_parts words mark mask e =
 
 -- was spelled so
 pub array_was_spelled : ReadWasPut → PlayerReadIsSpelled → (words : List (List Bool)) → IsCode words → (kind : Kind) → IsKind kind → (from : List ℕ) (bits : List Bool) (found : List ℕ × List Bool)
-    → length from ≡ 16 → All (IsKept kind) from → array_after words kind from bits ≡ Ok found → ReadArray words kind from bits found
-unfolding array_after
+    → length from ≡ 16 → All (IsKept kind) from → array_at words kind from bits ≡ Ok found → ReadArray words kind from bits found
+unfolding array_at
 array_was_spelled put law words code kind allowed from bits found long kept e =
     let mark = bind_ok (field_at words 1 bits) (λ mark. mask_at words mark >>= places_at words kind from) found e in
     let mask = bind_ok (mask_at words mark.0) (places_at words kind from) found mark.2 in
     elim (mask_parts words mark.0 mask.0 mask.1) [
       | inl none ↦
-          let read = sym (places_after_none words kind from mask.0.1) ∙ ap (λ (m : ℕ). places_after words kind m from mask.0.1) (sym none.1) ∙ mask.2 in
+          let read = sym (places_after_none words kind from mask.0.1) ∙ ap (λ (m : ℕ). values_at words kind m from mask.0.1) (sym none.1) ∙ mask.2 in
           let parts = answer_parts from found.0 mask.0.1 found.1 read in
           record {
             text = field_bits words 1 0;
@@ -232,8 +232,8 @@ array_was_spelled put law words code kind allowed from bits found long kept e =
 
 -- an array that is spelled so is read
 pub array_is_read : PutIsRead → PlayerSpelledIsRead → (words : List (List Bool)) → IsCode words → (kind : Kind) → IsKind kind → (from to : List ℕ) (text rest : List Bool)
-    → length from ≡ 16 → SpellsArray words kind from to text → array_after words kind from (text ++ rest) ≡ Ok (to, rest)
-unfolding array_after
+    → length from ≡ 16 → SpellsArray words kind from to text → array_at words kind from (text ++ rest) ≡ Ok (to, rest)
+unfolding array_at
 array_is_read put law words code kind allowed from to text rest long (inl none) =
     rw (none.1, none.0, put words 1 0 rest code (omega arith), places_after_none words kind from rest) refl
 array_is_read put law words code kind allowed from to text rest long (inr some) =

@@ -7,16 +7,16 @@ use Rattle.q3_bits.specs.declared.reader.ReadError.{ReadError}
 use Rattle.q3_fields.specs.declared.kind.Kind.TheVariants.{Unsigned, Signed}
 use Rattle.q3_player.specs.declared.state.PlayerState.{PlayerState}
 use Rattle.q3_player.specs.State.{patterns_of, shorts_of}
-use Rattle.q3_player.specs.Delta.{array_after, shorts_after, arrays_after, each_after}
+use Rattle.q3_player.specs.Delta.{array_at, shorts_at, arrays_at, all_arrays_at}
 use Rattle.q3_player.proofs.Results.{answer_parts}
 use lib.IntN.{ℤ}
 
 -- values that were read, as their words
-shorts_after-ok : (words : List (List Bool)) (from : List ℤ) (bits : List Bool) (values : List ℤ) (rest : List Bool) → Ok (values, rest) ≡ shorts_after words from bits
-    → (read : List ℕ) × (array_after words (Signed 16) (patterns_of from) bits ≡ Ok (read, rest)) × (shorts_of read ≡ values)
-unfolding shorts_after
-shorts_after-ok words from bits values rest e =
-    let whole = bind_ok (array_after words (Signed 16) (patterns_of from) bits) (λ read. Ok (shorts_of read.0, read.1)) (values, rest) (sym e) in
+shorts_at-ok : (words : List (List Bool)) (from : List ℤ) (bits : List Bool) (values : List ℤ) (rest : List Bool) → Ok (values, rest) ≡ shorts_at words from bits
+    → (read : List ℕ) × (array_at words (Signed 16) (patterns_of from) bits ≡ Ok (read, rest)) × (shorts_of read ≡ values)
+unfolding shorts_at
+shorts_at-ok words from bits values rest e =
+    let whole = bind_ok (array_at words (Signed 16) (patterns_of from) bits) (λ read. Ok (shorts_of read.0, read.1)) (values, rest) (sym e) in
     let parts = answer_parts (shorts_of whole.0.0) values whole.0.1 rest whole.2 in
     (whole.0.0, whole.1 ∙ ap (λ (left : List Bool). Ok (whole.0.0, left)) parts.1, parts.0)
 
@@ -29,50 +29,50 @@ as_shorts-err : (r : ListRead) (e : ReadError) → (r >>= as_shorts) ≡ Err e �
 as_shorts-err (Ok x) e bad = absurd cc
 as_shorts-err (Err d) e bad = cc
 
-shorts_after-err : (words : List (List Bool)) (from : List ℤ) (bits : List Bool) (e : ReadError) → Err e ≡ shorts_after words from bits
-    → array_after words (Signed 16) (patterns_of from) bits ≡ Err e
-unfolding shorts_after
-shorts_after-err words from bits e bad = as_shorts-err (array_after words (Signed 16) (patterns_of from) bits) e (sym bad)
+shorts_at-err : (words : List (List Bool)) (from : List ℤ) (bits : List Bool) (e : ReadError) → Err e ≡ shorts_at words from bits
+    → array_at words (Signed 16) (patterns_of from) bits ≡ Err e
+unfolding shorts_at
+shorts_at-err words from bits e bad = as_shorts-err (array_at words (Signed 16) (patterns_of from) bits) e (sym bad)
 
 -- a fault in the first
-pub each_after-stats : (words : List (List Bool)) (from : PlayerState) (bits : List Bool) (e : ReadError) → Err e ≡ shorts_after words from.stats bits → Err e ≡ each_after words from bits
-unfolding each_after arrays_after
-each_after-stats words from bits e bad = rw (shorts_after-err words from.stats bits e bad) refl
+pub all_arrays_at-stats : (words : List (List Bool)) (from : PlayerState) (bits : List Bool) (e : ReadError) → Err e ≡ shorts_at words from.stats bits → Err e ≡ all_arrays_at words from bits
+unfolding all_arrays_at arrays_at
+all_arrays_at-stats words from bits e bad = rw (shorts_at-err words from.stats bits e bad) refl
 
 -- a fault in the second
-pub each_after-persistant : (words one : List (List Bool)) (from : PlayerState) (bits left : List Bool) (stats : List ℤ) (e : ReadError) → one ≡ words
-    → Ok (stats, left) ≡ shorts_after words from.stats bits → Err e ≡ shorts_after one from.persistant left → Err e ≡ each_after words from bits
-unfolding each_after arrays_after
-each_after-persistant words one from bits left stats e same first bad =
-    let a = shorts_after-ok words from.stats bits stats left first in
-    rw (a.1, shorts_after-err words from.persistant left e (rw same at bad)) refl
+pub all_arrays_at-persistant : (words one : List (List Bool)) (from : PlayerState) (bits left : List Bool) (stats : List ℤ) (e : ReadError) → one ≡ words
+    → Ok (stats, left) ≡ shorts_at words from.stats bits → Err e ≡ shorts_at one from.persistant left → Err e ≡ all_arrays_at words from bits
+unfolding all_arrays_at arrays_at
+all_arrays_at-persistant words one from bits left stats e same first bad =
+    let a = shorts_at-ok words from.stats bits stats left first in
+    rw (a.1, shorts_at-err words from.persistant left e (rw same at bad)) refl
 
 -- a fault in the third
-pub each_after-ammo : (words one two : List (List Bool)) (from : PlayerState) (bits left left' : List Bool) (stats persistant : List ℤ) (e : ReadError) → one ≡ words → two ≡ words
-    → Ok (stats, left) ≡ shorts_after words from.stats bits → Ok (persistant, left') ≡ shorts_after one from.persistant left → Err e ≡ shorts_after two from.ammo left'
-    → Err e ≡ each_after words from bits
-unfolding each_after arrays_after
-each_after-ammo words one two from bits left left' stats persistant e same same' first second bad =
-    let a = shorts_after-ok words from.stats bits stats left first in
-    let b = shorts_after-ok words from.persistant left persistant left' (rw same at second) in
-    rw (a.1, b.1, shorts_after-err words from.ammo left' e (rw same' at bad)) refl
+pub all_arrays_at-ammo : (words one two : List (List Bool)) (from : PlayerState) (bits left left' : List Bool) (stats persistant : List ℤ) (e : ReadError) → one ≡ words → two ≡ words
+    → Ok (stats, left) ≡ shorts_at words from.stats bits → Ok (persistant, left') ≡ shorts_at one from.persistant left → Err e ≡ shorts_at two from.ammo left'
+    → Err e ≡ all_arrays_at words from bits
+unfolding all_arrays_at arrays_at
+all_arrays_at-ammo words one two from bits left left' stats persistant e same same' first second bad =
+    let a = shorts_at-ok words from.stats bits stats left first in
+    let b = shorts_at-ok words from.persistant left persistant left' (rw same at second) in
+    rw (a.1, b.1, shorts_at-err words from.ammo left' e (rw same' at bad)) refl
 
 -- the last decides
-pub each_after-powerups : (words one two three : List (List Bool)) (from : PlayerState) (bits left left' left'' end : List Bool) (stats persistant ammo : List ℤ) (powerups : List ℕ)
+pub all_arrays_at-powerups : (words one two three : List (List Bool)) (from : PlayerState) (bits left left' left'' end : List Bool) (stats persistant ammo : List ℤ) (powerups : List ℕ)
     (result : Result (Unit {0}) ReadError) → one ≡ words → two ≡ words → three ≡ words
-    → Ok (stats, left) ≡ shorts_after words from.stats bits → Ok (persistant, left') ≡ shorts_after one from.persistant left → Ok (ammo, left'') ≡ shorts_after two from.ammo left'
-    → with_rest end (holding powerups result) ≡ array_after three (Unsigned 32) from.powerups left''
-    → with_rest end (holding (record { words = from.words; stats = stats; persistant = persistant; ammo = ammo; powerups = powerups }) result) ≡ each_after words from bits
-unfolding each_after arrays_after
-each_after-powerups words one two three from bits left left' left'' end stats persistant ammo powerups (Ok x) same same' same'' first second third last =
-    let a = shorts_after-ok words from.stats bits stats left first in
-    let b = shorts_after-ok words from.persistant left persistant left' (rw same at second) in
-    let c = shorts_after-ok words from.ammo left' ammo left'' (rw same' at third) in
-    let d : array_after words (Unsigned 32) from.powerups left'' ≡ Ok (powerups, end) = sym (rw same'' at last) in
+    → Ok (stats, left) ≡ shorts_at words from.stats bits → Ok (persistant, left') ≡ shorts_at one from.persistant left → Ok (ammo, left'') ≡ shorts_at two from.ammo left'
+    → with_rest end (holding powerups result) ≡ array_at three (Unsigned 32) from.powerups left''
+    → with_rest end (holding (record { words = from.words; stats = stats; persistant = persistant; ammo = ammo; powerups = powerups }) result) ≡ all_arrays_at words from bits
+unfolding all_arrays_at arrays_at
+all_arrays_at-powerups words one two three from bits left left' left'' end stats persistant ammo powerups (Ok x) same same' same'' first second third last =
+    let a = shorts_at-ok words from.stats bits stats left first in
+    let b = shorts_at-ok words from.persistant left persistant left' (rw same at second) in
+    let c = shorts_at-ok words from.ammo left' ammo left'' (rw same' at third) in
+    let d : array_at words (Unsigned 32) from.powerups left'' ≡ Ok (powerups, end) = sym (rw same'' at last) in
     rw (a.1, b.1, c.1, d, a.2, b.2, c.2) refl
-each_after-powerups words one two three from bits left left' left'' end stats persistant ammo powerups (Err e) same same' same'' first second third last =
-    let a = shorts_after-ok words from.stats bits stats left first in
-    let b = shorts_after-ok words from.persistant left persistant left' (rw same at second) in
-    let c = shorts_after-ok words from.ammo left' ammo left'' (rw same' at third) in
-    let d : array_after words (Unsigned 32) from.powerups left'' ≡ Err e = sym (rw same'' at last) in
+all_arrays_at-powerups words one two three from bits left left' left'' end stats persistant ammo powerups (Err e) same same' same'' first second third last =
+    let a = shorts_at-ok words from.stats bits stats left first in
+    let b = shorts_at-ok words from.persistant left persistant left' (rw same at second) in
+    let c = shorts_at-ok words from.ammo left' ammo left'' (rw same' at third) in
+    let d : array_at words (Unsigned 32) from.powerups left'' ≡ Err e = sym (rw same'' at last) in
     rw (a.1, b.1, c.1, d) refl

@@ -11,7 +11,7 @@ use Rattle.q3_fields.specs.declared.kind.Kind.{Kind}
 use Rattle.q3_fields.specs.Places.{Change}
 use Rattle.q3_fields.specs.Texts.{player_field}
 use Rattle.q3_player.specs.Arrays.{changes_from, changes, mask_of}
-use Rattle.q3_player.specs.Delta.{values_text, array_text}
+use Rattle.q3_player.specs.Delta.{values_bits, array_bits}
 
 -- a place more at the end
 changes_from-push : (place : ℕ) (from to : List ℕ) (x y : ℕ) → length from ≡ length to
@@ -66,23 +66,23 @@ mask_of-none [] none = refl
 mask_of-none (change ∷ others) none = absurd (omega (arith, pow_pos change.0))
 
 -- an array as it was
-pub array_text_none : (words : List (List Bool)) (kind : Kind) (changed : List Change) → mask_of changed ≡ 0 → array_text words kind changed ≡ field_bits words 1 0
-unfolding array_text
+pub array_text_none : (words : List (List Bool)) (kind : Kind) (changed : List Change) → mask_of changed ≡ 0 → array_bits words kind changed ≡ field_bits words 1 0
+unfolding array_bits
 array_text_none words kind changed none = rw (mask_of-none changed none) refl
 
 -- an array that changed
 pub array_text_some : (words : List (List Bool)) (kind : Kind) (changed : List Change) → mask_of changed ≢ 0
-    → array_text words kind changed ≡ field_bits words 1 1 ++ field_bits words 16 (mask_of changed) ++ values_text words kind changed
-unfolding array_text mask_of
+    → array_bits words kind changed ≡ field_bits words 1 1 ++ field_bits words 16 (mask_of changed) ++ values_bits words kind changed
+unfolding array_bits mask_of
 array_text_some words kind [] some = absurd (some refl)
 array_text_some words kind (change ∷ others) some = rw (eqb-suc-zero (length others)) refl
 
 -- what is left of the values, one place on
-pub values_text-next : (words same : List (List Bool)) (kind : Kind) (k : ℕ) (from to : List ℕ) → same ≡ words → k < length from → k < length to
-    → values_text words kind (changes_from k (drop k from) (drop k to))
-    ≡ values_text same kind (changes (get_or from k 0 ∷ []) (get_or to k 0 ∷ [])) ++ values_text words kind (changes_from (k + 1) (drop (k + 1) from) (drop (k + 1) to))
-unfolding changes_from values_text
-values_text-next words same kind k from to is within within' =
+pub values_bits-next : (words same : List (List Bool)) (kind : Kind) (k : ℕ) (from to : List ℕ) → same ≡ words → k < length from → k < length to
+    → values_bits words kind (changes_from k (drop k from) (drop k to))
+    ≡ values_bits same kind (changes (get_or from k 0 ∷ []) (get_or to k 0 ∷ [])) ++ values_bits words kind (changes_from (k + 1) (drop (k + 1) from) (drop (k + 1) to))
+unfolding changes_from values_bits
+values_bits-next words same kind k from to is within within' =
     let others = changes_from (k + 1) (drop (k + 1) from) (drop (k + 1) to) in
     elim (cases_Bool (eqb (get_or from k 0) (get_or to k 0))) [
       | inl as_it_was ↦ rw (is, drop_more from k 0 within, drop_more to k 0 within', as_it_was) refl
@@ -92,21 +92,21 @@ values_text-next words same kind k from to is within within' =
     ]
 
 -- nothing is left at the end
-pub values_text-end : (words : List (List Bool)) (kind : Kind) (k : ℕ) (from to : List ℕ) → length from ≤ k
-    → values_text words kind (changes_from k (drop k from) (drop k to)) ≡ []
-unfolding changes_from values_text
-values_text-end words kind k from to past = rw (drop_all k from past) refl
+pub values_bits-end : (words : List (List Bool)) (kind : Kind) (k : ℕ) (from to : List ℕ) → length from ≤ k
+    → values_bits words kind (changes_from k (drop k from) (drop k to)) ≡ []
+unfolding changes_from values_bits
+values_bits-end words kind k from to past = rw (drop_all k from past) refl
 
 -- the next power of two
 pub twice : (k : ℕ) → 2 ^ (k + 1) ≡ 2 ^ k + 2 ^ k
 twice k = rw (add-one, pow-suc 2 k) (omega arith)
 
 -- a place as it was, and one that changed
-pub values_text-same : (words : List (List Bool)) (kind : Kind) (from to : ℕ) → from ≡ to → values_text words kind (changes (from ∷ []) (to ∷ [])) ≡ []
-unfolding changes_from values_text
-values_text-same words kind from to same = rw (eq-eqb from to same) refl
+pub values_bits-same : (words : List (List Bool)) (kind : Kind) (from to : ℕ) → from ≡ to → values_bits words kind (changes (from ∷ []) (to ∷ [])) ≡ []
+unfolding changes_from values_bits
+values_bits-same words kind from to same = rw (eq-eqb from to same) refl
 
-pub values_text-differs : (words : List (List Bool)) (kind : Kind) (from to : ℕ) → from ≢ to
-    → values_text words kind (changes (from ∷ []) (to ∷ [])) ≡ player_field words kind to
-unfolding changes_from values_text
-values_text-differs words kind from to differs = rw (ne_eqb from to differs) (append-nil (player_field words kind to))
+pub values_bits-differs : (words : List (List Bool)) (kind : Kind) (from to : ℕ) → from ≢ to
+    → values_bits words kind (changes (from ∷ []) (to ∷ [])) ≡ player_field words kind to
+unfolding changes_from values_bits
+values_bits-differs words kind from to differs = rw (ne_eqb from to differs) (append-nil (player_field words kind to))

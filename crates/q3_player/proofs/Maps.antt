@@ -13,7 +13,7 @@ use Rattle.q3_fields.specs.Spelling.{SpellsPlayerField}
 use Rattle.q3_fields.specs.Laws.{PlayerFieldIsSpelled}
 use Rattle.q3_player.specs.Arrays.{changes_from, mask_of}
 use Rattle.q3_player.specs.Spelling.{SpellsValues}
-use Rattle.q3_player.specs.Delta.{values_text}
+use Rattle.q3_player.specs.Delta.{values_bits}
 use Rattle.q3_player.proofs.Changes.{twice}
 use Rattle.q3_player.proofs.Kept.{IsKept}
 
@@ -139,8 +139,8 @@ values-down words kind (change ∷ others) text s = (s.0, s.1, s.2, s.3, values-
 
 -- what is written of values in normal form spells them
 pub values-spelled : PlayerFieldIsSpelled → (words : List (List Bool)) (kind : Kind) → IsKind kind → (place : ℕ) (from to : List ℕ) → All (IsKept kind) to
-    → SpellsValues words kind (changes_from place from to) (values_text words kind (changes_from place from to))
-unfolding changes_from values_text
+    → SpellsValues words kind (changes_from place from to) (values_bits words kind (changes_from place from to))
+unfolding changes_from values_bits
 values-spelled law words kind allowed place [] to kept = refl
 values-spelled law words kind allowed place (x ∷ from) [] kept = refl
 values-spelled law words kind allowed place (x ∷ from) (y ∷ to) kept =
@@ -151,5 +151,5 @@ values-spelled law words kind allowed place (x ∷ from) (y ∷ to) kept =
       | inl as_it_was ↦ rw as_it_was others
       | inr differs ↦
           rw differs
-          (player_field words kind y, values_text words kind (changes_from (place + 1) from to), flat_map-cons (λ (change : Change). player_field words kind change.1) (place, y) (changes_from (place + 1) from to), spelled, others)
+          (player_field words kind y, values_bits words kind (changes_from (place + 1) from to), flat_map-cons (λ (change : Change). player_field words kind change.1) (place, y) (changes_from (place + 1) from to), spelled, others)
     ]

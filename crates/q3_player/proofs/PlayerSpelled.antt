@@ -15,13 +15,13 @@ use Rattle.q3_fields.specs.Places.{Change, with_changes}
 use Rattle.q3_fields.specs.declared.delta.StateKind.TheVariants.{Player}
 use Rattle.q3_fields.specs.declared.delta.DeltaError.{DeltaError}
 use Rattle.q3_fields.specs.States.{normal_words}
-use Rattle.q3_fields.specs.Deltas.{words_delta, bits_read, words_after}
+use Rattle.q3_fields.specs.Deltas.{words_delta, bits_read, words_at}
 use Rattle.q3_fields.specs.Spelling.{SpellsWords}
 use Rattle.q3_fields.specs.Laws.{PlayerFieldIsSpelled, PlayerReadIsSpelled, PlayerSpelledIsRead, WordsAreSpelled, WordsReadAreSpelled, WordsSpelledAreRead}
 use Rattle.q3_player.specs.declared.state.PlayerState.{PlayerState}
 use Rattle.q3_player.specs.State.{IsState, array_kinds, arrays_of, with_arrays, normal_player, IsNormal}
 use Rattle.q3_player.specs.Arrays.{changes, arrays_changed, player_changes}
-use Rattle.q3_player.specs.Delta.{is_empty, array_text, arrays_text, player_delta, array_after, arrays_after, each_after, marked_after, player_at}
+use Rattle.q3_player.specs.Delta.{is_empty, array_bits, arrays_bits, player_delta, array_at, arrays_at, all_arrays_at, marked_arrays_at, player_at}
 use Rattle.q3_player.specs.Spelling.{SpellsArrays, SpellsMarked, SpellsPlayer}
 use Rattle.q3_player.proofs.Results.{bits_ok, answer_parts}
 use Rattle.q3_player.proofs.BitsSpelled.{bits_were_put, bits_were}
@@ -77,7 +77,7 @@ same-arrays (kind ∷ kinds) (x ∷ from) (y ∷ to) are are' none =
 
 -- arrays that are written spell those that they go to
 arrays_are_spelled : PlayerFieldIsSpelled → (words : List (List Bool)) (kinds : List Kind) (from to : List (List ℕ)) → AreArrays kinds from → AreArrays kinds to
-    → SpellsArrays words kinds from to (flat_map (λ array. array_text words array.0 array.1) (arrays_changed kinds from to))
+    → SpellsArrays words kinds from to (flat_map (λ array. array_bits words array.0 array.1) (arrays_changed kinds from to))
 unfolding arrays_changed
 arrays_are_spelled law words [] [] [] are are' = (refl, refl)
 arrays_are_spelled law words [] [] (y ∷ to) are are' = absurd are'
@@ -87,17 +87,17 @@ arrays_are_spelled law words (kind ∷ kinds) (x ∷ from) [] are are' = absurd 
 arrays_are_spelled law words (kind ∷ kinds) (x ∷ from) (y ∷ to) are are' = (
   y,
   to,
-  array_text words kind (changes x y),
-  flat_map (λ array. array_text words array.0 array.1) (arrays_changed kinds from to),
+  array_bits words kind (changes x y),
+  flat_map (λ array. array_bits words array.0 array.1) (arrays_changed kinds from to),
   refl,
-  flat_map-cons (λ (array : Kind × List Change). array_text words array.0 array.1) (kind, changes x y) (arrays_changed kinds from to),
+  flat_map-cons (λ (array : Kind × List Change). array_bits words array.0 array.1) (kind, changes x y) (arrays_changed kinds from to),
   array_is_spelled law words kind are.0 x y are.1 are'.1 are'.2,
   arrays_are_spelled law words kinds from to are.3 are'.3,
 )
 
 marked_is_spelled : PlayerFieldIsSpelled → (words : List (List Bool)) (from to : PlayerState) → IsState from → IsState to
-    → SpellsMarked words (arrays_of from) (arrays_of to) (arrays_text words (player_changes from to))
-unfolding arrays_text
+    → SpellsMarked words (arrays_of from) (arrays_of to) (arrays_bits words (player_changes from to))
+unfolding arrays_bits
 marked_is_spelled law words from to state state' =
     let are = are_arrays from state in
     let are' = are_arrays to state' in
@@ -105,7 +105,7 @@ marked_is_spelled law words from to state state' =
       | inl none ↦ rw none (inl (sym (same-arrays array_kinds (arrays_of from) (arrays_of to) are are' none), refl))
       | inr some ↦
           rw some
-          (inr (flat_map (λ array. array_text words array.0 array.1) (player_changes from to), arrays_are_spelled law words array_kinds (arrays_of from) (arrays_of to) are are', refl))
+          (inr (flat_map (λ array. array_bits words array.0 array.1) (player_changes from to), arrays_are_spelled law words array_kinds (arrays_of from) (arrays_of to) are are', refl))
     ]
 
 -- arrays that are read
@@ -117,20 +117,20 @@ record ReadArrays (words : List (List Bool)) (kinds : List Kind) (from : List (L
 
 -- how they go on behind the first
 abbrev others_behind : List (List Bool) → List Kind → List (List ℕ) → List ℕ × List Bool → Result (List (List ℕ) × List Bool) ReadError
-others_behind words kinds from first = arrays_after words kinds from first.1 >>= λ others. Ok (first.0 ∷ others.0, others.1)
+others_behind words kinds from first = arrays_at words kinds from first.1 >>= λ others. Ok (first.0 ∷ others.0, others.1)
 
 -- were spelled so
 arrays_were_spelled : ReadWasPut → PlayerReadIsSpelled → (words : List (List Bool)) → IsCode words → (kinds : List Kind) (from : List (List ℕ)) (bits : List Bool) (found : List (List ℕ) × List Bool)
-    → AreArrays kinds from → arrays_after words kinds from bits ≡ Ok found → ReadArrays words kinds from bits found
-unfolding arrays_after
+    → AreArrays kinds from → arrays_at words kinds from bits ≡ Ok found → ReadArrays words kinds from bits found
+unfolding arrays_at
 arrays_were_spelled put law words code [] [] bits found are e =
     let parts = answer_parts [] found.0 bits found.1 e in
     record { text = []; parts = parts.1; spells = (sym parts.0, refl); are = subst (AreArrays []) parts.0 tt }
 arrays_were_spelled put law words code [] (x ∷ from) bits found are e = absurd are
 arrays_were_spelled put law words code (kind ∷ kinds) [] bits found are e = absurd are
 arrays_were_spelled put law words code (kind ∷ kinds) (x ∷ from) bits found are e =
-    let first = bind_ok (array_after words kind x bits) (others_behind words kinds from) found e in
-    let others = bind_ok (arrays_after words kinds from first.0.1) (λ others. Ok (first.0.0 ∷ others.0, others.1)) found first.2 in
+    let first = bind_ok (array_at words kind x bits) (others_behind words kinds from) found e in
+    let others = bind_ok (arrays_at words kinds from first.0.1) (λ others. Ok (first.0.0 ∷ others.0, others.1)) found first.2 in
     let parts = answer_parts (first.0.0 ∷ others.0.0) found.0 others.0.1 found.1 others.2 in
     let here = array_was_spelled put law words code kind are.0 x bits first.0 are.1 are.2 first.1 in
     let more = arrays_were_spelled put law words code kinds from first.0.1 others.0 are.3 others.1 in
@@ -143,8 +143,8 @@ arrays_were_spelled put law words code (kind ∷ kinds) (x ∷ from) bits found 
 
 -- arrays that are spelled so are read
 arrays_are_read : PutIsRead → PlayerSpelledIsRead → (words : List (List Bool)) → IsCode words → (kinds : List Kind) (from to : List (List ℕ)) (text rest : List Bool)
-    → AreArrays kinds from → SpellsArrays words kinds from to text → arrays_after words kinds from (text ++ rest) ≡ Ok (to, rest)
-unfolding arrays_after
+    → AreArrays kinds from → SpellsArrays words kinds from to text → arrays_at words kinds from (text ++ rest) ≡ Ok (to, rest)
+unfolding arrays_at
 arrays_are_read put law words code [] [] to text rest are s = rw (s.0, s.1) refl
 arrays_are_read put law words code [] (x ∷ from) to text rest are s = absurd are
 arrays_are_read put law words code (kind ∷ kinds) [] to text rest are s = absurd are
@@ -197,7 +197,7 @@ pub delta_is_spelled : WordsAreSpelled → PlayerFieldIsSpelled → (words : Lis
 unfolding player_delta
 delta_is_spelled spelled law words table from to code is_table state normal state' = record {
   fields = words_delta Player words table from.words to.words;
-  arrays = arrays_text words (player_changes from to);
+  arrays = arrays_bits words (player_changes from to);
   of_words = spelled Player words table from.words to.words code is_table state.words (ap (λ (p : PlayerState). p.words) normal) state'.words;
   of_arrays = marked_is_spelled law words from to state state';
   whole = refl;
@@ -205,11 +205,11 @@ delta_is_spelled spelled law words table from to code is_table state normal stat
 
 -- the answer behind the words
 abbrev at_words : List (List Bool) → PlayerState → List ℕ × List Bool → Result (PlayerState × List Bool) DeltaError
-at_words words from fields = bits_read (marked_after words (record from { words = fields.0 }) fields.1)
+at_words words from fields = bits_read (marked_arrays_at words (record from { words = fields.0 }) fields.1)
 
 -- how the arrays go on behind their mark
 abbrev behind_mark : List (List Bool) → PlayerState → ℕ × List Bool → Result (PlayerState × List Bool) ReadError
-behind_mark words over mark = cond (eqb mark.0 0) (Ok (over, mark.1)) (each_after words over mark.1)
+behind_mark words over mark = cond (eqb mark.0 0) (Ok (over, mark.1)) (all_arrays_at words over mark.1)
 
 -- a mark of the arrays that is read, and what is behind it
 record ReadMarked (words : List (List Bool)) (over : PlayerState) (bits : List Bool) (to : PlayerState) (rest : List Bool) : Type 0 where
@@ -221,8 +221,8 @@ record ReadMarked (words : List (List Bool)) (over : PlayerState) (bits : List B
 
 -- was spelled so
 marked_was_spelled : ReadWasPut → PlayerReadIsSpelled → (words : List (List Bool)) → IsCode words → (over : PlayerState) (bits : List Bool) (to : PlayerState) (rest : List Bool)
-    → IsState over → marked_after words over bits ≡ Ok (to, rest) → ReadMarked words over bits to rest
-unfolding marked_after each_after
+    → IsState over → marked_arrays_at words over bits ≡ Ok (to, rest) → ReadMarked words over bits to rest
+unfolding marked_arrays_at all_arrays_at
 marked_was_spelled put law words code over bits to rest state e =
     let mark = bind_ok (field_at words 1 bits) (behind_mark words over) (to, rest) e in
     let bit = bits_were_put put words code 1 bits mark.0 mark.1 in
@@ -238,7 +238,7 @@ marked_was_spelled put law words code over bits to rest state e =
           }
       | inr some ↦
           let one : mark.0.0 ≡ 1 = omega (arith, bit.0, eqb-false mark.0.0 0 some) in
-          let arrays = bind_ok (arrays_after words array_kinds (arrays_of over) mark.0.1) (λ arrays. Ok (with_arrays over arrays.0, arrays.1)) (to, rest) (rw some at mark.2) in
+          let arrays = bind_ok (arrays_at words array_kinds (arrays_of over) mark.0.1) (λ arrays. Ok (with_arrays over arrays.0, arrays.1)) (to, rest) (rw some at mark.2) in
           let same = answer_parts (with_arrays over arrays.0.0) to arrays.0.1 rest arrays.2 in
           let read = arrays_were_spelled put law words code array_kinds (arrays_of over) mark.0.1 arrays.0 (are_arrays over state) arrays.1 in
           let has = has_arrays over arrays.0.0 state read.are in
@@ -254,8 +254,8 @@ marked_was_spelled put law words code over bits to rest state e =
 
 -- a mark that is spelled so is read
 marked_is_read : PutIsRead → PlayerSpelledIsRead → (words : List (List Bool)) → IsCode words → (over to : PlayerState) (text rest : List Bool) → IsState over → IsState to → over.words ≡ to.words
-    → SpellsMarked words (arrays_of over) (arrays_of to) text → marked_after words over (text ++ rest) ≡ Ok (to, rest)
-unfolding marked_after each_after
+    → SpellsMarked words (arrays_of over) (arrays_of to) text → marked_arrays_at words over (text ++ rest) ≡ Ok (to, rest)
+unfolding marked_arrays_at all_arrays_at
 marked_is_read put law words code over to text rest state state' same (inl (is, whole)) =
     let one : over ≡ to = sym (over-arrays over over state refl) ∙ ap (with_arrays over) (sym is) ∙ over-arrays over to state' same in
     rw (whole, put words 1 0 rest code (omega arith)) (ap (λ (p : PlayerState). Ok (p, rest)) one)
@@ -277,11 +277,11 @@ pub player_was_spelled : WordsReadAreSpelled → ReadWasPut → PlayerReadIsSpel
     → IsState to × (IsNormal table from → IsNormal table to) × (text : List Bool) × (bits ≡ text ++ rest) × SpellsPlayer words table from to text
 unfolding player_at
 player_was_spelled read put law words table from to bits rest code is_table state e =
-    let fields = bind_ok (words_after Player words table from.words bits) (at_words words from) (to, rest) e in
+    let fields = bind_ok (words_at Player words table from.words bits) (at_words words from) (to, rest) e in
     let spelled = read Player words table from.words fields.0.0 bits fields.0.1 code is_table state.words fields.1 in
     let over = record from { words = fields.0.0 } in
     let over_state : IsState over = record { words = spelled.0; stats = state.stats; persistant = state.persistant; ammo = state.ammo; powerups = state.powerups } in
-    let arrays = marked_was_spelled put law words code over fields.0.1 to rest over_state (bits_ok (marked_after words over fields.0.1) (to, rest) fields.2) in (
+    let arrays = marked_was_spelled put law words code over fields.0.1 to rest over_state (bits_ok (marked_arrays_at words over fields.0.1) (to, rest) fields.2) in (
       arrays.state,
       λ normal.
           let words_are = spelled.1 (ap (λ (p : PlayerState). p.words) normal) in

@@ -4,7 +4,7 @@
 ghost use Rattle.std.specs.Prelude.{◌≡◌};
 ghost use Rattle.q3_bits.specs.Streams.{Reads, holding};
 ghost use Rattle.q3_fields.specs.Kinds.{IsKind};
-ghost use Rattle.q3_player.specs.Delta.{place_after, places_after, array_after, shorts_after, each_after, marked_after, player_at};
+ghost use Rattle.q3_player.specs.Delta.{value_at, values_at, array_at, shorts_at, all_arrays_at, marked_arrays_at, player_at};
 
 use crate::state::{PlayerState, patterns, shorts};
 use q3_bits::{ReadError, Reader, laws};
@@ -31,9 +31,9 @@ pub fn read_player(
 }
 
 /// Reads a mark for all arrays, and behind a mark of change each of them.
-#[tactic(auto, unfolding(crate::specs::Delta::marked_after))]
+#[tactic(auto, unfolding(crate::specs::Delta::marked_arrays_at))]
 fn read_arrays(r: &mut Reader, into: &mut PlayerState) -> Result<(), ReadError>
-    ensures { Reads r.old r.new (marked_after r.old.words into.old r.old.left) (holding into.new result) }
+    ensures { Reads r.old r.new (marked_arrays_at r.old.words into.old r.old.left) (holding into.new result) }
 {
     if r.get(1)? == 0 {
         return Ok(());
@@ -43,7 +43,7 @@ fn read_arrays(r: &mut Reader, into: &mut PlayerState) -> Result<(), ReadError>
 
 /// Reads each array over the one that stands there.
 fn read_each(r: &mut Reader, into: &mut PlayerState) -> Result<(), ReadError>
-    ensures { Reads r.old r.new (each_after r.old.words into.old r.old.left) (holding into.new result) }
+    ensures { Reads r.old r.new (all_arrays_at r.old.words into.old r.old.left) (holding into.new result) }
 {
     read_shorts(r, &mut into.stats)?;
     read_shorts(r, &mut into.persistant)?;
@@ -52,9 +52,9 @@ fn read_each(r: &mut Reader, into: &mut PlayerState) -> Result<(), ReadError>
 }
 
 /// Reads an array of signed values over those that stand there.
-#[tactic(auto, unfolding(crate::specs::Delta::shorts_after))]
+#[tactic(auto, unfolding(crate::specs::Delta::shorts_at))]
 fn read_shorts(r: &mut Reader, values: &mut [i16; 16]) -> Result<(), ReadError>
-    ensures { Reads r.old r.new (shorts_after r.old.words values.old r.old.left) (holding values.new result) }
+    ensures { Reads r.old r.new (shorts_at r.old.words values.old r.old.left) (holding values.new result) }
 {
     let mut words = patterns(values);
     read_array(r, Kind::Signed(16), &mut words)?;
@@ -63,10 +63,10 @@ fn read_shorts(r: &mut Reader, values: &mut [i16; 16]) -> Result<(), ReadError>
 }
 
 /// Reads an array over the one that stands there: a mark, and behind a mark of change the mask and the values.
-#[tactic(auto, using(crate::proofs::PlacesRead::places_after_none), unfolding(crate::specs::Delta::array_after))]
+#[tactic(auto, using(crate::proofs::PlacesRead::places_after_none), unfolding(crate::specs::Delta::array_at))]
 fn read_array(r: &mut Reader, kind: Kind, values: &mut [u32; 16]) -> Result<(), ReadError>
     requires { IsKind kind }
-    ensures { Reads r.old r.new (array_after r.old.words kind values.old r.old.left) (holding values.new result) }
+    ensures { Reads r.old r.new (array_at r.old.words kind values.old r.old.left) (holding values.new result) }
 {
     if r.get(1)? == 0 {
         return Ok(());
@@ -83,7 +83,7 @@ fn read_values(
     values: &mut [u32; 16],
 ) -> Result<(), ReadError>
     requires { IsKind kind }
-    ensures { Reads r.old r.new (places_after r.old.words kind mask values.old r.old.left) (holding values.new result) }
+    ensures { Reads r.old r.new (values_at r.old.words kind mask values.old r.old.left) (holding values.new result) }
 {
     laws::lists_are_read();
     for k in 0..16 {
@@ -93,10 +93,10 @@ fn read_values(
 }
 
 /// Reads the value of a place whose bit, the mask's next, is 1.
-#[tactic(auto, unfolding(crate::specs::Delta::place_after))]
+#[tactic(auto, unfolding(crate::specs::Delta::value_at))]
 fn read_place(r: &mut Reader, kind: Kind, mask: u32, from: u32) -> Result<u32, ReadError>
     requires { IsKind kind }
-    ensures { Reads r.old r.new (place_after r.old.words kind mask from r.old.left) result }
+    ensures { Reads r.old r.new (value_at r.old.words kind mask from r.old.left) result }
 {
     if mask % 2 == 1 {
         return read_player_field(r, kind);

@@ -6,7 +6,7 @@ ghost use Rattle.q3_bits.specs.Streams.{Writes};
 ghost use Rattle.q3_fields.specs.Kinds.{IsKind};
 ghost use Rattle.q3_player.specs.State.{patterns_of};
 ghost use Rattle.q3_player.specs.Arrays.{changes, mask_of, player_changes};
-ghost use Rattle.q3_player.specs.Delta.{is_empty, values_text, array_text, arrays_text, player_delta};
+ghost use Rattle.q3_player.specs.Delta.{is_empty, values_bits, array_bits, arrays_bits, player_delta};
 
 use crate::state::{PlayerState, patterns};
 use q3_bits::{Overflow, Writer, laws};
@@ -31,9 +31,9 @@ pub fn write_player(
 }
 
 /// Writes a mark for all arrays, and behind a mark of change each of them.
-#[tactic(auto, unfolding(crate::specs::Delta::arrays_text))]
+#[tactic(auto, unfolding(crate::specs::Delta::arrays_bits))]
 fn write_arrays(w: &mut Writer, from: &PlayerState, to: &PlayerState) -> Result<(), Overflow>
-    ensures { Writes w.old w.new (arrays_text w.old.words (player_changes from.now to.now)) result }
+    ensures { Writes w.old w.new (arrays_bits w.old.words (player_changes from.now to.now)) result }
 {
     laws::texts_are_written();
     if same_arrays(from, to) {
@@ -45,7 +45,7 @@ fn write_arrays(w: &mut Writer, from: &PlayerState, to: &PlayerState) -> Result<
 
 /// Writes each array.
 fn write_each(w: &mut Writer, from: &PlayerState, to: &PlayerState) -> Result<(), Overflow>
-    ensures { Writes w.old w.new (flat_map (λ array. array_text w.old.words array.0 array.1) (player_changes from.now to.now)) result }
+    ensures { Writes w.old w.new (flat_map (λ array. array_bits w.old.words array.0 array.1) (player_changes from.now to.now)) result }
 {
     laws::texts_are_written();
     write_shorts(w, &from.stats, &to.stats)?;
@@ -86,7 +86,7 @@ fn same_words(from: &[u32; 16], to: &[u32; 16]) -> bool
 
 /// Writes an array of signed values.
 fn write_shorts(w: &mut Writer, from: &[i16; 16], to: &[i16; 16]) -> Result<(), Overflow>
-    ensures { Writes w.old w.new (array_text w.old.words (Kind.Signed 16) (changes (patterns_of from.now) (patterns_of to.now))) result }
+    ensures { Writes w.old w.new (array_bits w.old.words (Kind.Signed 16) (changes (patterns_of from.now) (patterns_of to.now))) result }
 {
     write_array(w, Kind::Signed(16), &patterns(from), &patterns(to))
 }
@@ -94,7 +94,7 @@ fn write_shorts(w: &mut Writer, from: &[i16; 16], to: &[i16; 16]) -> Result<(), 
 /// Writes a mark, and behind a mark of change the mask of the places that changed and their values.
 fn write_array(w: &mut Writer, kind: Kind, from: &[u32; 16], to: &[u32; 16]) -> Result<(), Overflow>
     requires { IsKind kind }
-    ensures { Writes w.old w.new (array_text w.old.words kind (changes from.now to.now)) result }
+    ensures { Writes w.old w.new (array_bits w.old.words kind (changes from.now to.now)) result }
 {
     laws::texts_are_written();
     let mask = changed_mask(from, to);
@@ -127,7 +127,7 @@ fn write_values(
     to: &[u32; 16],
 ) -> Result<(), Overflow>
     requires { IsKind kind }
-    ensures { Writes w.old w.new (values_text w.old.words kind (changes from.now to.now)) result }
+    ensures { Writes w.old w.new (values_bits w.old.words kind (changes from.now to.now)) result }
 {
     laws::texts_are_written();
     // what stands there fits the room
@@ -141,7 +141,7 @@ fn write_values(
 /// Writes the value of a place that changed, and nothing else.
 fn write_place(w: &mut Writer, kind: Kind, from: u32, to: u32) -> Result<(), Overflow>
     requires { IsKind kind }
-    ensures { Writes w.old w.new (values_text w.old.words kind (changes (from ∷ []) (to ∷ []))) result }
+    ensures { Writes w.old w.new (values_bits w.old.words kind (changes (from ∷ []) (to ∷ []))) result }
 {
     laws::texts_are_written();
     if from == to {

@@ -16,8 +16,8 @@ use Rattle.q3_gamestate.specs.Texts.{gamestate_bits}
 use Rattle.q3_gamestate.specs.Laws.{IsGamestate}
 use Rattle.q3_svmsg.specs.declared.error.Illegible.{Illegible}
 use Rattle.q3_svmsg.specs.Values.{Context, Game, Message}
-use Rattle.q3_svmsg.specs.Texts.{section_bits, message_text}
-use Rattle.q3_svmsg.specs.Reading.{message_after, message_at}
+use Rattle.q3_svmsg.specs.Texts.{section_bits, server_message_bits}
+use Rattle.q3_svmsg.specs.Reading.{server_message_at, message_at}
 use Rattle.q3_svmsg.specs.Laws.{IsContext, WrittenIsRead}
 use Rattle.q3_clstate.specs.State.{AppliedState, Application, new_state, context_of, apply_read, apply_at}
 use Rattle.q3_clstate.specs.Standing.{IsApplied}
@@ -59,13 +59,13 @@ value_of read = read >>= λ one. Ok one.0
 
 -- what is read of bits, whatever is behind them, is read of their bytes
 pub bytes_read : MessageHoldsBits → (profile : Profile) (context : Context) (number : ℕ) (bits : List Bool) (bytes : List ℕ) (message : Message) → composed bits ≡ Some bytes
-    → ((rest : List Bool) → message_after profile context number (bits ++ rest) ≡ Ok (message, rest))
+    → ((rest : List Bool) → server_message_at profile context number (bits ++ rest) ≡ Ok (message, rest))
     → message_at profile context number (bits_of bytes) ≡ Ok message
 bytes_read holds profile context number bits bytes message e read =
     let zeros = replicate (8 * message_length (length bits) - length bits) false in
     let is = is_composed bits bytes e in
-    ap (λ (xs : List ℕ). value_of (message_after profile context number (bits_of xs))) (sym is.bytes_are)
-    ∙ (ap (λ (bs : List Bool). value_of (message_after profile context number bs)) (holds bits)
+    ap (λ (xs : List ℕ). value_of (server_message_at profile context number (bits_of xs))) (sym is.bytes_are)
+    ∙ (ap (λ (bs : List Bool). value_of (server_message_at profile context number bs)) (holds bits)
     ∙ ap value_of (read zeros))
 
 -- ---- a gamestate
@@ -93,8 +93,8 @@ told_is_gamestate state is id = record {
 
 -- its text doesn't tell a pending text
 pending_untold : (profile : Profile) (lines : Lines) (issued : ℕ) (state : AppliedState)
-    → message_text profile lines None (game_message issued (game_in state)) ≡ message_text profile lines None (game_message issued (told_in state))
-unfolding message_text section_bits gamestate_bits
+    → server_message_bits profile lines None (game_message issued (game_in state)) ≡ server_message_bits profile lines None (game_message issued (told_in state))
+unfolding server_message_bits section_bits gamestate_bits
 pending_untold profile lines issued state = refl
 
 new_context : ApplyStays → AppliedIsContext → (state : AppliedState) → IsApplied state → IsContext state.profile (context_of (new_state state.profile).held no_lines)
@@ -113,8 +113,8 @@ told_applies read holds stays contexts state issued number bytes is id fits e =
     let context = context_of new.held no_lines in
     let message = game_message issued (told_in state) in
     let text = game_bits state issued in
-    let again : (rest : List Bool) → message_after profile context number (text ++ rest) ≡ Ok (message, rest) = λ rest.
-    ap (λ (bits : List Bool). message_after profile context number (bits ++ rest)) (pending_untold profile no_lines issued state)
+    let again : (rest : List Bool) → server_message_at profile context number (text ++ rest) ≡ Ok (message, rest) = λ rest.
+    ap (λ (bits : List Bool). server_message_at profile context number (bits ++ rest)) (pending_untold profile no_lines issued state)
     ∙ read profile context number message rest is.profile (new_context stays contexts state is)
     (record { ack = fits; few = omega arith; commands = All-nil IsCommand; section = told_is_gamestate state is id; number_is = tt }) in
     let at : message_at profile context number (bits_of bytes) ≡ Ok message = bytes_read holds profile context number text bytes message e again in

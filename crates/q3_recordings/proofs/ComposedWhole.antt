@@ -12,7 +12,7 @@ use Rattle.q3_bits.specs.declared.reader.ReadError.{ReadError}
 use Rattle.q3_text.specs.declared.text.Command.{Command}
 use Rattle.q3_strings.specs.declared.error.OperationError.{OperationError}
 use Rattle.q3_strings.specs.declared.error.OperationError.TheVariants as operations
-use Rattle.q3_strings.specs.Operations.{Row, row_after, ending_after}
+use Rattle.q3_strings.specs.Operations.{Row, row_at, ending_at}
 use Rattle.q3_fields.specs.Kinds.{Layout}
 use Rattle.q3_player.specs.declared.head.SnapHead.{SnapHead}
 use Rattle.q3_player.specs.declared.state.PlayerState.{PlayerState}
@@ -25,8 +25,8 @@ use Rattle.q3_svmsg.specs.declared.error.Illegible.{Illegible}
 use Rattle.q3_svmsg.specs.declared.error.Illegible.TheVariants.{Bits, BadOp}
 use Rattle.q3_svmsg.specs.Values as told
 use Rattle.q3_svmsg.specs.Values.{Context, Told, Snap, Message}
-use Rattle.q3_svmsg.specs.Texts.{message_text}
-use Rattle.q3_svmsg.specs.Reading.{field_read, operation_error, game_after, section_after, ended_after, rest_after, operations_after, message_after, message_at}
+use Rattle.q3_svmsg.specs.Texts.{server_message_bits}
+use Rattle.q3_svmsg.specs.Reading.{field_read, operation_error, game_at, section_at, ended_at, rest_at, operations_at, server_message_at, message_at}
 use Rattle.q3_svmsg.specs.Laws.{IsContext, IsRead, IsReadTold, IsMessage, WrittenIsRead, ReadIsSpelled, normal_told}
 use Rattle.q3_ring.specs.Snapshot.{Snapshot}
 use Rattle.q3_rings.specs.declared.rings.NoBase.{NoBase}
@@ -62,11 +62,11 @@ bad_op operation = Err (BadOp operation)
 none_read : (operation : ℕ) (read : Message × List Bool) → bad_op operation ≡ read_so read → ⊥
 none_read operation read e = absurd cc
 
-ended_keeps : (words : List (List Bool)) (message : Message) (section : Told × List Bool) (read : Message × List Bool) → ended_after words message section ≡ Ok read
+ended_keeps : (words : List (List Bool)) (message : Message) (section : Told × List Bool) (read : Message × List Bool) → ended_at words message section ≡ Ok read
     → KeepsFront message.ack message.commands read.0
-unfolding ended_after
+unfolding ended_at
 ended_keeps words message section read e =
-    let found = bind_ok (fault_as operation_error (ending_after words 8 (length section.1) section.1)) (λ (ending : Unit {0} × List Bool). read_so (record message { section = section.0 }, ending.1)) read e in
+    let found = bind_ok (fault_as operation_error (ending_at words 8 (length section.1) section.1)) (λ (ending : Unit {0} × List Bool). read_so (record message { section = section.0 }, ending.1)) read e in
     subst (λ (one : Message × List Bool). KeepsFront message.ack message.commands one.0) (same_read (record message { section = section.0 }, found.0.1) read found.2) (record { ack_is = refl; commands_are = refl })
 
 -- where a message is read, it keeps its front
@@ -74,51 +74,51 @@ abbrev Keeps : Message → (Message × List Bool) → Read → Type 0
 Keeps message read r = r ≡ Ok read → KeepsFront message.ack message.commands read.0
 
 abbrev ends_with : List (List Bool) → Message → Result (Told × List Bool) Illegible → Read
-ends_with words message section = section >>= λ one. ended_after words message one
+ends_with words message section = section >>= λ one. ended_at words message one
 
 ends_keeps : (words : List (List Bool)) (message : Message) (section : Result (Told × List Bool) Illegible) (read : Message × List Bool) → Keeps message read (ends_with words message section)
 ends_keeps words message section read e =
-    let found = bind_ok section (λ (one : Told × List Bool). ended_after words message one) read e in
+    let found = bind_ok section (λ (one : Told × List Bool). ended_at words message one) read e in
     ended_keeps words message found.0 read found.2
 
 rest_keeps : (profile : Profile) (context : Context) (number operation : ℕ) (message : Message) (bits : List Bool) (read : Message × List Bool)
-    → Keeps message read (rest_after profile context number operation message bits)
-unfolding rest_after
+    → Keeps message read (rest_at profile context number operation message bits)
+unfolding rest_at
 rest_keeps profile context number operation message bits read =
-    let snap = ends_with profile.code message (section_after profile context number bits) in
-    let game = ends_with profile.code message (game_after profile bits) in
+    let snap = ends_with profile.code message (section_at profile context number bits) in
+    let game = ends_with profile.code message (game_at profile bits) in
     let bad : Read = Err (BadOp operation) in
     let whole : Read = Ok (message, bits) in
     cond_both (operation == 8) whole (if operation == 2 then game else if operation == 7 then snap else bad) (Keeps message read)
     (λ end e. subst (λ (one : Message × List Bool). KeepsFront message.ack message.commands one.0) (same_read (message, bits) read e) (record { ack_is = refl; commands_are = refl }))
     (λ other. cond_both (operation == 2) game (if operation == 7 then snap else bad) (Keeps message read)
-    (λ is. ends_keeps profile.code message (game_after profile bits) read)
+    (λ is. ends_keeps profile.code message (game_at profile bits) read)
     (λ none. cond_both (operation == 7) snap bad (Keeps message read)
-    (λ is. ends_keeps profile.code message (section_after profile context number bits) read)
+    (λ is. ends_keeps profile.code message (section_at profile context number bits) read)
     (λ nothing e. absurd (none_read operation read e))))
 
 abbrev front_with : ℕ → Row × List Bool → Result Front OperationError
 front_with ack row = Ok (record { ack = ack; commands = row.0.commands })
 
 abbrev front_behind : List (List Bool) → ℕ × List Bool → Result Front OperationError
-front_behind words ack = row_after words 5 (length ack.1) [] ack.1 >>= front_with ack.0
+front_behind words ack = row_at words 5 (length ack.1) [] ack.1 >>= front_with ack.0
 
 -- the row of commands behind the leading long, and what the message keeps of both
 record ReadRow (profile : Profile) (ack : ℕ) (bits : List Bool) (message : Message) : Type 0 where
   row : Row × List Bool
-  by : row_after profile.code 5 (length bits) [] bits ≡ Ok row
+  by : row_at profile.code 5 (length bits) [] bits ≡ Ok row
   keeps : KeepsFront ack row.0.commands message
 
 row_read : (profile : Profile) (context : Context) (number : ℕ) (ack : ℕ) (bits : List Bool) (read : Message × List Bool)
-    → operations_after profile context number (record { ack = ack; commands = []; section = told.Nothing }) bits ≡ Ok read
+    → operations_at profile context number (record { ack = ack; commands = []; section = told.Nothing }) bits ≡ Ok read
     → ReadRow profile ack bits read.0
-unfolding operations_after
+unfolding operations_at
 row_read profile context number ack bits read e =
-    let found = bind_ok (fault_as operation_error (row_after profile.code 5 (length bits) [] bits))
-    (λ (row : Row × List Bool). rest_after profile context number row.0.operation (record { ack = ack; commands = row.0.commands; section = told.Nothing }) row.1) read e in
+    let found = bind_ok (fault_as operation_error (row_at profile.code 5 (length bits) [] bits))
+    (λ (row : Row × List Bool). rest_at profile context number row.0.operation (record { ack = ack; commands = row.0.commands; section = told.Nothing }) row.1) read e in
     record {
       row = found.0;
-      by = map_err_ok operation_error (row_after profile.code 5 (length bits) [] bits) found.0 found.1;
+      by = map_err_ok operation_error (row_at profile.code 5 (length bits) [] bits) found.0 found.1;
       keeps = rest_keeps profile context number found.0.0.operation (record { ack = ack; commands = found.0.0.commands; section = told.Nothing }) found.0.1 read found.2;
     }
 
@@ -134,12 +134,12 @@ front_kept ack commands message keeps =
     ap (λ (n : ℕ). fronted_as (record { ack = n; commands = commands })) (sym keeps.ack_is)
     ∙ ap (λ (cs : List Command). fronted_as (record { ack = message.ack; commands = cs })) (sym keeps.commands_are)
 
-front_read : (profile : Profile) (context : Context) (number : ℕ) (bits : List Bool) (read : Message × List Bool) → message_after profile context number bits ≡ Ok read
+front_read : (profile : Profile) (context : Context) (number : ℕ) (bits : List Bool) (read : Message × List Bool) → server_message_at profile context number bits ≡ Ok read
     → (fault_as operations.Bits (field_at profile.code 32 bits) >>= front_behind profile.code) ≡ Ok (front_of read.0)
-unfolding message_after
+unfolding server_message_at
 front_read profile context number bits read e =
     let found = bind_ok (field_read profile.code 32 bits)
-    (λ (ack : ℕ × List Bool). operations_after profile context number (record { ack = ack.0; commands = []; section = told.Nothing }) ack.1) read e in
+    (λ (ack : ℕ × List Bool). operations_at profile context number (record { ack = ack.0; commands = []; section = told.Nothing }) ack.1) read e in
     let ack = found.0 in
     let field = map_err_ok Bits (field_at profile.code 32 bits) ack found.1 in
     let row = row_read profile context number ack.0 ack.1 read found.2 in
@@ -148,7 +148,7 @@ front_read profile context number bits read e =
     ∙ front_kept ack.0 row.row.0.commands read.0 row.keeps)
 
 -- the front of a message that was read is that of its value
-pub front_is : (profile : Profile) (context : Context) (number : ℕ) (message : List ℕ) (read : Message × List Bool) → message_after profile context number (bits_of message) ≡ Ok read
+pub front_is : (profile : Profile) (context : Context) (number : ℕ) (message : List ℕ) (read : Message × List Bool) → server_message_at profile context number (bits_of message) ≡ Ok read
     → front_at profile.code message ≡ Ok (front_of read.0)
 front_is profile context number message read e = front_read profile context number (bits_of message) read e
 
@@ -196,11 +196,11 @@ read_does state number message applied read e by =
 
 -- what is left of a message that was read
 behind_read : (profile : Profile) (context : Context) (number : ℕ) (bits : List Bool) (read : Message) → message_at profile context number bits ≡ Ok read
-    → (rest : List Bool) × (message_after profile context number bits ≡ Ok (read, rest))
+    → (rest : List Bool) × (server_message_at profile context number bits ≡ Ok (read, rest))
 behind_read profile context number bits read e =
-    let found = bind_ok (message_after profile context number bits) (λ (one : Message × List Bool). message_as one.0) read e in
+    let found = bind_ok (server_message_at profile context number bits) (λ (one : Message × List Bool). message_as one.0) read e in
     let same = same_message found.0.0 read found.2 in
-    (found.0.1, subst (λ (m : Message). message_after profile context number bits ≡ Ok (m, found.0.1)) same found.1)
+    (found.0.1, subst (λ (m : Message). server_message_at profile context number bits ≡ Ok (m, found.0.1)) same found.1)
 
 some_message : (one other : Message) → Some one ≡ Some other → one ≡ other
 some_message one other e = cc
@@ -284,12 +284,12 @@ whole_is_normal profile context base snapshot is =
 
 whole_is_read : WrittenIsRead → MessageHoldsBits → (profile : Profile) (context other : Context) (number base : ℕ) (snapshot : Snapshot) (read : Message) (bytes : List ℕ) → IsCodec profile
     → IsContext profile other → IsRead profile context number read → read.section ≡ Snap base snapshot.head snapshot.entities
-    → composed (message_text profile other.lines None (whole_message (front_of read) snapshot)) ≡ Some bytes
+    → composed (server_message_bits profile other.lines None (whole_message (front_of read) snapshot)) ≡ Some bytes
     → message_at profile other number (bits_of bytes) ≡ Ok (whole_message (front_of read) snapshot)
 whole_is_read written holds profile context other number base snapshot read bytes codec is_context is section e =
     let whole = whole_message (front_of read) snapshot in
     let as_snap = subst (λ (s : Told). IsReadTold profile context s) section is.section in
-    bytes_read holds profile other number (message_text profile other.lines None whole) bytes whole e
+    bytes_read holds profile other number (server_message_bits profile other.lines None whole) bytes whole e
     (λ rest. written profile other number whole rest codec is_context (whole_is_message profile context other number base snapshot read is section)
     ∙ ap (λ (s : Told). with_rest (record whole { section = s }) rest) (whole_is_normal profile context base snapshot as_snap))
   where
@@ -308,10 +308,10 @@ whole_applies written spelled holds accepted contexts noted is read by base head
     let is_whole = is_whole_message spelled accepted contexts noted is read by base snapshot section took message whole in
     let context = context_of noted.before.held noted.before.lines in
     let other = context_of play.held play.lines in
-    let text : whole_bits noted.applied.state message ≡ message_text play.profile play.lines None (whole_message (front_of read) snapshot) =
-    ap (λ (m : Message). message_text noted.applied.state.profile noted.applied.state.lines None m) is_whole.message_is
-    ∙ (ap (λ (p : Profile). message_text p noted.applied.state.lines None (whole_message (front_of read) snapshot)) (is_whole.profile_is ∙ sym same_profile)
-    ∙ ap (λ (l : Lines). message_text play.profile l None (whole_message (front_of read) snapshot)) (is_whole.lines_are ∙ sym same_lines)) in
+    let text : whole_bits noted.applied.state message ≡ server_message_bits play.profile play.lines None (whole_message (front_of read) snapshot) =
+    ap (λ (m : Message). server_message_bits noted.applied.state.profile noted.applied.state.lines None m) is_whole.message_is
+    ∙ (ap (λ (p : Profile). server_message_bits p noted.applied.state.lines None (whole_message (front_of read) snapshot)) (is_whole.profile_is ∙ sym same_profile)
+    ∙ ap (λ (l : Lines). server_message_bits play.profile l None (whole_message (front_of read) snapshot)) (is_whole.lines_are ∙ sym same_lines)) in
     whole_is_read written holds play.profile context other number base snapshot read bytes
     (subst (λ (p : Profile). IsCodec p) (sym same_profile) is.stands.profile) is_context
     (subst (λ (p : Profile). IsRead p context number read) (sym same_profile) is_whole.fits) section

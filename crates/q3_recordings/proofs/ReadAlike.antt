@@ -10,7 +10,7 @@ use Rattle.q3_entity.specs.Spelling.{SpellsList}
 use Rattle.q3_profile.specs.declared.profile.Profile.{Profile}
 use Rattle.q3_profile.specs.Profile.{IsCodec}
 use Rattle.q3_svmsg.specs.Values.{Base, base_from, base_player, base_entities, Context, Told, Nothing, Game, Snap, Skipped, Message}
-use Rattle.q3_svmsg.specs.Reading.{held_base, message_after, message_at}
+use Rattle.q3_svmsg.specs.Reading.{held_base, server_message_at, message_at}
 use Rattle.q3_svmsg.specs.Spelling.{SpellsSnapshot, SpellsSkippedSnapshot, SpellsSection, SpellsMessage}
 use Rattle.q3_svmsg.specs.Laws.{IsContext, IsReadTold, IsRead, ReadIsSpelled, SpelledIsRead}
 use Rattle.q3_ring.specs.Snapshot.{Snapshot}
@@ -85,12 +85,12 @@ message_alike profile context other number message bits lines same s = record {
 -- a message's value, and what is behind its end
 record WasRead (profile : Profile) (context : Context) (number : ℕ) (message : Message) (bits : List Bool) : Type 0 where
   rest : List Bool
-  read : message_after profile context number bits ≡ Ok (message, rest)
+  read : server_message_at profile context number bits ≡ Ok (message, rest)
 
 was_read : (profile : Profile) (context : Context) (number : ℕ) (message : Message) (bits : List Bool) → message_at profile context number bits ≡ Ok message
     → WasRead profile context number message bits
 was_read profile context number message bits e =
-    let found = bind_ok (message_after profile context number bits) (λ read. Ok read.0) message e in
+    let found = bind_ok (server_message_at profile context number bits) (λ read. Ok read.0) message e in
     let is : found.0.0 ≡ message = cc in
     record { rest = found.0.1; read = found.1 ∙ ap (λ (message : Message). Ok (message, found.0.1)) is }
 
@@ -109,7 +109,7 @@ read_alike spelled is_read profile context other number message bits codec is is
     let was = was_read profile context number message bits e in
     let found = spelled profile context number message bits was.rest codec is was.read in
     let again = is_read profile other number message found.1 was.rest codec is' (message_alike profile context other number message found.1 lines same found.3) in
-    let there : message_after profile other number bits ≡ Ok (message, was.rest) = ap (λ (bits : List Bool). message_after profile other number bits) found.2 ∙ again in
+    let there : server_message_at profile other number bits ≡ Ok (message, was.rest) = ap (λ (bits : List Bool). server_message_at profile other number bits) found.2 ∙ again in
     ap (λ r. r >>= λ read. Ok read.0) there
 
 -- ---- what a recording holds while it plays

@@ -5,7 +5,7 @@ use Rattle.q3_bits.specs.Words.{IsCode, row_bits}
 use Rattle.q3_bits.specs.Laws.{PutIsRead}
 use Rattle.q3_text.specs.declared.text.Command.{Command}
 use Rattle.q3_strings.specs.Commands.{nops_bits, SpellsCommands}
-use Rattle.q3_strings.specs.Operations.{row_after, ending_after}
+use Rattle.q3_strings.specs.Operations.{row_at, ending_at}
 use Rattle.q3_strings.specs.Rows.{row-none, row-first, row-last}
 use Rattle.q3_strings.specs.Laws.{CommandSpelledIsRead, TurnsAreTaken, RowSpelledIsRead, EndingSpelledIsRead}
 use Rattle.q3_strings.proofs.OperationTurns.{ending_done, ending_nop, row_nop, row_done, row_command}
@@ -16,13 +16,13 @@ use Rattle.q3_strings.proofs.CommandRows.{more_is_read}
 module _ (put : PutIsRead) (turns_law : TurnsAreTaken) (words : List (List Bool)) (code : IsCode words) (end : ℕ) (not_nop : end ≢ 1) (fits : end < 256) where
   -- nops, and the end
   ending_read : (count turns : ℕ) (rest : List Bool) → length (nops_bits words count ++ (row_bits words ((end, 8) ∷ []) ++ rest)) ≤ turns
-      → ending_after words end turns (nops_bits words count ++ (row_bits words ((end, 8) ∷ []) ++ rest)) ≡ Ok (tt, rest)
+      → ending_at words end turns (nops_bits words count ++ (row_bits words ((end, 8) ∷ []) ++ rest)) ≡ Ok (tt, rest)
   ending_read zero turns rest enough =
       let bits = row_bits words ((end, 8) ∷ []) ++ rest in
       let same : nops_bits words 0 ++ bits ≡ bits = sym (row-none words bits) in
       let read = sym (row-last words code put end 8 rest fits) in
       let one = turns_law.turn words bits rest end turns code read (omega (arith, enough, ap length same)) in
-      ap (λ (bits : List Bool). ending_after words end turns bits) same ∙ ending_done words end bits rest end turns one.left read one.is (eq-eqb end end refl)
+      ap (λ (bits : List Bool). ending_at words end turns bits) same ∙ ending_done words end bits rest end turns one.left read one.is (eq-eqb end end refl)
   ending_read (suc count) turns rest enough =
       let behind = row_bits words ((end, 8) ∷ []) ++ rest in
       let left = nops_bits words count ++ behind in
@@ -35,7 +35,7 @@ pub ending_is_read : PutIsRead → TurnsAreTaken → EndingSpelledIsRead
 ending_is_read put turns_law words end most text rest code (nops, are_nops, whole) not_nop fits enough =
     let last = row_bits words ((end, 8) ∷ []) in
     let same : text ++ rest ≡ nops_bits words are_nops.0 ++ (last ++ rest) = rw (whole, are_nops.1) (append_assoc (nops_bits words are_nops.0) last rest) in
-    ap (λ (bits : List Bool). ending_after words end most bits) same
+    ap (λ (bits : List Bool). ending_at words end most bits) same
     ∙ ending_read put turns_law words code end not_nop fits are_nops.0 most rest (omega (arith, enough, ap length same))
 
 -- ---- a row
@@ -45,14 +45,14 @@ module _ (put : PutIsRead) (turns_law : TurnsAreTaken) (command_law : CommandSpe
   record HasRest (turns : ℕ) (commands after : List Command) (bits rest : List Bool) : Type 0 where
     left : ℕ
     enough : length rest ≤ left
-    is : row_after words command turns commands bits ≡ row_after words command left after rest
+    is : row_at words command turns commands bits ≡ row_at words command left after rest
 
   -- nops
   nops_are_read : (count turns : ℕ) (commands : List Command) (rest : List Bool) → length (nops_bits words count ++ rest) ≤ turns
       → HasRest turns commands commands (nops_bits words count ++ rest) rest
   nops_are_read zero turns commands rest enough =
       let same : nops_bits words 0 ++ rest ≡ rest = sym (row-none words rest) in
-      record { left = turns; enough = omega (arith, enough, ap length same); is = ap (λ (bits : List Bool). row_after words command turns commands bits) same }
+      record { left = turns; enough = omega (arith, enough, ap length same); is = ap (λ (bits : List Bool). row_at words command turns commands bits) same }
   nops_are_read (suc count) turns commands rest enough =
       let left = nops_bits words count ++ rest in
       let bits = nops_bits words (suc count) ++ rest in
@@ -68,8 +68,8 @@ module _ (put : PutIsRead) (turns_law : TurnsAreTaken) (command_law : CommandSpe
     left = turns;
     enough = omega (arith, enough, length-append text rest);
     is =
-        ap (λ (text : List Bool). row_after words command turns commands (text ++ rest)) s
-        ∙ ap (λ (all : List Command). row_after words command turns all rest) (sym (append-nil commands));
+        ap (λ (text : List Bool). row_at words command turns commands (text ++ rest)) s
+        ∙ ap (λ (all : List Command). row_at words command turns all rest) (sym (append-nil commands));
   }
   commands_are_read (first ∷ added) turns commands text rest (before, spelled, others, whole, are_nops, of_command, of_others) few enough =
       let count = are_nops.0 in
@@ -87,8 +87,8 @@ module _ (put : PutIsRead) (turns_law : TurnsAreTaken) (command_law : CommandSpe
       record {
         left = more.left;
         enough = more.enough;
-        is = ap (λ (bits : List Bool). row_after words command turns commands bits) same ∙ over.is ∙ step ∙ more.is
-            ∙ ap (λ (all : List Command). row_after words command more.left all rest) (append_assoc commands (first ∷ []) added);
+        is = ap (λ (bits : List Bool). row_at words command turns commands bits) same ∙ over.is ∙ step ∙ more.is
+            ∙ ap (λ (all : List Command). row_at words command more.left all rest) (append_assoc commands (first ∷ []) added);
       }
 
 pub row_is_read : PutIsRead → TurnsAreTaken → CommandSpelledIsRead → RowSpelledIsRead
@@ -100,5 +100,5 @@ row_is_read put turns_law command_law words command operation most commands adde
     let nops_over = nops_are_read put turns_law command_law words code command not_nop fits s.of_nops.0 commands_over.left (commands ++ added) last commands_over.enough in
     let read = sym (row-last words code put operation 8 rest s.byte) in
     let one = turns_law.turn words last rest operation nops_over.left code read nops_over.enough in
-    ap (λ (bits : List Bool). row_after words command most commands bits) same ∙ commands_over.is ∙ nops_over.is
+    ap (λ (bits : List Bool). row_at words command most commands bits) same ∙ commands_over.is ∙ nops_over.is
     ∙ row_done words command (commands ++ added) last rest operation nops_over.left one.left read one.is (ne_eqb operation 1 s.not_nop) (ne_eqb operation command s.not_command)

@@ -10,7 +10,7 @@ use Rattle.q3_bits.specs.Laws.{ReadWasPut}
 use Rattle.q3_text.specs.declared.text.Command.{Command}
 use Rattle.q3_strings.specs.declared.error.OperationError.TheVariants.{Bits, BadOp}
 use Rattle.q3_strings.specs.Commands.{nops_bits, SpellsCommands}
-use Rattle.q3_strings.specs.Operations.{Row, commands_after, row_after, ending_after}
+use Rattle.q3_strings.specs.Operations.{Row, commands_at, row_at, ending_at}
 use Rattle.q3_strings.specs.Rows.{row-none, row-empty, field_was_put}
 use Rattle.q3_strings.specs.Laws.{IsCommand, CommandReadIsSpelled, NopIsSpelled, RowReadIsSpelled, EndingReadIsSpelled}
 use Rattle.q3_strings.proofs.CommandRows.{ReadMore, more_was_spelled}
@@ -98,14 +98,14 @@ module _ (words : List (List Bool)) (command : ℕ) (commands : List Command) (b
       }
 
 module _ (put : ReadWasPut) (command_law : CommandReadIsSpelled) (nop_law : NopIsSpelled) (words : List (List Bool)) (code : IsCode words) (command : ℕ) where
-  row_was : (most : ℕ) (commands : List Command) (bits : List Bool) (found : Row × List Bool) → row_after words command most commands bits ≡ Ok found
+  row_was : (most : ℕ) (commands : List Command) (bits : List Bool) (found : Row × List Bool) → row_at words command most commands bits ≡ Ok found
       → ReadRow words command commands bits found
-  unfolding row_after
+  unfolding row_at
   row_was zero commands bits found e = absurd cc
   row_was (suc most) commands bits found e =
-      let on_command = λ (left : List Bool). commands_after words commands left >>= λ more. row_after words command most more.0 more.1 in
+      let on_command = λ (left : List Bool). commands_at words commands left >>= λ more. row_at words command most more.0 more.1 in
       let operation = bind_ok (fault_as Bits (field_at words 8 bits))
-      (λ operation. cond (eqb operation.0 1) (row_after words command most commands operation.1)
+      (λ operation. cond (eqb operation.0 1) (row_at words command most commands operation.1)
       (cond (eqb operation.0 command) (on_command operation.1) (Ok (record { commands = commands; operation = operation.0 }, operation.1)))) found e in
       let left = operation.0.1 in
       let was = field_was_put put words 8 bits operation.0 code (map_err_ok Bits (field_at words 8 bits) operation.0 operation.1) in
@@ -117,7 +117,7 @@ module _ (put : ReadWasPut) (command_law : CommandReadIsSpelled) (nop_law : NopI
             let next = rw other at operation.2 in
             elim (cases_Bool (eqb operation.0.0 command)) [
               | inl same ↦
-                  let more = bind_ok (commands_after words commands left) (λ more. row_after words command most more.0 more.1) found (rw same at next) in
+                  let more = bind_ok (commands_at words commands left) (λ more. row_at words command most more.0 more.1) found (rw same at next) in
                   let read = more_was_spelled command_law words code commands left more.0 more.1 in
                   row_command words command commands bits left more.0 found (front command same) read (row_was most more.0.0 more.0.1 found more.2)
               | inr last ↦
@@ -159,13 +159,13 @@ record ReadEnding (words : List (List Bool)) (end : ℕ) (bits : List Bool) (fou
   count : ℕ
   parts : bits ≡ nops_bits words count ++ (row_bits words ((end, 8) ∷ []) ++ found.1)
 
-ending_was : ReadWasPut → (words : List (List Bool)) → IsCode words → (end most : ℕ) (bits : List Bool) (found : Unit {0} × List Bool) → ending_after words end most bits ≡ Ok found
+ending_was : ReadWasPut → (words : List (List Bool)) → IsCode words → (end most : ℕ) (bits : List Bool) (found : Unit {0} × List Bool) → ending_at words end most bits ≡ Ok found
     → ReadEnding words end bits found
-unfolding ending_after
+unfolding ending_at
 ending_was put words code end zero bits found e = absurd cc
 ending_was put words code end (suc most) bits found e =
     let operation = bind_ok (fault_as Bits (field_at words 8 bits))
-    (λ operation. cond (eqb operation.0 end) (Ok (tt, operation.1)) (cond (eqb operation.0 1) (ending_after words end most operation.1) (Err (BadOp operation.0)))) found e in
+    (λ operation. cond (eqb operation.0 end) (Ok (tt, operation.1)) (cond (eqb operation.0 1) (ending_at words end most operation.1) (Err (BadOp operation.0)))) found e in
     let left = operation.0.1 in
     let was = field_was_put put words 8 bits operation.0 code (map_err_ok Bits (field_at words 8 bits) operation.0 operation.1) in
     elim (cases_Bool (eqb operation.0.0 end)) [

@@ -13,7 +13,7 @@ use Rattle.q3_text.specs.Texts.{most_bytes, translated, IsTextByte}
 use Rattle.q3_strings.specs.declared.error.StringError.{StringError}
 use Rattle.q3_strings.specs.declared.error.StringError.TheVariants.{Bits, Long}
 use Rattle.q3_strings.specs.Texts.{bytes_row, string_bits}
-use Rattle.q3_strings.specs.Reading.{bytes_after, string_after, command_after}
+use Rattle.q3_strings.specs.Reading.{bytes_after, string_after, command_at}
 use Rattle.q3_strings.specs.Spelling.{SpellsString, SpellsCommand}
 use Rattle.q3_strings.specs.Rows.{row-none, WasField, field_was_put, row-first, row-last}
 use Rattle.q3_strings.specs.Laws.{IsCommand, BytesWerePut, BytesAreRead, StringReadIsSpelled, StringSpelledIsRead, CommandReadIsSpelled, CommandSpelledIsRead}
@@ -181,7 +181,7 @@ command_was words bits number string was were =
     }
 
 pub command_was_spelled : ReadWasPut → StringReadIsSpelled → CommandReadIsSpelled
-unfolding command_after
+unfolding command_at
 command_was_spelled put law words command bits rest code e =
     let number = bind_ok (fault_as Bits (field_at words 32 bits)) (λ number. string_after words most_bytes number.1 >>= λ text. Ok (record { number = number.0; text = text.0 }, text.1)) (command, rest) e in
     let string = bind_ok (string_after words most_bytes number.0.1) (λ text. Ok (record { number = number.0.0; text = text.0 }, text.1)) (command, rest) number.2 in
@@ -194,7 +194,7 @@ command_was_spelled put law words command bits rest code e =
     (command_is.is, command_is.text, command_is.parts, command_is.spells)
 
 pub command_is_read : PutIsRead → StringSpelledIsRead → CommandSpelledIsRead
-unfolding command_after
+unfolding command_at
 command_is_read put law words command spelling rest code (text, fits, spelled, whole) =
     let field = row_bits words ((command.number, 32) ∷ []) in
     let same : spelling ++ rest ≡ field ++ (text ++ rest) = ap (λ (bits : List Bool). bits ++ rest) whole ∙ append_assoc field text rest in

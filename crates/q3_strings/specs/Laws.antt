@@ -7,10 +7,10 @@ use Rattle.q3_text.specs.declared.text.Command.{Command}
 use Rattle.q3_text.specs.Commands.{numbered}
 use Rattle.q3_text.specs.Texts.{IsText, IsTextByte}
 use Rattle.q3_strings.specs.Texts.{bytes_row, string_bits, command_bits}
-use Rattle.q3_strings.specs.Reading.{bytes_after, string_after, command_after}
+use Rattle.q3_strings.specs.Reading.{bytes_after, string_after, command_at}
 use Rattle.q3_strings.specs.Spelling.{SpellsString, SpellsCommand}
 use Rattle.q3_strings.specs.Commands.{commands_bits, nops_bits, SpellsNops, SpellsCommands, SpellsRow, SpellsEnding}
-use Rattle.q3_strings.specs.Operations.{Row, row_after, ending_after}
+use Rattle.q3_strings.specs.Operations.{Row, row_at, ending_at}
 use Rattle.q3_strings.specs.Turns.{HasTurn}
 
 -- a command as the program's type holds it
@@ -48,13 +48,13 @@ CommandIsSpelled = (words : List (List Bool)) (command : Command) → IsCommand 
 
 -- what is read as a command was spelled so, and is one that the program's type may hold
 abbrev pub CommandReadIsSpelled : Type 0
-CommandReadIsSpelled = (words : List (List Bool)) (command : Command) (bits rest : List Bool) → IsCode words → command_after words bits ≡ Ok (command, rest)
+CommandReadIsSpelled = (words : List (List Bool)) (command : Command) (bits rest : List Bool) → IsCode words → command_at words bits ≡ Ok (command, rest)
     → IsCommand command × (spelling : List Bool) × (bits ≡ spelling ++ rest) × SpellsCommand words command spelling
 
 -- what is spelled so is read, with whatever follows it
 abbrev pub CommandSpelledIsRead : Type 0
 CommandSpelledIsRead = (words : List (List Bool)) (command : Command) (spelling rest : List Bool) → IsCode words → SpellsCommand words command spelling
-    → command_after words (spelling ++ rest) ≡ Ok (command, rest)
+    → command_at words (spelling ++ rest) ≡ Ok (command, rest)
 
 -- what is written of commands spells them
 abbrev pub CommandsAreSpelled : Type 0
@@ -100,20 +100,20 @@ pub record WasRow (words : List (List Bool)) (command : ℕ) (commands : List Co
 -- what is read as a row was spelled so
 abbrev pub RowReadIsSpelled : Type 0
 RowReadIsSpelled = (words : List (List Bool)) (command most : ℕ) (commands : List Command) (bits : List Bool) (row : Row) (rest : List Bool) → IsCode words
-    → row_after words command most commands bits ≡ Ok (row, rest) → WasRow words command commands bits row rest
+    → row_at words command most commands bits ≡ Ok (row, rest) → WasRow words command commands bits row rest
 
 -- what is spelled so is read, with whatever follows it, where there are no more than 64 commands then
 abbrev pub RowSpelledIsRead : Type 0
 RowSpelledIsRead = (words : List (List Bool)) (command operation most : ℕ) (commands added : List Command) (text rest : List Bool) → IsCode words
     → SpellsRow words command added operation text → command ≢ 1 → command < 256 → length commands + length added ≤ 64 → length (text ++ rest) ≤ most
-    → row_after words command most commands (text ++ rest) ≡ Ok (record { commands = commands ++ added; operation = operation }, rest)
+    → row_at words command most commands (text ++ rest) ≡ Ok (record { commands = commands ++ added; operation = operation }, rest)
 
 -- what is read as an ending was spelled so
 abbrev pub EndingReadIsSpelled : Type 0
-EndingReadIsSpelled = (words : List (List Bool)) (end most : ℕ) (bits rest : List Bool) → IsCode words → ending_after words end most bits ≡ Ok (tt, rest)
+EndingReadIsSpelled = (words : List (List Bool)) (end most : ℕ) (bits rest : List Bool) → IsCode words → ending_at words end most bits ≡ Ok (tt, rest)
     → (text : List Bool) × (bits ≡ text ++ rest) × SpellsEnding words end text
 
 -- what is spelled so is read, with whatever follows it
 abbrev pub EndingSpelledIsRead : Type 0
 EndingSpelledIsRead = (words : List (List Bool)) (end most : ℕ) (text rest : List Bool) → IsCode words → SpellsEnding words end text → end ≢ 1 → end < 256
-    → length (text ++ rest) ≤ most → ending_after words end most (text ++ rest) ≡ Ok (tt, rest)
+    → length (text ++ rest) ≤ most → ending_at words end most (text ++ rest) ≡ Ok (tt, rest)

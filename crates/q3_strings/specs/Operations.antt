@@ -10,7 +10,7 @@ use Rattle.q3_strings.specs.declared.error.StringError.{StringError}
 use Rattle.q3_strings.specs.declared.error.StringError.TheVariants as strings
 use Rattle.q3_strings.specs.declared.error.OperationError.{OperationError}
 use Rattle.q3_strings.specs.declared.error.OperationError.TheVariants.{Bits, BadOp, TextLong, Commands}
-use Rattle.q3_strings.specs.Reading.{command_after}
+use Rattle.q3_strings.specs.Reading.{command_at}
 
 -- a fault of a string, as one of operations
 abbrev pub string_error : StringError → OperationError
@@ -28,29 +28,29 @@ rowed commands (Ok operation) = Ok (record { commands = commands; operation = op
 rowed commands (Err e) = Err e
 
 -- one command more behind its operation, where there are fewer than 64
-unfoldable pub commands_after : List (List Bool) → List Command → List Bool → Result (List Command × List Bool) OperationError
-commands_after words commands bits =
+unfoldable pub commands_at : List (List Bool) → List Command → List Bool → Result (List Command × List Bool) OperationError
+commands_at words commands bits =
     if nat_lt (length commands) most_commands then (do
-      command ← fault_as string_error (command_after words bits)
+      command ← fault_as string_error (command_at words bits)
       Ok (commands ++ command.0 ∷ [], command.1))
     else Err Commands
 
 -- nops and commands, these behind the operation `command`, up to the first other operation; there are at most so many
 -- operations, since each takes a bit
-unfoldable pub row_after : List (List Bool) → ℕ → ℕ → List Command → List Bool → Result (Row × List Bool) OperationError
-row_after words command zero commands bits = Err (Bits End)
-row_after words command (suc most) commands bits = do
+unfoldable pub row_at : List (List Bool) → ℕ → ℕ → List Command → List Bool → Result (Row × List Bool) OperationError
+row_at words command zero commands bits = Err (Bits End)
+row_at words command (suc most) commands bits = do
   operation ← fault_as Bits (field_at words 8 bits)
-  if operation.0 == 1 then row_after words command most commands operation.1 else
+  if operation.0 == 1 then row_at words command most commands operation.1 else
       if operation.0 == command then (do
-        more ← commands_after words commands operation.1
-        row_after words command most more.0 more.1)
+        more ← commands_at words commands operation.1
+        row_at words command most more.0 more.1)
       else Ok (record { commands = commands; operation = operation.0 }, operation.1)
 
 -- behind a message's section: nops, and the operation `end`; there are at most so many operations, since each takes a bit
-unfoldable pub ending_after : List (List Bool) → ℕ → ℕ → List Bool → Result (Unit {0} × List Bool) OperationError
-ending_after words end zero bits = Err (Bits End)
-ending_after words end (suc most) bits = do
+unfoldable pub ending_at : List (List Bool) → ℕ → ℕ → List Bool → Result (Unit {0} × List Bool) OperationError
+ending_at words end zero bits = Err (Bits End)
+ending_at words end (suc most) bits = do
   operation ← fault_as Bits (field_at words 8 bits)
   if operation.0 == end then Ok (tt, operation.1) else
-      if operation.0 == 1 then ending_after words end most operation.1 else Err (BadOp operation.0)
+      if operation.0 == 1 then ending_at words end most operation.1 else Err (BadOp operation.0)

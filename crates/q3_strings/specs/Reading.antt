@@ -28,8 +28,8 @@ string_after words (suc most) bits = do
     Ok (translated byte.0 ∷ others.0, others.1))
 
 -- a command behind its operation
-unfoldable pub command_after : List (List Bool) → List Bool → Result (Command × List Bool) StringError
-command_after words bits = do
+unfoldable pub command_at : List (List Bool) → List Bool → Result (Command × List Bool) StringError
+command_at words bits = do
   number ← fault_as Bits (field_at words 32 bits)
   text ← string_after words most_bytes number.1
   Ok (record { number = number.0; text = text.0 }, text.1)

@@ -5,7 +5,7 @@
 ghost use Rattle.std.specs.Prelude.{◌≡◌, ◌<◌, length, IfOk};
 ghost use Rattle.q3_bits.specs.Words.{IsCode, field_at};
 ghost use Rattle.q3_bits.specs.Streams.{Reads, holding};
-ghost use Rattle.q3_strings.specs.Operations.{rowed, commands_after, row_after, ending_after};
+ghost use Rattle.q3_strings.specs.Operations.{rowed, commands_at, row_at, ending_at};
 
 use crate::error::OperationError;
 use crate::laws;
@@ -27,7 +27,7 @@ pub fn read_row(
     commands: &mut Commands,
 ) -> Result<u32, OperationError>
     requires { IsCode r.old.words }
-    ensures reads { Reads r.old r.new (row_after r.old.words command (length r.old.left) commands.old r.old.left) (rowed commands.new result) }
+    ensures reads { Reads r.old r.new (row_at r.old.words command (length r.old.left) commands.old r.old.left) (rowed commands.new result) }
     ensures byte { IfOk result (λ operation. operation < 256) }
 {
     laws::turns_are_taken();
@@ -54,9 +54,9 @@ fn read_operation(r: &mut Reader) -> Result<u32, ReadError>
 }
 
 /// Reads one command more behind its operation. A 65th is refused before it is read.
-#[tactic(auto, unfolding(crate::specs::Operations::commands_after))]
+#[tactic(auto, unfolding(crate::specs::Operations::commands_at))]
 fn read_next_command(r: &mut Reader, commands: &mut Commands) -> Result<(), OperationError>
-    ensures { Reads r.old r.new (commands_after r.old.words commands.old r.old.left) (holding commands.new result) }
+    ensures { Reads r.old r.new (commands_at r.old.words commands.old r.old.left) (holding commands.new result) }
 {
     if commands.is_full() {
         return Err(OperationError::Commands);
@@ -69,7 +69,7 @@ fn read_next_command(r: &mut Reader, commands: &mut Commands) -> Result<(), Oper
 /// `Err` is the first fault in reading order: `Bits` where the bits don't read; `BadOp` for any other operation.
 pub fn read_ending(r: &mut Reader, end: u32) -> Result<(), OperationError>
     requires { IsCode r.old.words }
-    ensures { Reads r.old r.new (ending_after r.old.words end (length r.old.left) r.old.left) result }
+    ensures { Reads r.old r.new (ending_at r.old.words end (length r.old.left) r.old.left) result }
 {
     laws::turns_are_taken();
     loop {

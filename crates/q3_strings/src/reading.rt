@@ -5,7 +5,7 @@
 ghost use Rattle.std.specs.Prelude.{◌≡◌, ◌≤◌, All};
 ghost use Rattle.q3_bits.specs.Streams.{Reads, holding};
 ghost use Rattle.q3_text.specs.Texts.{IsTextByte, most_bytes};
-ghost use Rattle.q3_strings.specs.Reading.{bytes_after, string_after, command_after};
+ghost use Rattle.q3_strings.specs.Reading.{bytes_after, string_after, command_at};
 
 use crate::error::StringError;
 use arrayvec::ArrayVec;
@@ -86,9 +86,9 @@ pub fn read_text(r: &mut Reader, into: &mut Text) -> Result<(), StringError>
 
 /// Reads a command behind its operation into its place. After a refusal `into` may hold any. `Err` comes as in
 /// `read_string`.
-#[tactic(auto, unfolding(crate::specs::Reading::command_after))]
+#[tactic(auto, unfolding(crate::specs::Reading::command_at))]
 pub fn read_command(r: &mut Reader, into: &mut Command) -> Result<(), StringError>
-    ensures { Reads r.old r.new (command_after r.old.words r.old.left) (holding into.new result) }
+    ensures { Reads r.old r.new (command_at r.old.words r.old.left) (holding into.new result) }
 {
     into.number = r.get_fixed(32)?;
     read_text(r, &mut into.text)

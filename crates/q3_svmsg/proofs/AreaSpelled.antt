@@ -11,7 +11,7 @@ use Rattle.q3_strings.specs.Reading.{bytes_after}
 use Rattle.q3_strings.specs.Rows.{row-none, row-last}
 use Rattle.q3_strings.specs.Laws.{BytesWerePut, BytesAreRead}
 use Rattle.q3_svmsg.specs.declared.error.Illegible.TheVariants.{Bits, Area}
-use Rattle.q3_svmsg.specs.Reading.{field_read, area_after}
+use Rattle.q3_svmsg.specs.Reading.{field_read, area_at}
 use Rattle.q3_svmsg.proofs.Fields.{field_was}
 
 -- the area behind its count
@@ -20,8 +20,8 @@ pub record ReadArea (words : List (List Bool)) (bits : List Bool) (found : List 
   pub each : All (λ byte. byte < 256) found.0
   pub parts : bits ≡ row_bits words ((length found.0, 8) ∷ []) ++ (bytes_row words found.0 ++ found.1)
 
-pub area_was_spelled : ReadWasPut → BytesWerePut → (words : List (List Bool)) → IsCode words → (bits : List Bool) (found : List ℕ × List Bool) → area_after words bits ≡ Ok found → ReadArea words bits found
-unfolding area_after
+pub area_was_spelled : ReadWasPut → BytesWerePut → (words : List (List Bool)) → IsCode words → (bits : List Bool) (found : List ℕ × List Bool) → area_at words bits ≡ Ok found → ReadArea words bits found
+unfolding area_at
 area_was_spelled put bytes words code bits found e =
     let count = bind_ok (field_read words 8 bits) (λ count. cond (ltb 32 count.0) (Err (Area count.0)) (fault_as Bits (bytes_after words count.0 count.1))) found e in
     elim (cases_Bool (ltb 32 count.0.0)) [
@@ -40,8 +40,8 @@ area_was_spelled put bytes words code bits found e =
     ]
 
 pub area_is_read : PutIsRead → BytesAreRead → (words : List (List Bool)) → IsCode words → (area : List ℕ) (rest : List Bool) → All (λ byte. byte < 256) area → length area ≤ 32
-    → area_after words (row_bits words ((length area, 8) ∷ []) ++ (bytes_row words area ++ rest)) ≡ Ok (area, rest)
-unfolding area_after
+    → area_at words (row_bits words ((length area, 8) ∷ []) ++ (bytes_row words area ++ rest)) ≡ Ok (area, rest)
+unfolding area_at
 area_is_read put bytes words code area rest each short =
     let few : nat_lt 32 (length area) ≡ false = grind (arith, nat_tests) in
     rw (row-last words code put (length area) 8 (bytes_row words area ++ rest) (omega arith), few, bytes words area rest code each) refl

@@ -6,11 +6,11 @@ use Rattle.q3_profile.specs.declared.profile.Profile.{Profile}
 use Rattle.q3_profile.specs.Profile.{IsCodec}
 use Rattle.q3_svmsg.specs.declared.error.Illegible.{Illegible}
 use Rattle.q3_svmsg.specs.Values.{Context, Told, Nothing, Game, Snap, Skipped, Message}
-use Rattle.q3_svmsg.specs.Reading.{ended_after, rest_after, operations_after, message_after}
+use Rattle.q3_svmsg.specs.Reading.{ended_at, rest_at, operations_at, server_message_at}
 use Rattle.q3_svmsg.specs.Spelling.{SpellsSection}
 use Rattle.q3_svmsg.specs.Laws.{IsContext, SpelledIsRead}
 use Rattle.q3_strings.specs.Commands.{SpellsNops, SpellsCommands}
-use Rattle.q3_strings.specs.Operations.{ending_after}
+use Rattle.q3_strings.specs.Operations.{ending_at}
 use Rattle.q3_strings.specs.Rows.{row-last, operations-parts}
 use Rattle.q3_svmsg.proofs.Below.{IsRead}
 use Rattle.q3_svmsg.proofs.SectionSpelled.{ReadsSection, TakenSection, snapshot_is_read, skipped_is_read}
@@ -20,22 +20,22 @@ use Rattle.q3_svmsg.proofs.MessageSpelled.{end}
 module _ (laws : IsRead) (profile : Profile) (context : Context) (number : ℕ) (code : IsCode profile.code) where
   -- behind a section nops, and the end
   ended_is_read : (message : Message) (told : Told) (nops rest : List Bool) → SpellsNops profile.code nops
-      → ended_after profile.code message (told, nops ++ (end profile.code ++ rest)) ≡ Ok (record message { section = told }, rest)
-  unfolding ended_after
+      → ended_at profile.code message (told, nops ++ (end profile.code ++ rest)) ≡ Ok (record message { section = told }, rest)
+  unfolding ended_at
   ended_is_read message told nops rest are_nops =
       let words = profile.code in
       let behind = nops ++ (end words ++ rest) in
       let ending = nops ++ end words in
       let read = laws.ending words 8 (length (ending ++ rest)) ending rest code (nops, are_nops, refl) (λ e. omega (arith, e)) (omega arith) (omega arith) in
-      let ends : ending_after words 8 (length behind) behind ≡ Ok (tt, rest) = ap (λ (bits : List Bool). ending_after words 8 (length bits) bits) (sym (append_assoc nops (end words) rest)) ∙ read in
+      let ends : ending_at words 8 (length behind) behind ≡ Ok (tt, rest) = ap (λ (bits : List Bool). ending_at words 8 (length bits) bits) (sym (append_assoc nops (end words) rest)) ∙ read in
       rw ends refl
 
   -- commands, nops and another operation, and what is behind these
   row_is_read : (message : Message) (commands : List Command) (operation : ℕ) (text nops left : List Bool) → message.commands ≡ [] → length commands ≤ 64
       → SpellsCommands profile.code 5 commands text → SpellsNops profile.code nops → operation < 256 → operation ≢ 1 → operation ≢ 5
-      → operations_after profile context number message (text ++ (nops ++ (row_bits profile.code ((operation, 8) ∷ []) ++ left)))
-      ≡ rest_after profile context number operation (record message { commands = commands }) left
-  unfolding operations_after
+      → operations_at profile context number message (text ++ (nops ++ (row_bits profile.code ((operation, 8) ∷ []) ++ left)))
+      ≡ rest_at profile context number operation (record message { commands = commands }) left
+  unfolding operations_at
   row_is_read message commands operation text nops left none few of_commands are_nops byte not_nop not_command =
       let words = profile.code in
       let last = row_bits words ((operation, 8) ∷ []) in
@@ -44,10 +44,10 @@ module _ (laws : IsRead) (profile : Profile) (context : Context) (number : ℕ) 
       let read = laws.row words 5 operation (length (spelling ++ left)) message.commands commands spelling left code
       (record { text = text; nops = nops; of_commands = of_commands; of_nops = are_nops; byte = byte; not_nop = not_nop; not_command = not_command; whole = refl })
       (λ e. omega (arith, e)) (omega arith) (omega (arith, few, ap length none)) (omega arith) in
-      rw (same, read) (ap (λ (before : List Command). rest_after profile context number operation (record message { commands = before ++ commands }) left) none)
+      rw (same, read) (ap (λ (before : List Command). rest_at profile context number operation (record message { commands = before ++ commands }) left) none)
 
-  done_is_read : (message : Message) (left : List Bool) → rest_after profile context number 8 message left ≡ Ok (message, left)
-  unfolding rest_after
+  done_is_read : (message : Message) (left : List Bool) → rest_at profile context number 8 message left ≡ Ok (message, left)
+  unfolding rest_at
   done_is_read message left = refl
 
   -- an operation of a section is neither a nop nor a command
@@ -57,15 +57,15 @@ module _ (laws : IsRead) (profile : Profile) (context : Context) (number : ℕ) 
 
   -- a section by its operation
   told_is_read : (operation : ℕ) (message : Message) (bits : List Bool) (told : Told) (behind : List Bool) → ReadsSection profile context number operation bits (Ok (told, behind))
-      → rest_after profile context number operation message bits ≡ ended_after profile.code message (told, behind)
-  unfolding rest_after
+      → rest_at profile context number operation message bits ≡ ended_at profile.code message (told, behind)
+  unfolding rest_at
   told_is_read operation message bits told behind (inl (game, is)) = rw (game, ← is) refl
   told_is_read operation message bits told behind (inr (snapshot, is)) = rw (snapshot, ← is) refl
 
   -- a section that is there, and what is behind it
   taken_is_read : (message : Message) (commands : List Command) (told : Told) (text nops section behind rest : List Bool) → message.commands ≡ [] → length commands ≤ 64
       → SpellsCommands profile.code 5 commands text → SpellsNops profile.code nops → TakenSection profile context number told section (behind ++ (end profile.code ++ rest)) → SpellsNops profile.code behind
-      → operations_after profile context number message (text ++ (nops ++ (section ++ (behind ++ (end profile.code ++ rest))))) ≡ Ok (record message { commands = commands; section = told }, rest)
+      → operations_at profile context number message (text ++ (nops ++ (section ++ (behind ++ (end profile.code ++ rest))))) ≡ Ok (record message { commands = commands; section = told }, rest)
   taken_is_read message commands told text nops section behind rest none few of_commands of_nops took of_behind =
       let words = profile.code in
       let after : Message = record message { commands = commands } in
@@ -74,7 +74,7 @@ module _ (laws : IsRead) (profile : Profile) (context : Context) (number : ℕ) 
       let operation = row_bits words ((took.operation, 8) ∷ []) in
       let same : section ++ ends ≡ operation ++ left = ap (λ (text : List Bool). text ++ ends) took.parts ∙ append_assoc operation took.bits ends in
       let other = section_is_other took.operation left (Ok (told, ends)) took.reads in
-      ap (λ (left : List Bool). operations_after profile context number message (text ++ (nops ++ left))) same
+      ap (λ (left : List Bool). operations_at profile context number message (text ++ (nops ++ left))) same
       ∙ row_is_read message commands took.operation text nops left none few of_commands of_nops took.fits other.0 other.1
       ∙ told_is_read took.operation after left told ends took.reads
       ∙ ended_is_read after told behind rest of_behind
@@ -82,20 +82,20 @@ module _ (laws : IsRead) (profile : Profile) (context : Context) (number : ℕ) 
   -- none, and the end
   none_is_read : (message : Message) (commands : List Command) (text nops behind rest : List Bool) → message.commands ≡ [] → length commands ≤ 64
       → SpellsCommands profile.code 5 commands text → SpellsNops profile.code nops → SpellsNops profile.code behind
-      → operations_after profile context number message (text ++ (nops ++ (behind ++ (end profile.code ++ rest)))) ≡ Ok (record message { commands = commands }, rest)
+      → operations_at profile context number message (text ++ (nops ++ (behind ++ (end profile.code ++ rest)))) ≡ Ok (record message { commands = commands }, rest)
   none_is_read message commands text nops behind rest none few of_commands of_nops of_behind =
       let words = profile.code in
-      ap (λ (left : List Bool). operations_after profile context number message (text ++ left)) (sym (append_assoc nops behind (end words ++ rest)))
+      ap (λ (left : List Bool). operations_at profile context number message (text ++ left)) (sym (append_assoc nops behind (end words ++ rest)))
       ∙ row_is_read message commands 8 text (nops ++ behind) rest none few of_commands (laws.nops words nops behind of_nops of_behind) (omega arith) (λ e. omega (arith, e)) (λ e. omega (arith, e))
       ∙ done_is_read (record message { commands = commands }) rest
 
 operations_are_read : IsRead → (profile : Profile) (context : Context) (number : ℕ) → IsCodec profile → IsContext profile context → (message : Message) (commands : List Command) (told : Told)
     (text nops section behind rest : List Bool) → message.commands ≡ [] → message.section ≡ Nothing → length commands ≤ 64 → SpellsCommands profile.code 5 commands text → SpellsNops profile.code nops
     → SpellsSection profile context number told section → SpellsNops profile.code behind
-    → operations_after profile context number message (text ++ (nops ++ (section ++ (behind ++ (end profile.code ++ rest))))) ≡ Ok (record message { commands = commands; section = told }, rest)
+    → operations_at profile context number message (text ++ (nops ++ (section ++ (behind ++ (end profile.code ++ rest))))) ≡ Ok (record message { commands = commands; section = told }, rest)
 operations_are_read laws profile context number codec is message commands Nothing text nops section behind rest no_commands none few of_commands of_nops s of_behind =
     let ends = behind ++ (end profile.code ++ rest) in
-    ap (λ (section : List Bool). operations_after profile context number message (text ++ (nops ++ (section ++ ends)))) s
+    ap (λ (section : List Bool). operations_at profile context number message (text ++ (nops ++ (section ++ ends)))) s
     ∙ none_is_read laws profile context number codec.code message commands text nops behind rest no_commands few of_commands of_nops of_behind
     ∙ ap (λ (told : Told). Ok (record message { commands = commands; section = told }, rest)) none
 operations_are_read laws profile context number codec is message commands (Game game) text nops section behind rest no_commands none few of_commands of_nops s of_behind =
@@ -109,7 +109,7 @@ operations_are_read laws profile context number codec is message commands (Skipp
     (skipped_is_read laws.put laws.bytes laws.no_player laws.player laws.skipped profile context number base section (behind ++ (end profile.code ++ rest)) codec s) of_behind
 
 pub message_is_read : IsRead → SpelledIsRead
-unfolding message_after
+unfolding server_message_at
 message_is_read laws profile context number message text rest codec is s =
     let words = profile.code in
     let start : Message = record { ack = message.ack; commands = []; section = Nothing } in

@@ -6,13 +6,13 @@ use Rattle.q3_bits.specs.ResultBind.{fault_as, bind_ok, map_err_ok}
 use Rattle.q3_bits.specs.Words.{IsCode, row_bits}
 use Rattle.q3_text.specs.declared.text.Command.{Command}
 use Rattle.q3_strings.specs.Commands.{SpellsNops, SpellsCommands, SpellsEnding}
-use Rattle.q3_strings.specs.Operations.{Row, row_after, ending_after}
+use Rattle.q3_strings.specs.Operations.{Row, row_at, ending_at}
 use Rattle.q3_strings.specs.Rows.{row-none, row-empty}
 use Rattle.q3_strings.specs.Laws.{IsCommand, WasRow}
 use Rattle.q3_profile.specs.declared.profile.Profile.{Profile}
 use Rattle.q3_profile.specs.Profile.{IsCodec}
 use Rattle.q3_svmsg.specs.Values.{Context, Told, Nothing, Message, HasNumber}
-use Rattle.q3_svmsg.specs.Reading.{operation_error, field_read, game_after, section_after, ended_after, rest_after, operations_after, message_after}
+use Rattle.q3_svmsg.specs.Reading.{operation_error, field_read, game_at, section_at, ended_at, rest_at, operations_at, server_message_at}
 use Rattle.q3_svmsg.specs.Spelling.{SpellsSection}
 use Rattle.q3_svmsg.specs.Laws.{IsContext, IsReadTold, ReadIsSpelled}
 use Rattle.q3_svmsg.proofs.Below.{WasRead}
@@ -101,22 +101,22 @@ module _ (profile : Profile) (context : Context) (number : ℕ) (message : Messa
       }
 
   ended_was_spelled : WasRead → IsCode profile.code → (operation : ℕ) (section : Told × List Bool) (found : Message × List Bool) → row.operation ≡ operation
-      → ReadSection profile context number operation left section → ended_after profile.code (record message { commands = row.commands }) section ≡ Ok found
+      → ReadSection profile context number operation left section → ended_at profile.code (record message { commands = row.commands }) section ≡ Ok found
       → ReadOperations profile context number message bits found
-  unfolding ended_after
+  unfolding ended_at
   ended_was_spelled laws code operation section found is read e =
       let words = profile.code in
       let after : Message = record message { commands = row.commands } in
-      let ending = bind_ok (fault_as operation_error (ending_after words 8 (length section.1) section.1)) (λ ending. Ok (record after { section = section.0 }, ending.1)) found e in
+      let ending = bind_ok (fault_as operation_error (ending_at words 8 (length section.1) section.1)) (λ ending. Ok (record after { section = section.0 }, ending.1)) found e in
       let made = ending.2 in
       let same : (record after { section = section.0 }, ending.0.1) ≡ found = cc in
       subst (ReadOperations profile context number message bits) {x = (record after { section = section.0 }, ending.0.1)} same
       (read_section operation section ending.0.1 is read
-      (laws.ending words 8 (length section.1) section.1 ending.0.1 code (map_err_ok operation_error (ending_after words 8 (length section.1) section.1) ending.0 ending.1)))
+      (laws.ending words 8 (length section.1) section.1 ending.0.1 code (map_err_ok operation_error (ending_at words 8 (length section.1) section.1) ending.0 ending.1)))
 
   rest_was_spelled : WasRead → IsCodec profile → IsContext profile context → (found : Message × List Bool) → message.section ≡ Nothing
-      → rest_after profile context number row.operation (record message { commands = row.commands }) left ≡ Ok found → ReadOperations profile context number message bits found
-  unfolding rest_after
+      → rest_at profile context number row.operation (record message { commands = row.commands }) left ≡ Ok found → ReadOperations profile context number message bits found
+  unfolding rest_at
   rest_was_spelled laws codec is found none e =
       let words = profile.code in
       let after : Message = record message { commands = row.commands } in
@@ -129,14 +129,14 @@ module _ (profile : Profile) (context : Context) (number : ℕ) (message : Messa
             let next = rw more at e in
             elim (cases_Bool (eqb row.operation 2)) [
               | inl game ↦
-                  let section = bind_ok (game_after profile left) (λ section. ended_after words after section) found (rw game at next) in
+                  let section = bind_ok (game_at profile left) (λ section. ended_at words after section) found (rw game at next) in
                   ended_was_spelled laws codec.code 2 section.0 found (eqb-true row.operation 2 game)
                   (game_was_spelled laws.game profile context number left section.0 codec section.1) section.2
               | inr other ↦
                   let last = rw other at next in
                   elim (cases_Bool (eqb row.operation 7)) [
                     | inl snapshot ↦
-                        let section = bind_ok (section_after profile context number left) (λ section. ended_after words after section) found (rw snapshot at last) in
+                        let section = bind_ok (section_at profile context number left) (λ section. ended_at words after section) found (rw snapshot at last) in
                         ended_was_spelled laws codec.code 7 section.0 found (eqb-true row.operation 7 snapshot)
                         (section_was_spelled laws.put laws.bytes laws.no_player laws.player laws.list laws.skipped profile context number left section.0 codec is section.1) section.2
                     | inr bad ↦ absurd (let wrong = rw bad at last in cc)
@@ -145,21 +145,21 @@ module _ (profile : Profile) (context : Context) (number : ℕ) (message : Messa
       ]
 
 operations_were_spelled : WasRead → (profile : Profile) (context : Context) (number : ℕ) → IsCodec profile → IsContext profile context → (message : Message) (bits : List Bool) (found : Message × List Bool)
-    → message.section ≡ Nothing → length message.commands ≤ 64 → operations_after profile context number message bits ≡ Ok found → ReadOperations profile context number message bits found
-unfolding operations_after
+    → message.section ≡ Nothing → length message.commands ≤ 64 → operations_at profile context number message bits ≡ Ok found → ReadOperations profile context number message bits found
+unfolding operations_at
 operations_were_spelled laws profile context number codec is message bits found none few e =
     let words = profile.code in
-    let row = bind_ok (fault_as operation_error (row_after words 5 (length bits) message.commands bits))
-    (λ row. rest_after profile context number row.0.operation (record message { commands = row.0.commands }) row.1) found e in
-    let was = laws.row words 5 (length bits) message.commands bits row.0.0 row.0.1 codec.code (map_err_ok operation_error (row_after words 5 (length bits) message.commands bits) row.0 row.1) in
+    let row = bind_ok (fault_as operation_error (row_at words 5 (length bits) message.commands bits))
+    (λ row. rest_at profile context number row.0.operation (record message { commands = row.0.commands }) row.1) found e in
+    let was = laws.row words 5 (length bits) message.commands bits row.0.0 row.0.1 codec.code (map_err_ok operation_error (row_at words 5 (length bits) message.commands bits) row.0 row.1) in
     rest_was_spelled profile context number message bits row.0.1 row.0.0 few was laws codec is found none row.2
 
 pub message_was_spelled : WasRead → ReadIsSpelled
-unfolding message_after
+unfolding server_message_at
 message_was_spelled laws profile context number message bits rest codec is e =
     let words = profile.code in
     let start = λ (ack : ℕ). let m : Message = record { ack = ack; commands = []; section = Nothing } in m in
-    let ack = bind_ok (field_read words 32 bits) (λ ack. operations_after profile context number (start ack.0) ack.1) (message, rest) e in
+    let ack = bind_ok (field_read words 32 bits) (λ ack. operations_at profile context number (start ack.0) ack.1) (message, rest) e in
     let was = field_was laws.put words 32 bits ack.0 codec.code ack.1 in
     let read = operations_were_spelled laws profile context number codec is (start ack.0.0) ack.0.1 (message, rest) refl (omega arith) ack.2 in
     let section = read.section in

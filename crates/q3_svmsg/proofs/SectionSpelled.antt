@@ -17,7 +17,7 @@ use Rattle.q3_player.specs.Laws as player
 use Rattle.q3_entity.specs.declared.state.EntityState.{EntityState}
 use Rattle.q3_entity.specs.Entities.{AreNormal}
 use Rattle.q3_entity.specs.Baselines.{Lines, AreLines}
-use Rattle.q3_entity.specs.Lists.{list_after, list_skipped}
+use Rattle.q3_entity.specs.Lists.{entity_list_at, list_skipped}
 use Rattle.q3_entity.specs.Spelling.{SpellsList, SpellsSkipped}
 use Rattle.q3_entity.specs.Laws as entity
 use Rattle.q3_profile.specs.declared.profile.Profile.{Profile}
@@ -25,7 +25,7 @@ use Rattle.q3_profile.specs.Profile.{IsCodec}
 use Rattle.q3_svmsg.specs.declared.error.Illegible.{Illegible}
 use Rattle.q3_svmsg.specs.declared.error.Illegible.TheVariants.{Player, Entity}
 use Rattle.q3_svmsg.specs.Values.{Base, base_player, base_entities, number_of_base, IsNamed, Context, Told, Snap, Skipped, HasNumber}
-use Rattle.q3_svmsg.specs.Reading.{field_read, game_after, held_base, snapshot_after, snapshot_skipped, against_base, area_after, section_after}
+use Rattle.q3_svmsg.specs.Reading.{field_read, game_at, held_base, snapshot_at, snapshot_skipped, against_base, area_at, section_at}
 use Rattle.q3_svmsg.specs.Spelling.{SpellsHead, SpellsSnapshot, SpellsSkippedSnapshot, SpellsSection}
 use Rattle.q3_svmsg.specs.Laws.{IsHead, AreEntities, IsContext, IsReadTold}
 use Rattle.q3_svmsg.proofs.Fields.{field_was}
@@ -60,14 +60,14 @@ both_parts : (bits first second left rest : List Bool) → bits ≡ first ++ lef
 both_parts bits first second left rest a b = a ∙ ap (λ (left : List Bool). first ++ left) b ∙ sym (append_assoc first second rest)
 
 states_were_spelled : player.ReadIsSpelled → entity.ListReadIsSpelled → (profile : Profile) (lines : Lines) (against : Option Base) (base : ℕ) (head : SnapHead) (bits : List Bool)
-    (found : Told × List Bool) → IsCodec profile → AreLines profile.entity lines → IsFrom profile against → snapshot_after profile lines against base head bits ≡ Ok found
+    (found : Told × List Bool) → IsCodec profile → AreLines profile.entity lines → IsFrom profile against → snapshot_at profile lines against base head bits ≡ Ok found
     → ReadStates profile lines against base head bits found
-unfolding snapshot_after
+unfolding snapshot_at
 states_were_spelled player_law list_law profile lines against base head bits found codec are_lines from e =
     let words = profile.code in
     let player = bind_ok (fault_as Player (player_at words profile.player.kinds (base_player against) bits))
-    (λ player. fault_as Entity (list_after words profile.entity lines (base_entities against) player.1) >>= λ entities. Ok (Snap base (record head { player = player.0 }) entities.0, entities.1)) found e in
-    let entities = bind_ok (fault_as Entity (list_after words profile.entity lines (base_entities against) player.0.1))
+    (λ player. fault_as Entity (entity_list_at words profile.entity lines (base_entities against) player.1) >>= λ entities. Ok (Snap base (record head { player = player.0 }) entities.0, entities.1)) found e in
+    let entities = bind_ok (fault_as Entity (entity_list_at words profile.entity lines (base_entities against) player.0.1))
     (λ entities. Ok (Snap base (record head { player = player.0.0 }) entities.0, entities.1)) found player.2 in
     let made = entities.2 in
     let told : Told = Snap base (record head { player = player.0.0 }) entities.0.0 in
@@ -75,7 +75,7 @@ states_were_spelled player_law list_law profile lines against base head bits fou
     let to = player_law words profile.player.kinds (base_player against) player.0.0 bits player.0.1 codec.code codec.player.kinds from.state
     (map_err_ok Player (player_at words profile.player.kinds (base_player against) bits) player.0 player.1) in
     let list = list_law words profile.entity lines (base_entities against) entities.0.0 player.0.1 entities.0.1 codec.code codec.entity are_lines from.list from.states
-    (map_err_ok Entity (list_after words profile.entity lines (base_entities against) player.0.1) entities.0 entities.1) in
+    (map_err_ok Entity (entity_list_at words profile.entity lines (base_entities against) player.0.1) entities.0 entities.1) in
     subst (ReadStates profile lines against base head bits) {x = (told, entities.0.1)} same (record {
       to = player.0.0;
       entities = entities.0.0;
@@ -90,8 +90,8 @@ states_were_spelled player_law list_law profile lines against base head bits fou
 
 states_are_read : player.SpelledIsRead → entity.ListSpelledIsRead → (profile : Profile) (lines : Lines) (against : Option Base) (base : ℕ) (head : SnapHead) (to : PlayerState)
     (entities : List EntityState) (text rest : List Bool) → IsCodec profile → AreLines profile.entity lines → IsFrom profile against → SpellsStates profile lines against to entities text
-    → snapshot_after profile lines against base head (text ++ rest) ≡ Ok (Snap base (record head { player = to }) entities, rest)
-unfolding snapshot_after
+    → snapshot_at profile lines against base head (text ++ rest) ≡ Ok (Snap base (record head { player = to }) entities, rest)
+unfolding snapshot_at
 states_are_read player_law list_law profile lines against base head to entities text rest codec are_lines from s =
     let parts : text ++ rest ≡ s.player ++ (s.list ++ rest) = ap (λ (text : List Bool). text ++ rest) s.whole ∙ append_assoc s.player s.list rest in
     let player = player_law profile.code profile.player.kinds (base_player against) to s.player (s.list ++ rest) codec.code codec.player.kinds from.state s.state s.of_player in
@@ -266,9 +266,9 @@ behind_was_spelled zero_is player_law list_law skip_law profile context number (
     })
 
 pub section_was_spelled : ReadWasPut → BytesWerePut → player.ZeroIsNormal → player.ReadIsSpelled → entity.ListReadIsSpelled → entity.SkippedIsSpelled → (profile : Profile) (context : Context) (number : ℕ)
-    (bits : List Bool) (found : Told × List Bool) → IsCodec profile → IsContext profile context → section_after profile context number bits ≡ Ok found
+    (bits : List Bool) (found : Told × List Bool) → IsCodec profile → IsContext profile context → section_at profile context number bits ≡ Ok found
     → ReadSection profile context number 7 bits found
-unfolding section_after
+unfolding section_at
 section_was_spelled put bytes zero_is player_law list_law skip_law profile context number bits found codec is e =
     let words = profile.code in
     let code = codec.code in
@@ -276,11 +276,11 @@ section_was_spelled put bytes zero_is player_law list_law skip_law profile conte
     let against = λ (time distance flags : ℕ) (area : List ℕ × List Bool).
     against_base profile context distance (number_of_base number distance) (held_base context (number_of_base number distance)) (head time flags area.0) area.1 in
     let time = bind_ok (field_read words 32 bits)
-    (λ time. field_read words 8 time.1 >>= λ distance. (field_read words 8 distance.1 >>= λ flags. (area_after words flags.1 >>= λ area. against time.0 distance.0 flags.0 area))) found e in
+    (λ time. field_read words 8 time.1 >>= λ distance. (field_read words 8 distance.1 >>= λ flags. (area_at words flags.1 >>= λ area. against time.0 distance.0 flags.0 area))) found e in
     let distance = bind_ok (field_read words 8 time.0.1)
-    (λ distance. field_read words 8 distance.1 >>= λ flags. (area_after words flags.1 >>= λ area. against time.0.0 distance.0 flags.0 area)) found time.2 in
-    let flags = bind_ok (field_read words 8 distance.0.1) (λ flags. area_after words flags.1 >>= λ area. against time.0.0 distance.0.0 flags.0 area) found distance.2 in
-    let area = bind_ok (area_after words flags.0.1) (λ area. against time.0.0 distance.0.0 flags.0.0 area) found flags.2 in
+    (λ distance. field_read words 8 distance.1 >>= λ flags. (area_at words flags.1 >>= λ area. against time.0.0 distance.0 flags.0 area)) found time.2 in
+    let flags = bind_ok (field_read words 8 distance.0.1) (λ flags. area_at words flags.1 >>= λ area. against time.0.0 distance.0.0 flags.0 area) found distance.2 in
+    let area = bind_ok (area_at words flags.0.1) (λ area. against time.0.0 distance.0.0 flags.0.0 area) found flags.2 in
     let time_was = field_was put words 32 bits time.0 code time.1 in
     let distance_was = field_was put words 8 time.0.1 distance.0 code distance.1 in
     let flags_was = field_was put words 8 distance.0.1 flags.0 code flags.1 in
@@ -328,9 +328,9 @@ section_was_spelled put bytes zero_is player_law list_law skip_law profile conte
 head_is_read : PutIsRead → BytesAreRead → (profile : Profile) (context : Context) (distance base : ℕ) (snap : SnapHead) (front left : List Bool) → IsCodec profile
     → SpellsHead profile.code snap.number distance snap front → base ≡ number_of_base snap.number distance
     → (bits : List Bool) × (front ≡ row_bits profile.code ((7, 8) ∷ []) ++ bits)
-    × (section_after profile context snap.number (bits ++ left)
+    × (section_at profile context snap.number (bits ++ left)
     ≡ against_base profile context distance base (held_base context base) (record snap { player = zero_player }) left)
-unfolding section_after
+unfolding section_at
 head_is_read put bytes profile context distance base snap front left codec s named =
     let words = profile.code in
     let code = codec.code in
@@ -352,7 +352,7 @@ head_is_read put bytes profile context distance base snap front left codec s nam
 -- a section of this operation reads so
 abbrev pub ReadsSection : Profile → Context → ℕ → ℕ → List Bool → Result (Told × List Bool) Illegible → Type 0
 ReadsSection profile context number operation bits read =
-    ((operation ≡ 2) × (read ≡ game_after profile bits)) ⊎ ((operation ≡ 7) × (read ≡ section_after profile context number bits))
+    ((operation ≡ 2) × (read ≡ game_at profile bits)) ⊎ ((operation ≡ 7) × (read ≡ section_at profile context number bits))
 
 -- a section that is spelled behind its operation
 pub record TakenSection (profile : Profile) (context : Context) (number : ℕ) (told : Told) (text rest : List Bool) : Type 0 where
@@ -364,7 +364,7 @@ pub record TakenSection (profile : Profile) (context : Context) (number : ℕ) (
 
 -- without a base, or against one that is held, a snapshot is read
 against_held : (profile : Profile) (context : Context) (distance base : ℕ) (against : Option Base) (head : SnapHead) (bits : List Bool) → (distance ≡ 0) ⊎ IsSome against
-    → against_base profile context distance base against head bits ≡ snapshot_after profile context.lines against base head bits
+    → against_base profile context distance base against head bits ≡ snapshot_at profile context.lines against base head bits
 against_held profile context distance base (Some held) head bits may = refl
 against_held profile context zero base None head bits may = refl
 against_held profile context (suc near) base None head bits (inl none) = absurd (omega arith)
@@ -393,8 +393,8 @@ behind_head put bytes profile context number distance base snap told text front 
       reads = inr (
         refl,
         sym (
-            subst (λ (n : ℕ). section_after profile context n ((head.0 ++ (player ++ list)) ++ rest) ≡ Ok (told, rest)) s.under
-            (ap (λ (bits : List Bool). section_after profile context snap.number bits) (texts_behind head.0 player list rest) ∙ head.2 ∙ read)
+            subst (λ (n : ℕ). section_at profile context n ((head.0 ++ (player ++ list)) ++ rest) ≡ Ok (told, rest)) s.under
+            (ap (λ (bits : List Bool). section_at profile context snap.number bits) (texts_behind head.0 player list rest) ∙ head.2 ∙ read)
             ),
       );
     }
@@ -410,7 +410,7 @@ snapshot_is_read put bytes zero_is player_law list_law profile context number ba
     (record { player = s.player; list = s.list; state = s.state; of_player = s.of_player; of_list = s.of_list; whole = refl }) in
     behind_head put bytes profile context number s.distance base snap (Snap base snap entities) text s.head s.player s.list rest codec s.of_head s.named s.whole
     (against_held profile context s.distance base against head (s.player ++ (s.list ++ rest)) s.held
-    ∙ ap (λ (bits : List Bool). snapshot_after profile context.lines against base head bits) (sym (append_assoc s.player s.list rest)) ∙ states)
+    ∙ ap (λ (bits : List Bool). snapshot_at profile context.lines against base head bits) (sym (append_assoc s.player s.list rest)) ∙ states)
 
 pub skipped_is_read : PutIsRead → BytesAreRead → player.ZeroIsNormal → player.SpelledIsRead → entity.SpelledIsSkipped → (profile : Profile) (context : Context) (number base : ℕ) (text rest : List Bool)
     → IsCodec profile → SpellsSkippedSnapshot profile context number base text → TakenSection profile context number (Skipped base) text rest

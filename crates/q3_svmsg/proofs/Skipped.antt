@@ -15,7 +15,7 @@ use Rattle.q3_entity.specs.Laws as entity
 use Rattle.q3_profile.specs.declared.profile.Profile.{Profile}
 use Rattle.q3_profile.specs.Profile.{IsCodec}
 use Rattle.q3_svmsg.specs.Values.{Base, base_player, base_entities, number_of_base, Context, Told, Skipped, Message}
-use Rattle.q3_svmsg.specs.Reading.{held_base, message_after}
+use Rattle.q3_svmsg.specs.Reading.{held_base, server_message_at}
 use Rattle.q3_svmsg.specs.Spelling.{SpellsSnapshot, SpellsSkippedSnapshot, SpellsSection, SpellsMessage}
 use Rattle.q3_svmsg.specs.Laws.{IsContext, ReadIsSpelled, SpelledIsRead, ReadIsSkipped}
 use Rattle.q3_svmsg.proofs.Held.{IsFrom, held_is_normal}
@@ -95,4 +95,4 @@ message_is_skipped zero_is spelled alike read list_law skip_law skipped_law was_
       of_operations = s.of_operations;
       whole = s.whole;
     } in
-    ap (λ (bits : List Bool). message_after profile other number bits) found.2 ∙ is_read profile other number skipped text rest codec is' spells
+    ap (λ (bits : List Bool). server_message_at profile other number bits) found.2 ∙ is_read profile other number skipped text rest codec is' spells

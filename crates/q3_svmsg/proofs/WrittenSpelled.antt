@@ -6,11 +6,11 @@ use Rattle.q3_bits.specs.Words.{row_bits}
 use Rattle.q3_strings.specs.Commands.{commands_bits}
 use Rattle.q3_strings.specs.Rows.{row-empty}
 use Rattle.q3_player.specs.Delta.{player_delta}
-use Rattle.q3_entity.specs.Lists.{list_text}
+use Rattle.q3_entity.specs.Lists.{entity_list_bits}
 use Rattle.q3_profile.specs.declared.profile.Profile.{Profile}
 use Rattle.q3_profile.specs.Profile.{IsCodec}
 use Rattle.q3_svmsg.specs.Values.{Base, base_player, base_entities, Context, Told, Nothing, Game, Snap, Skipped, IsNamed, distance_to, number_of_base, HasNumber}
-use Rattle.q3_svmsg.specs.Texts.{head_bits, snapshot_bits, section_bits, message_text}
+use Rattle.q3_svmsg.specs.Texts.{head_bits, snapshot_bits, section_bits, server_message_bits}
 use Rattle.q3_svmsg.specs.Reading.{held_base}
 use Rattle.q3_svmsg.specs.Spelling.{SpellsSection}
 use Rattle.q3_svmsg.specs.Laws.{IsContext, IsTold, base_in, normal_told, WrittenIsSpelled}
@@ -61,7 +61,7 @@ section_is_spelled below profile context number (Snap base head entities) codec 
       held = may_be against head.number base is.2;
       head = head_bits words base head;
       player = player_delta words profile.player.kinds (base_player against) head.player;
-      list = list_text words profile.entity context.lines (base_entities against) entities;
+      list = entity_list_bits words profile.entity context.lines (base_entities against) entities;
       of_head = record {
         under = has_number;
         time = is_head.time;
@@ -81,7 +81,7 @@ section_is_spelled below profile context number (Skipped base) codec is_context 
 -- ---- the message
 
 pub message_is_spelled : WasWritten → WrittenIsSpelled
-unfolding message_text
+unfolding server_message_bits
 message_is_spelled below profile context number message codec is_context is =
     let words = profile.code in
     let commands = commands_bits words 5 message.commands in

@@ -10,9 +10,9 @@ use Rattle.q3_profile.specs.declared.profile.Profile.{Profile}
 use Rattle.q3_profile.specs.Profile.{IsCodec}
 use Rattle.q3_gamestate.specs.Laws.{IsGamestate}
 use Rattle.q3_svmsg.specs.Values.{Base, IsNamed, Context, Told, Nothing, Game, Snap, Skipped, HasNumber, Message}
-use Rattle.q3_svmsg.specs.Texts.{message_text}
+use Rattle.q3_svmsg.specs.Texts.{server_message_bits}
 use Rattle.q3_svmsg.specs.Spelling.{SpellsMessage}
-use Rattle.q3_svmsg.specs.Reading.{held_base, message_after}
+use Rattle.q3_svmsg.specs.Reading.{held_base, server_message_at}
 
 -- the head of a snapshot as the program's type holds it
 pub record IsHead (head : SnapHead) : Type 0 where
@@ -85,7 +85,7 @@ normal_told profile other = other
 abbrev pub WrittenIsRead : Type 0
 WrittenIsRead = (profile : Profile) (context : Context) (number : ℕ) (message : Message) (rest : List Bool) → IsCodec profile
     → IsContext profile context → IsMessage profile context number message
-    → message_after profile context number (message_text profile context.lines (base_in context message.section) message ++ rest)
+    → server_message_at profile context number (server_message_bits profile context.lines (base_in context message.section) message ++ rest)
     ≡ Ok (record message { section = normal_told profile message.section }, rest)
 
 -- what is written of a message spells it, its states in normal form
@@ -93,24 +93,24 @@ abbrev pub WrittenIsSpelled : Type 0
 WrittenIsSpelled = (profile : Profile) (context : Context) (number : ℕ) (message : Message) → IsCodec profile
     → IsContext profile context → IsMessage profile context number message
     → SpellsMessage profile context number (record message { section = normal_told profile message.section })
-    (message_text profile context.lines (base_in context message.section) message)
+    (server_message_bits profile context.lines (base_in context message.section) message)
 
 -- what is read as a message is well formed, its states in normal form, and was spelled so
 abbrev pub ReadIsSpelled : Type 0
 ReadIsSpelled = (profile : Profile) (context : Context) (number : ℕ) (message : Message) (bits rest : List Bool) → IsCodec profile
-    → IsContext profile context → message_after profile context number bits ≡ Ok (message, rest)
+    → IsContext profile context → server_message_at profile context number bits ≡ Ok (message, rest)
     → (number < 2 ^ 32 → IsRead profile context number message) × (text : List Bool) × (bits ≡ text ++ rest) × SpellsMessage profile context number message text
 
 -- what is spelled so is read, with whatever follows it: so where a reader refuses, no front of the bits is spelled so
 abbrev pub SpelledIsRead : Type 0
 SpelledIsRead = (profile : Profile) (context : Context) (number : ℕ) (message : Message) (text rest : List Bool) → IsCodec profile
     → IsContext profile context → SpellsMessage profile context number message text
-    → message_after profile context number (text ++ rest) ≡ Ok (message, rest)
+    → server_message_at profile context number (text ++ rest) ≡ Ok (message, rest)
 
 -- a message whose snapshot is read against a base is read to the same place where that base isn't held, and nothing of the
 -- snapshot is kept
 abbrev pub ReadIsSkipped : Type 0
 ReadIsSkipped = (profile : Profile) (context other : Context) (number base : ℕ) (head : SnapHead) (entities : List EntityState) (message : Message) (bits rest : List Bool)
     → IsCodec profile → IsContext profile context → IsContext profile other → message.section ≡ Snap base head entities → 0 < base → held_base other base ≡ None
-    → message_after profile context number bits ≡ Ok (message, rest)
-    → message_after profile other number bits ≡ Ok (record message { section = Skipped base }, rest)
+    → server_message_at profile context number bits ≡ Ok (message, rest)
+    → server_message_at profile other number bits ≡ Ok (record message { section = Skipped base }, rest)

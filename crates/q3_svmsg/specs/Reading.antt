@@ -6,18 +6,18 @@ use Rattle.q3_bits.specs.declared.reader.ReadError.{ReadError}
 use Rattle.q3_strings.specs.declared.error.OperationError.{OperationError}
 use Rattle.q3_strings.specs.declared.error.OperationError.TheVariants as operations
 use Rattle.q3_strings.specs.Reading.{bytes_after}
-use Rattle.q3_strings.specs.Operations.{row_after, ending_after}
+use Rattle.q3_strings.specs.Operations.{row_at, ending_at}
 use Rattle.q3_player.specs.declared.head.SnapHead.{SnapHead}
 use Rattle.q3_player.specs.State.{zero_player}
 use Rattle.q3_player.specs.Delta.{player_at}
 use Rattle.q3_entity.specs.declared.state.EntityState.{EntityState}
 use Rattle.q3_entity.specs.Baselines.{Lines}
-use Rattle.q3_entity.specs.Lists.{list_after, list_skipped}
+use Rattle.q3_entity.specs.Lists.{entity_list_at, list_skipped}
 use Rattle.q3_profile.specs.declared.profile.Profile.{Profile}
 use Rattle.q3_gamestate.specs.declared.error.GamestateError.{GamestateError}
 use Rattle.q3_gamestate.specs.declared.error.GamestateError.TheVariants as games
 use Rattle.q3_gamestate.specs.Values.{Gamestate}
-use Rattle.q3_gamestate.specs.Reading.{gamestate_after}
+use Rattle.q3_gamestate.specs.Reading.{gamestate_at}
 use Rattle.q3_svmsg.specs.declared.message.Section.{Section}
 use Rattle.q3_svmsg.specs.declared.error.Illegible.{Illegible}
 use Rattle.q3_svmsg.specs.declared.error.Illegible.TheVariants.{Bits, BadOp, Entity, Player, Area, Config, TextLong, NoServerId, Commands}
@@ -55,16 +55,16 @@ ack_at words bits = do
   Ok (ack.0, length bits - length ack.1)
 
 -- a gamestate behind its operation
-unfoldable pub game_after : Profile → List Bool → Result (Told × List Bool) Illegible
-game_after profile bits = do
-  game ← fault_as game_error (gamestate_after profile bits)
+unfoldable pub game_at : Profile → List Bool → Result (Told × List Bool) Illegible
+game_at profile bits = do
+  game ← fault_as game_error (gamestate_at profile bits)
   Ok (Game game.0, game.1)
 
 -- the player and the entities of a snapshot against a base, or without one
-unfoldable pub snapshot_after : Profile → Lines → Option Base → ℕ → SnapHead → List Bool → Result (Told × List Bool) Illegible
-snapshot_after profile lines against base head bits = do
+unfoldable pub snapshot_at : Profile → Lines → Option Base → ℕ → SnapHead → List Bool → Result (Told × List Bool) Illegible
+snapshot_at profile lines against base head bits = do
   player ← fault_as Player (player_at profile.code profile.player.kinds (base_player against) bits)
-  entities ← fault_as Entity (list_after profile.code profile.entity lines (base_entities against) player.1)
+  entities ← fault_as Entity (entity_list_at profile.code profile.entity lines (base_entities against) player.1)
   Ok (Snap base (record head { player = player.0 }) entities.0, entities.1)
 
 -- a snapshot whose base isn't held is read to its end
@@ -80,58 +80,58 @@ held_base context (suc base) = context.base (base + 1)
 
 -- the rest of a snapshot whose base is at a distance: without one, against one that is held, or skipped
 abbrev pub against_base : Profile → Context → ℕ → ℕ → Option Base → SnapHead → List Bool → Result (Told × List Bool) Illegible
-against_base profile context distance base (Some held) head bits = snapshot_after profile context.lines (Some held) base head bits
-against_base profile context zero base None head bits = snapshot_after profile context.lines None base head bits
+against_base profile context distance base (Some held) head bits = snapshot_at profile context.lines (Some held) base head bits
+against_base profile context zero base None head bits = snapshot_at profile context.lines None base head bits
 against_base profile context (suc distance) base None head bits = do
   skipped ← snapshot_skipped profile bits
   Ok (Skipped base, skipped.1)
 
 -- the area: up to 32 bytes
-unfoldable pub area_after : List (List Bool) → List Bool → Result (List ℕ × List Bool) Illegible
-area_after words bits = do
+unfoldable pub area_at : List (List Bool) → List Bool → Result (List ℕ × List Bool) Illegible
+area_at words bits = do
   count ← field_read words 8 bits
   if nat_lt 32 count.0 then Err (Area count.0) else fault_as Bits (bytes_after words count.0 count.1)
 
 -- a snapshot behind its operation
-unfoldable pub section_after : Profile → Context → ℕ → List Bool → Result (Told × List Bool) Illegible
-section_after profile context number bits = do
+unfoldable pub section_at : Profile → Context → ℕ → List Bool → Result (Told × List Bool) Illegible
+section_at profile context number bits = do
   time ← field_read profile.code 32 bits
   distance ← field_read profile.code 8 time.1
   flags ← field_read profile.code 8 distance.1
-  area ← area_after profile.code flags.1
+  area ← area_at profile.code flags.1
   against_base profile context distance.0 (number_of_base number distance.0) (held_base context (number_of_base number distance.0))
       (record { number = number; time = time.0; flags = flags.0; area = record { items = area.0 }; player = zero_player }) area.1
 
 -- a message with its section, and what is behind its end
-unfoldable pub ended_after : List (List Bool) → Message → Told × List Bool → Result (Message × List Bool) Illegible
-ended_after words message section = do
-  ending ← fault_as operation_error (ending_after words 8 (length section.1) section.1)
+unfoldable pub ended_at : List (List Bool) → Message → Told × List Bool → Result (Message × List Bool) Illegible
+ended_at words message section = do
+  ending ← fault_as operation_error (ending_at words 8 (length section.1) section.1)
   Ok (record message { section = section.0 }, ending.1)
 
 -- a message behind its commands, by the operation behind them: the end, a gamestate, or a snapshot
-unfoldable pub rest_after : Profile → Context → ℕ → ℕ → Message → List Bool → Result (Message × List Bool) Illegible
-rest_after profile context number operation message bits =
+unfoldable pub rest_at : Profile → Context → ℕ → ℕ → Message → List Bool → Result (Message × List Bool) Illegible
+rest_at profile context number operation message bits =
     if operation == 8 then Ok (message, bits) else
     if operation == 2 then (do
-      section ← game_after profile bits
-      ended_after profile.code message section) else
+      section ← game_at profile bits
+      ended_at profile.code message section) else
     if operation == 7 then (do
-      section ← section_after profile context number bits
-      ended_after profile.code message section)
+      section ← section_at profile context number bits
+      ended_at profile.code message section)
     else Err (BadOp operation)
 
 -- behind the leading long: nops and commands, and the end of the message or its section
-unfoldable pub operations_after : Profile → Context → ℕ → Message → List Bool → Result (Message × List Bool) Illegible
-operations_after profile context number message bits = do
-  row ← fault_as operation_error (row_after profile.code 5 (length bits) message.commands bits)
-  rest_after profile context number row.0.operation (record message { commands = row.0.commands }) row.1
+unfoldable pub operations_at : Profile → Context → ℕ → Message → List Bool → Result (Message × List Bool) Illegible
+operations_at profile context number message bits = do
+  row ← fault_as operation_error (row_at profile.code 5 (length bits) message.commands bits)
+  rest_at profile context number row.0.operation (record message { commands = row.0.commands }) row.1
 
 -- a server's message under a number: its value, and what is behind its end
-unfoldable pub message_after : Profile → Context → ℕ → List Bool → Result (Message × List Bool) Illegible
-message_after profile context number bits = do
+unfoldable pub server_message_at : Profile → Context → ℕ → List Bool → Result (Message × List Bool) Illegible
+server_message_at profile context number bits = do
   ack ← field_read profile.code 32 bits
-  operations_after profile context number (record { ack = ack.0; commands = []; section = Nothing }) ack.1
+  operations_at profile context number (record { ack = ack.0; commands = []; section = Nothing }) ack.1
 
 -- a server's message: its value alone
 abbrev pub message_at : Profile → Context → ℕ → List Bool → Result Message Illegible
-message_at profile context number bits = message_after profile context number bits >>= λ read. Ok read.0
+message_at profile context number bits = server_message_at profile context number bits >>= λ read. Ok read.0

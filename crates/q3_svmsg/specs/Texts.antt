@@ -7,7 +7,7 @@ use Rattle.q3_player.specs.declared.head.SnapHead.{SnapHead}
 use Rattle.q3_player.specs.Delta.{player_delta}
 use Rattle.q3_entity.specs.declared.state.EntityState.{EntityState}
 use Rattle.q3_entity.specs.Baselines.{Lines}
-use Rattle.q3_entity.specs.Lists.{list_text}
+use Rattle.q3_entity.specs.Lists.{entity_list_bits}
 use Rattle.q3_profile.specs.declared.profile.Profile.{Profile}
 use Rattle.q3_gamestate.specs.Texts.{gamestate_bits}
 use Rattle.q3_svmsg.specs.Values.{Base, base_player, base_entities, distance_to, Told, Game, Snap, Message}
@@ -23,7 +23,7 @@ unfoldable pub snapshot_bits : Profile → Lines → Option Base → ℕ → Sna
 snapshot_bits profile lines against base head entities =
     head_bits profile.code base head
     ++ player_delta profile.code profile.player.kinds (base_player against) head.player
-    ++ list_text profile.code profile.entity lines (base_entities against) entities
+    ++ entity_list_bits profile.code profile.entity lines (base_entities against) entities
 
 -- the section of a message; a snapshot that was skipped has no text of its own
 unfoldable pub section_bits : Profile → Lines → Option Base → Told → List Bool
@@ -32,8 +32,8 @@ section_bits profile lines against (Snap base head entities) = snapshot_bits pro
 section_bits profile lines against other = []
 
 -- a message: the last client command executed, the commands, each behind its operation 5, the section, and the end
-unfoldable pub message_text : Profile → Lines → Option Base → Message → List Bool
-message_text profile lines against message =
+unfoldable pub server_message_bits : Profile → Lines → Option Base → Message → List Bool
+server_message_bits profile lines against message =
     row_bits profile.code ((message.ack, 32) ∷ [])
     ++ commands_bits profile.code 5 message.commands
     ++ section_bits profile lines against message.section

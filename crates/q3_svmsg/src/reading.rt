@@ -9,7 +9,7 @@ ghost use Rattle.q3_player.specs.State.{zero_player};
 ghost use Rattle.q3_entity.specs.Entities.{Rises};
 ghost use Rattle.q3_gamestate.specs.Values.{Gamestate};
 ghost use Rattle.q3_svmsg.specs.Values.{Base, Game, Message, base_viewed, base_player, base_entities, number_of_base, game_of, told_of, section_of, HasList, HasNumber};
-ghost use Rattle.q3_svmsg.specs.Reading.{ack_at, area_after, game_after, held_base, snapshot_after, snapshot_skipped, against_base, section_after, rest_after, operations_after, message_at, telling};
+ghost use Rattle.q3_svmsg.specs.Reading.{ack_at, area_at, game_at, held_base, snapshot_at, snapshot_skipped, against_base, section_at, rest_at, operations_at, message_at, telling};
 
 use crate::bases::{BaseView, Bases, base_or};
 use crate::error::Illegible;
@@ -35,9 +35,9 @@ pub fn read_ack(code: &Code, bytes: &[u8]) -> Result<(u32, usize), ReadError>
 }
 
 /// Reads the area bytes and how many there are.
-#[tactic(auto, unfolding(crate::specs::Reading::area_after))]
+#[tactic(auto, unfolding(crate::specs::Reading::area_at))]
 fn read_area(r: &mut Reader, into: &mut ArrayVec<u8, 32>) -> Result<(), Illegible>
-    ensures { Reads r.old r.new (area_after r.old.words r.old.left) (holding into.new.items result) }
+    ensures { Reads r.old r.new (area_at r.old.words r.old.left) (holding into.new.items result) }
 {
     let count = r.get(8)?;
     if count > 32 {
@@ -69,7 +69,7 @@ fn held<B: Bases>(bases: &B, number: u32) -> Option<BaseView<'_>>
 }
 
 /// Reads the player and the entities of a snapshot against its base.
-#[tactic(auto, unfolding(crate::specs::Reading::snapshot_after))]
+#[tactic(auto, unfolding(crate::specs::Reading::snapshot_at))]
 fn read_snapshot(
     r: &mut Reader,
     profile: &Profile,
@@ -80,7 +80,7 @@ fn read_snapshot(
     entities: &mut List,
 ) -> Result<Section, Illegible>
     requires { Rises (base_entities (option_map base_viewed against)) }
-    ensures reads { (game : Gamestate) → Reads r.old r.new (snapshot_after (record profile.now { code = r.old.words }) baselines.now (option_map base_viewed against.entry) base head.old r.old.left)
+    ensures reads { (game : Gamestate) → Reads r.old r.new (snapshot_at (record profile.now { code = r.old.words }) baselines.now (option_map base_viewed against.entry) base head.old r.old.left)
         (telling game head.new entities.new.items result) }
     ensures list { (game : Gamestate) → IfOk result (λ section. HasList profile.now.entity (section_of section game head.new entities.new.items)) }
     ensures number { head.new.number ≡ head.old.number }
@@ -128,7 +128,7 @@ fn read_against<B: Bases>(
 }
 
 /// Reads a snapshot behind its operation, into places for its head and for its entities.
-#[tactic(auto, unfolding(crate::specs::Reading::section_after, q3_player::specs::Heads::empty_head))]
+#[tactic(auto, unfolding(crate::specs::Reading::section_at, q3_player::specs::Heads::empty_head))]
 fn read_section<B: Bases>(
     r: &mut Reader,
     profile: &Profile,
@@ -137,7 +137,7 @@ fn read_section<B: Bases>(
     head: &mut SnapHead,
     entities: &mut List,
 ) -> Result<Section, Illegible>
-    ensures reads { (game : Gamestate) → Reads r.old r.new (section_after (record profile.now { code = r.old.words }) (B.context bases.now) number r.old.left)
+    ensures reads { (game : Gamestate) → Reads r.old r.new (section_at (record profile.now { code = r.old.words }) (B.context bases.now) number r.old.left)
         (telling game head.new entities.new.items result) }
     ensures list { (game : Gamestate) → IfOk result (λ section. HasList profile.now.entity (section_of section game head.new entities.new.items)) }
     ensures number { head.new.number ≡ number }
@@ -153,9 +153,9 @@ fn read_section<B: Bases>(
 }
 
 /// Reads a gamestate behind its operation, into its places.
-#[tactic(auto, unfolding(crate::specs::Reading::game_after))]
+#[tactic(auto, unfolding(crate::specs::Reading::game_at))]
 fn read_game(r: &mut Reader, profile: &Profile, into: &mut ServerMessage) -> Result<(), Illegible>
-    ensures reads { Reads r.old r.new (game_after (record profile.now { code = r.old.words }) r.old.left) (holding (Game (game_of into.new)) result) }
+    ensures reads { Reads r.old r.new (game_at (record profile.now { code = r.old.words }) r.old.left) (holding (Game (game_of into.new)) result) }
     ensures ack { into.new.ack ≡ into.old.ack }
     ensures commands { into.new.commands ≡ into.old.commands }
 {
@@ -174,7 +174,7 @@ fn read_game(r: &mut Reader, profile: &Profile, into: &mut ServerMessage) -> Res
 
 /// Reads what is behind the commands, by the operation that stands there: the end of the message, or its section and the
 /// end behind it.
-#[tactic(auto, unfolding(crate::specs::Reading::rest_after, crate::specs::Reading::ended_after))]
+#[tactic(auto, unfolding(crate::specs::Reading::rest_at, crate::specs::Reading::ended_at))]
 fn read_rest<B: Bases>(
     r: &mut Reader,
     profile: &Profile,
@@ -187,7 +187,7 @@ fn read_rest<B: Bases>(
     requires number { HasNumber number (told_of into.old).section }
     requires code { IsCode r.old.words }
     requires byte { operation < 256 }
-    ensures reads { Reads r.old r.new (rest_after (record profile.now { code = r.old.words }) (B.context bases.now) number operation (told_of into.old) r.old.left)
+    ensures reads { Reads r.old r.new (rest_at (record profile.now { code = r.old.words }) (B.context bases.now) number operation (told_of into.old) r.old.left)
         (holding (told_of into.new) result) }
     ensures list { OnOk result (HasList profile.now.entity (told_of into.new).section) }
     ensures number { OnOk result (HasNumber number (told_of into.new).section) }
@@ -215,7 +215,7 @@ fn read_rest<B: Bases>(
 }
 
 /// Reads what is behind the leading long: nops and commands, and the end of the message or its section.
-#[tactic(auto, unfolding(crate::specs::Reading::operations_after))]
+#[tactic(auto, unfolding(crate::specs::Reading::operations_at))]
 fn read_operations<B: Bases>(
     r: &mut Reader,
     profile: &Profile,
@@ -226,7 +226,7 @@ fn read_operations<B: Bases>(
     requires list { HasList profile.now.entity (told_of into.old).section }
     requires number { HasNumber number (told_of into.old).section }
     requires code { IsCode r.old.words }
-    ensures reads { Reads r.old r.new (operations_after (record profile.now { code = r.old.words }) (B.context bases.now) number (told_of into.old) r.old.left)
+    ensures reads { Reads r.old r.new (operations_at (record profile.now { code = r.old.words }) (B.context bases.now) number (told_of into.old) r.old.left)
         (holding (told_of into.new) result) }
     ensures list { OnOk result (HasList profile.now.entity (told_of into.new).section) }
     ensures number { OnOk result (HasNumber number (told_of into.new).section) }
@@ -245,7 +245,7 @@ fn read_operations<B: Bases>(
 /// more than 32 area bytes; `Player` and `Entity` where these don't read, and of a baseline also `Order` for the end mark,
 /// before its state is read, and `Removes`; `Config` of a gamestate, with `Index`, before the string is read, or with
 /// `Full`, behind it; `NoServerId` where the gamestate's strings give none, before its slot is read.
-#[tactic(auto, unfolding(crate::specs::Reading::message_after))]
+#[tactic(auto, unfolding(crate::specs::Reading::server_message_at))]
 pub fn read_server_message<B: Bases>(
     profile: &Profile,
     number: u32,

@@ -9,7 +9,7 @@ ghost use Rattle.q3_strings.specs.Commands.{commands_bits};
 ghost use Rattle.q3_entity.specs.Baselines.{Lines, no_lines};
 ghost use Rattle.q3_entity.specs.Entities.{IsList, run_of};
 ghost use Rattle.q3_svmsg.specs.Values.{HasSnap, IsNamed, Game, base_viewed, base_entities, distance_to, game_of, told_of, parts_told, game_told};
-ghost use Rattle.q3_svmsg.specs.Texts.{head_bits, snapshot_bits, message_text};
+ghost use Rattle.q3_svmsg.specs.Texts.{head_bits, snapshot_bits, server_message_bits};
 
 use crate::bases::{BaseView, base_or};
 use crate::message::{GameParts, Section, ServerMessage, SnapParts};
@@ -38,7 +38,7 @@ pub fn write_snap(
     requires base_entities { IsList profile.now.entity (base_entities (option_map base_viewed base)) }
     requires some { 1 ≤ length into.old }
     requires most { length into.old ≤ 16384 }
-    ensures { Fills into.old into.new (message_text profile.now baselines.now (option_map base_viewed base.entry) (told_of message.now)) result }
+    ensures { Fills into.old into.new (server_message_bits profile.now baselines.now (option_map base_viewed base.entry) (told_of message.now)) result }
 {
     match message.section {
         Section::Snap {
@@ -65,7 +65,7 @@ pub fn write_parts(
     requires base_entities { IsList profile.now.entity (base_entities (option_map base_viewed base)) }
     requires some { 1 ≤ length into.old }
     requires most { length into.old ≤ 16384 }
-    ensures { Fills into.old into.new (message_text profile.now baselines.now (option_map base_viewed base.entry) (parts_told parts.entry)) result }
+    ensures { Fills into.old into.new (server_message_bits profile.now baselines.now (option_map base_viewed base.entry) (parts_told parts.entry)) result }
 {
     let mut w = Writer::new(&profile.code, into.len());
     write_snap_bits(&mut w, profile, parts, baselines, base)?;
@@ -82,7 +82,7 @@ pub fn write_game(
     requires game { message.now.section ≡ Section.Game }
     requires some { 1 ≤ length into.old }
     requires most { length into.old ≤ 16384 }
-    ensures { (lines : Lines) → Fills into.old into.new (message_text profile.now lines None (told_of message.now)) result }
+    ensures { (lines : Lines) → Fills into.old into.new (server_message_bits profile.now lines None (told_of message.now)) result }
 {
     write_game_parts(profile, game_parts_of(message), into)
 }
@@ -95,7 +95,7 @@ pub fn write_game_parts(
 ) -> Result<usize, Overflow>
     requires some { 1 ≤ length into.old }
     requires most { length into.old ≤ 16384 }
-    ensures { (lines : Lines) → Fills into.old into.new (message_text profile.now lines None (game_told parts.entry)) result }
+    ensures { (lines : Lines) → Fills into.old into.new (server_message_bits profile.now lines None (game_told parts.entry)) result }
 {
     fill_game(profile, parts, into)
 }
@@ -104,7 +104,7 @@ pub fn write_game_parts(
 fn fill_game(profile: &Profile, parts: GameParts, into: &mut [u8]) -> Result<usize, Overflow>
     requires some { 1 ≤ length into.old }
     requires most { length into.old ≤ 16384 }
-    ensures { Fills into.old into.new (message_text profile.now no_lines None (game_told parts.entry)) result }
+    ensures { Fills into.old into.new (server_message_bits profile.now no_lines None (game_told parts.entry)) result }
 {
     let mut w = Writer::new(&profile.code, into.len());
     write_game_bits(&mut w, profile, parts)?;
@@ -156,7 +156,7 @@ fn run_of(commands: &[Command]) -> CommandRun<'_>
 }
 
 /// Writes a message with a snapshot: the front, the snapshot, and the end.
-#[tactic(auto, unfolding(crate::specs::Texts::message_text, crate::specs::Texts::section_bits))]
+#[tactic(auto, unfolding(crate::specs::Texts::server_message_bits, crate::specs::Texts::section_bits))]
 fn write_snap_bits(
     w: &mut Writer,
     profile: &Profile,
@@ -167,7 +167,7 @@ fn write_snap_bits(
     requires named { IsNamed (option_map base_viewed base) parts.head.now.number parts.base }
     requires entities { IsList profile.now.entity (run_of parts.entities) }
     requires base_entities { IsList profile.now.entity (base_entities (option_map base_viewed base)) }
-    ensures { Writes w.old w.new (message_text (record profile.now { code = w.old.words }) baselines.now (option_map base_viewed base.entry) (parts_told parts.entry)) result }
+    ensures { Writes w.old w.new (server_message_bits (record profile.now { code = w.old.words }) baselines.now (option_map base_viewed base.entry) (parts_told parts.entry)) result }
 {
     laws::texts_are_written();
     write_front(w, parts.ack, parts.commands)?;
@@ -184,9 +184,9 @@ fn write_snap_bits(
 }
 
 /// Writes a message with a gamestate: the front, the gamestate, and the end.
-#[tactic(auto, unfolding(crate::specs::Texts::message_text, crate::specs::Texts::section_bits))]
+#[tactic(auto, unfolding(crate::specs::Texts::server_message_bits, crate::specs::Texts::section_bits))]
 fn write_game_bits(w: &mut Writer, profile: &Profile, parts: GameParts) -> Result<(), Overflow>
-    ensures { Writes w.old w.new (message_text (record profile.now { code = w.old.words }) no_lines None (game_told parts.entry)) result }
+    ensures { Writes w.old w.new (server_message_bits (record profile.now { code = w.old.words }) no_lines None (game_told parts.entry)) result }
 {
     laws::texts_are_written();
     write_front(w, parts.ack, parts.commands)?;

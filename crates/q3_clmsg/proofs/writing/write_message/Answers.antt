@@ -3,11 +3,11 @@ use Rattle.std.proofs.lemmas.Result.{err_from_is_err_and}
 use Rattle.q3_bits.specs.Words.{row_bits}
 use Rattle.q3_strings.specs.Commands.{commands_bits}
 use Rattle.q3_clmsg.specs.Values.{parts_said}
-use Rattle.q3_clmsg.specs.Texts.{section_bits, client_text}
+use Rattle.q3_clmsg.specs.Texts.{section_bits, client_message_bits}
 use Rattle.q3_clmsg.proofs.writing.write_message.Goals as goal
 
 pub returns-in_err-put_all : goal.returns-in_err-put_all
-unfolding client_text
+unfolding client_message_bits
 returns-in_err-put_all c =
     let law = c.texts_are_written.ensures in
     let words = c.args.w.now.words in
@@ -17,7 +17,7 @@ returns-in_err-put_all c =
     rw (p.1, p.2) (law.refused (row_bits words ((5, 8) ∷ [])) (law.refused (section_bits words c.args.key said.delta said.moves) front))
 
 pub returns-in_err-write_commands : goal.returns-in_err-write_commands
-unfolding client_text
+unfolding client_message_bits
 returns-in_err-write_commands c =
     let law = c.texts_are_written.ensures in
     let words = c.args.w.now.words in
@@ -27,7 +27,7 @@ returns-in_err-write_commands c =
     rw (p.1, p.2) (law.refused (row_bits words ((5, 8) ∷ [])) (law.refused (section_bits words c.args.key said.delta said.moves) both))
 
 pub returns-in_err-write_section : goal.returns-in_err-write_section
-unfolding client_text
+unfolding client_message_bits
 returns-in_err-write_section c =
     let law = c.texts_are_written.ensures in
     let words = c.args.w.now.words in
@@ -38,7 +38,7 @@ returns-in_err-write_section c =
     rw (p.1, p.2) (law.refused (row_bits words ((5, 8) ∷ [])) three)
 
 pub returns : goal.returns
-unfolding client_text
+unfolding client_message_bits
 returns c =
     let law = c.texts_are_written.ensures in
     let said = parts_said c.args.parts in

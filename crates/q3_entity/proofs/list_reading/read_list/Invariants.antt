@@ -2,7 +2,7 @@ use Rattle.std.proofs.Common.{◌≡◌, ◌+◌, ◌-◌, ◌^◌, ◌≤◌, l
 use Rattle.q3_bits.specs.Words.{IsCode}
 use Rattle.q3_fields.specs.Kinds.{end_mark}
 use Rattle.q3_entity.specs.Entities.{RiseFrom, run_of}
-use Rattle.q3_entity.specs.Lists.{list_after}
+use Rattle.q3_entity.specs.Lists.{entity_list_at}
 use Rattle.q3_entity.proofs.Turns.{from_reached}
 use Rattle.q3_entity.proofs.list_reading.read_list.Given as goal
 
@@ -16,7 +16,7 @@ invariant-loop-cursor l = record {
   within : l.cursor.count ≤ length l.into.items;
   rise : RiseFrom (2 ^ 16) l.cursor.next (run_of l.cursor.base);
   reads : from_reached l.fn.r.words l.table l.baselines (record { next = l.cursor.next; base = run_of l.cursor.base; entities = take l.cursor.count l.into.items }, l.r.left)
-      ≡ list_after l.fn.r.words l.table l.baselines (run_of l.base) l.fn.r.left;
+      ≡ entity_list_at l.fn.r.words l.table l.baselines (run_of l.base) l.fn.r.left;
 }
 
 abbrev pub decreases-loop-cursor : goal.decreases-loop-cursor

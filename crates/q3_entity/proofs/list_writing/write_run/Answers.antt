@@ -2,9 +2,9 @@ use Rattle.std.proofs.Common.{◌++◌, sym, ap, subst, ◌∙◌, arith}
 use Rattle.std.proofs.lemmas.Result.{err_from_is_err_and}
 use Rattle.q3_fields.specs.Kinds.{end_mark}
 use Rattle.q3_entity.specs.Entities.{RiseFrom, run_of}
-use Rattle.q3_entity.specs.Lists.{list_text}
-use Rattle.q3_entity.specs.Merging.{end_text, left_behind}
-use Rattle.q3_entity.proofs.ListTexts.{is_turn, is_skipped, list_text-ends}
+use Rattle.q3_entity.specs.Lists.{entity_list_bits}
+use Rattle.q3_entity.specs.Merging.{end_bits, left_behind}
+use Rattle.q3_entity.proofs.ListTexts.{is_turn, is_skipped, entity_list_bits-ends}
 use Rattle.q3_entity.proofs.list_writing.write_run.Goals as goal
 
 pub loop-entity-init : goal.loop-entity-init
@@ -29,7 +29,7 @@ loop-entity-preserved c =
     let others = run_of c.in-Some.others in
     let next = c.in-Some.ensures in
     let t = is_turn words table lines c.loop-entity.w.words left to others (law.words _ _ _ _ h.written) h.base (subst (RiseFrom (end_mark table) 0) next h.now) in
-    let written = law.more _ _ _ _ _ _ _ h.written (ap (list_text words table lines left) next ∙ t.text) c.in_ok-behind.ensures.writes in
+    let written = law.more _ _ _ _ _ _ _ h.written (ap (entity_list_bits words table lines left) next ∙ t.text) c.in_ok-behind.ensures.writes in
     let behind = c.in_ok-behind.ensures.left in
     let s = is_skipped words table lines c.last_changed_is_least.ensures (left_behind to left) others _ _ (rw behind at c.skip_same-in-Some.ensures) t.rise t.rise-now in
     record {
@@ -49,7 +49,7 @@ returns-in_err-behind c =
     let p = err_from_is_err_and c.from_residual.result c.from_residual.ensures.1 in
     let t = is_turn words table c.args.baselines.now c.loop-entity.w.words left c.in-Some.entity.now (run_of c.in-Some.others) (law.words _ _ _ _ h.written) h.base
     (subst (RiseFrom (end_mark table) 0) next h.now) in
-    rw (p.1, p.2) (law.stops _ _ _ _ _ _ _ _ h.written (ap (list_text words table c.args.baselines.now left) next ∙ t.text) c.in_err-behind.ensures.writes)
+    rw (p.1, p.2) (law.stops _ _ _ _ _ _ _ _ h.written (ap (entity_list_bits words table c.args.baselines.now left) next ∙ t.text) c.in_err-behind.ensures.writes)
 
 pub returns : goal.returns
 returns c =
@@ -58,6 +58,6 @@ returns c =
     let words = c.args.w.now.words in
     let lines = c.args.baselines.now in
     let left = run_of c.loop-entity.left in
-    let ends = ap (list_text words table lines left) c.in_default.ensures ∙ list_text-ends words table lines left h.base in
-    c.texts_are_written.ensures.then _ _ _ h.written.written (list_text words table lines (run_of c.args.base) (run_of c.args.now))
-    (λ ws. end_text ws table left) _ (sym h.written.parts ∙ ap (λ t. h.written.written ++ t) ends) h.written.writes c.write_end.ensures
+    let ends = ap (entity_list_bits words table lines left) c.in_default.ensures ∙ entity_list_bits-ends words table lines left h.base in
+    c.texts_are_written.ensures.then _ _ _ h.written.written (entity_list_bits words table lines (run_of c.args.base) (run_of c.args.now))
+    (λ ws. end_bits ws table left) _ (sym h.written.parts ∙ ap (λ t. h.written.written ++ t) ends) h.written.writes c.write_end.ensures

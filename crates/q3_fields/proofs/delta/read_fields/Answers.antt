@@ -2,7 +2,7 @@ use Rattle.std.proofs.Common.{◌+◌, ◌≤◌, ◌<◌, ℕ, Bool, List, sym,
 use Rattle.std.proofs.lemmas.Result.{err_from_is_err_and}
 use Rattle.q3_bits.specs.Words.{run_at}
 use Rattle.q3_fields.specs.Deltas.{changed_at}
-use Rattle.q3_fields.proofs.FieldsRead.{left-kept, left-changed, left-fault, marked-next, marked-fault, fields_after-end}
+use Rattle.q3_fields.proofs.FieldsRead.{left-kept, left-changed, left-fault, marked-next, marked-fault, fields_at-end}
 use Rattle.q3_fields.proofs.delta.read_fields.Goals as goal
 
 pub returns-in_err-same : goal.returns-in_err-same
@@ -75,7 +75,7 @@ loop-k-preserved c =
 pub returns : goal.returns
 returns c = record {
   value = sym (c.lists_are_read.ensures.all _ _ _ _ _ _ _ c.loop-k.invariant.reads
-      (fields_after-end c.args.state c.args.r.now.words c.args.table.now.kinds c.args.count c.loop-k.k _ _ c.loop-k-test.false c.requires.in_table));
+      (fields_at-end c.args.state c.args.r.now.words c.args.table.now.kinds c.args.count c.loop-k.k _ _ c.loop-k-test.false c.requires.in_table));
   words = c.loop-k.invariant.reads.words;
   place = c.loop-k.invariant.reads.place;
 }

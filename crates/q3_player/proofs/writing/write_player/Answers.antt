@@ -2,7 +2,7 @@ use Rattle.std.proofs.Common.{refl}
 use Rattle.std.proofs.lemmas.Result.{err_from_is_err_and}
 use Rattle.q3_fields.specs.Deltas.{words_delta}
 use Rattle.q3_player.specs.Arrays.{player_changes}
-use Rattle.q3_player.specs.Delta.{arrays_text, player_delta}
+use Rattle.q3_player.specs.Delta.{arrays_bits, player_delta}
 use Rattle.q3_player.proofs.writing.write_player.Goals as goal
 
 pub returns-in_err-write_counted : goal.returns-in_err-write_counted
@@ -17,4 +17,4 @@ returns c =
     let from = c.args.from.now in
     let to = c.args.to.now in
     rw (← c.changed_count-count.ensures.count)
-    (c.texts_are_written.ensures.then _ _ _ _ _ (λ ws. arrays_text ws (player_changes from to)) _ refl c.in_ok-write_counted.ensures c.write_arrays.ensures)
+    (c.texts_are_written.ensures.then _ _ _ _ _ (λ ws. arrays_bits ws (player_changes from to)) _ refl c.in_ok-write_counted.ensures c.write_arrays.ensures)

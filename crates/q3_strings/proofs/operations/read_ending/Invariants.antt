@@ -1,11 +1,11 @@
 use Rattle.std.proofs.Common.{length}
 use Rattle.q3_strings.specs.Turns.{HasTurned}
-use Rattle.q3_strings.specs.Operations.{ending_after}
+use Rattle.q3_strings.specs.Operations.{ending_at}
 use Rattle.q3_strings.proofs.operations.read_ending.Given as goal
 
 abbrev pub invariant-loop-operation : goal.invariant-loop-operation
 invariant-loop-operation l =
-    HasTurned l.fn.r l.r (λ turns bits. ending_after l.fn.r.words l.end turns bits) (ending_after l.fn.r.words l.end (length l.fn.r.left) l.fn.r.left)
+    HasTurned l.fn.r l.r (λ turns bits. ending_at l.fn.r.words l.end turns bits) (ending_at l.fn.r.words l.end (length l.fn.r.left) l.fn.r.left)
 
 abbrev pub decreases-loop-operation : goal.decreases-loop-operation
 decreases-loop-operation l = length l.r.left

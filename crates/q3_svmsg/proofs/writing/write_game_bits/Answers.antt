@@ -3,11 +3,11 @@ use Rattle.std.proofs.lemmas.Result.{err_from_is_err_and}
 use Rattle.q3_bits.specs.Words.{row_bits}
 use Rattle.q3_gamestate.specs.Values.{gamestate_of}
 use Rattle.q3_gamestate.specs.Texts.{gamestate_bits}
-use Rattle.q3_svmsg.specs.Texts.{section_bits, message_text}
+use Rattle.q3_svmsg.specs.Texts.{section_bits, server_message_bits}
 use Rattle.q3_svmsg.proofs.writing.write_game_bits.Goals as goal
 
 pub returns-in_err-write_front : goal.returns-in_err-write_front
-unfolding message_text section_bits
+unfolding server_message_bits section_bits
 returns-in_err-write_front c =
     let law = c.texts_are_written.ensures in
     let parts = c.args.parts in
@@ -17,7 +17,7 @@ returns-in_err-write_front c =
     rw (p.1, p.2) (law.refused (row_bits profile.code ((8, 8) ∷ [])) (law.refused (gamestate_bits profile game) c.in_err-write_front.ensures))
 
 pub returns-in_err-write_gamestate : goal.returns-in_err-write_gamestate
-unfolding message_text section_bits
+unfolding server_message_bits section_bits
 returns-in_err-write_gamestate c =
     let law = c.texts_are_written.ensures in
     let parts = c.args.parts in
@@ -28,7 +28,7 @@ returns-in_err-write_gamestate c =
     rw (p.1, p.2) (law.refused (row_bits c.args.w.now.words ((8, 8) ∷ [])) both)
 
 pub returns : goal.returns
-unfolding message_text section_bits
+unfolding server_message_bits section_bits
 returns c =
     let law = c.texts_are_written.ensures in
     let parts = c.args.parts in
