@@ -18,7 +18,7 @@ use Rattle.q3_gamestate.specs.Values.{Gamestate}
 use Rattle.q3_gamestate.specs.Laws.{IsGamestate}
 use Rattle.q3_svmsg.specs.Values.{Snap, Game, Message, base_from}
 use Rattle.q3_svmsg.specs.Texts.{server_message_bits}
-use Rattle.q3_ring.specs.Snapshot.{Snapshot}
+use Rattle.q3_entity_ring.specs.Snapshot.{Snapshot}
 use Rattle.q3_map.specs.Map.{AreHeld}
 
 -- a message that was begun, the number of the last command issued by then, that of the gamestate under which its client played, if it

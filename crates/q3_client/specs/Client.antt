@@ -18,7 +18,7 @@ use Rattle.q3_svmsg.specs.declared.error.Illegible as cause
 use Rattle.q3_svmsg.specs.declared.error.Illegible.TheVariants as causes
 use Rattle.q3_svmsg.specs.Values.{Message}
 use Rattle.q3_svmsg.specs.Reading.{ack_at}
-use Rattle.q3_ring.specs.Snapshot.{Snapshot}
+use Rattle.q3_entity_ring.specs.Snapshot.{Snapshot}
 use Rattle.q3_clstate.specs.declared.applied.SnapOutcome.{SnapOutcome}
 use Rattle.q3_clstate.specs.declared.applied.SnapOutcome.TheVariants as outcomes
 use Rattle.q3_clstate.specs.State.{AppliedState, Application, new_state, apply_at, apply_message}

@@ -1,6 +1,6 @@
 -- What is left behind a snapshot that was read against its base.
 use Rattle.std.proofs.Common.{◌≡◌, ℕ, Bool, true, false, if◌then◌else◌, refl, sym, subst}
-use Rattle.q3_ring.specs.Snapshot.{Snapshot}
+use Rattle.q3_entity_ring.specs.Snapshot.{Snapshot}
 use Rattle.q3_rings.specs.Rings.{accept_at, held_snapshot}
 use Rattle.q3_clstate.specs.declared.applied.SnapOutcome.TheVariants.{Skipped, Stale}
 use Rattle.q3_clstate.specs.State.{AppliedState, passes, accepts, skipped_for}

@@ -13,8 +13,8 @@ use Rattle.q3_entity.specs.Entities as entities
 use Rattle.q3_profile.specs.declared.profile.Profile.{Profile}
 use Rattle.q3_svmsg.specs.Values.{Base, base_from}
 use Rattle.q3_svmsg.specs.Laws.{IsHead, AreEntities, IsBase, IsContext}
-use Rattle.q3_ring.specs.Snapshot.{Snapshot, without_entities}
-use Rattle.q3_ring.specs.Places.{most_places, place_of, at_number, no_places}
+use Rattle.q3_entity_ring.specs.Snapshot.{Snapshot, without_entities}
+use Rattle.q3_entity_ring.specs.Places.{most_places, place_of, at_number, no_places}
 use Rattle.q3_rings.specs.declared.rings.NoBase.{NoBase}
 use Rattle.q3_rings.specs.declared.rings.NoBase.TheVariants.{NeverHeld, Overwritten, EntitiesGone}
 use Rattle.q3_rings.specs.Rings.{HeldSnapshot, HeldSnapshots, AreHeldSnapshots, is_young, young, snapshot_under, held_snapshot, view_at, older, accept_at}

@@ -7,7 +7,7 @@ use Rattle.q3_player.specs.Report.{player_text}
 use Rattle.q3_entity.specs.declared.state.EntityState.{EntityState}
 use Rattle.q3_entity.specs.Report.{fields_text}
 use Rattle.q3_player.specs.declared.head.SnapHead.{SnapHead}
-use Rattle.q3_ring.specs.Snapshot.{Snapshot}
+use Rattle.q3_entity_ring.specs.Snapshot.{Snapshot}
 use Rattle.q3_clstate.specs.Report.{start_text, head_text, entity_text, snapshot_text}
 
 three_in_parts : (a b d : List ℕ) → concat (a ∷ b ∷ d ∷ []) ≡ a ++ (b ++ d)

@@ -12,8 +12,8 @@ use Rattle.q3_svmsg.specs.declared.error.Illegible.{Illegible}
 use Rattle.q3_svmsg.specs.Values.{Context, Told, Nothing, Game, Snap, Skipped, HasNumber, Message}
 use Rattle.q3_svmsg.specs.Laws.{IsReadTold, IsRead, ReadIsSpelled}
 use Rattle.q3_svmsg.specs.Reading.{server_message_at, message_at}
-use Rattle.q3_ring.specs.Snapshot.{Snapshot, without_entities}
-use Rattle.q3_ring.specs.Places.{most_places, place_of, no_places}
+use Rattle.q3_entity_ring.specs.Snapshot.{Snapshot, without_entities}
+use Rattle.q3_entity_ring.specs.Places.{most_places, place_of, no_places}
 use Rattle.q3_rings.specs.Rings.{HeldSnapshot, HeldSnapshots, held_snapshot, held_remains, is_young, older, accept_at}
 use Rattle.q3_clstate.specs.declared.applied.SnapOutcome.{SnapOutcome}
 use Rattle.q3_clstate.specs.declared.applied.SnapOutcome.TheVariants.{NoSnap, Skipped as SkippedFor, Stale}

@@ -1,6 +1,6 @@
 -- How a client's state is kept, and what is done with a snapshot.
 use Rattle.std.specs.Prelude.{◌≡◌, ℕ, None, if◌then◌else◌}
-use Rattle.q3_ring.specs.Snapshot.{Snapshot}
+use Rattle.q3_entity_ring.specs.Snapshot.{Snapshot}
 use Rattle.q3_rings.specs.Rings.{HeldSnapshots, accept_at, held_snapshot}
 use Rattle.q3_clstate.specs.declared.applied.SnapOutcome.{SnapOutcome}
 use Rattle.q3_clstate.specs.declared.applied.SnapOutcome.TheVariants.{Accepted, Skipped, Stale}

@@ -14,7 +14,7 @@ use Rattle.q3_svmsg.specs.declared.error.Illegible.{Illegible}
 use Rattle.q3_svmsg.specs.Values as told
 use Rattle.q3_svmsg.specs.Values.{base_from, Context, Told, Message}
 use Rattle.q3_svmsg.specs.Reading.{message_at}
-use Rattle.q3_ring.specs.Snapshot.{Snapshot}
+use Rattle.q3_entity_ring.specs.Snapshot.{Snapshot}
 use Rattle.q3_rings.specs.declared.rings.NoBase.{NoBase}
 use Rattle.q3_rings.specs.declared.rings.NoBase.TheVariants.{NeverHeld}
 use Rattle.q3_rings.specs.Rings.{HeldSnapshots, no_snapshots, held_snapshot, view_at, accept_at}

@@ -18,7 +18,7 @@ use Rattle.q3_svmsg.specs.Values as told
 use Rattle.q3_svmsg.specs.Values.{Context, Told, HasNumber, Message}
 use Rattle.q3_svmsg.specs.Reading.{field_read, operation_error, rest_at, operations_at, server_message_at, message_at}
 use Rattle.q3_svmsg.specs.Laws.{IsReadTold, ReadIsSpelled}
-use Rattle.q3_ring.specs.Snapshot.{Snapshot}
+use Rattle.q3_entity_ring.specs.Snapshot.{Snapshot}
 use Rattle.q3_rings.specs.declared.rings.NoBase.{NoBase}
 use Rattle.q3_rings.specs.Laws.{AcceptedIsHeld}
 use Rattle.q3_rings.specs.Rings.{AreHeldSnapshots, held_snapshot, view_at, accept_at}

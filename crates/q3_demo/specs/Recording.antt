@@ -14,7 +14,7 @@ use Rattle.q3_gamestate.specs.Values.{Gamestate}
 use Rattle.q3_profile.specs.declared.profile.Profile.{Profile}
 use Rattle.q3_svmsg.specs.Values.{Message, Game, Snap}
 use Rattle.q3_svmsg.specs.Texts.{server_message_bits}
-use Rattle.q3_ring.specs.Snapshot.{Snapshot}
+use Rattle.q3_entity_ring.specs.Snapshot.{Snapshot}
 use Rattle.q3_rings.specs.Rings.{view_at}
 use Rattle.q3_clstate.specs.State.{AppliedState, Application}
 use Rattle.q3_clstate.specs.declared.applied.Applied.{Applied}

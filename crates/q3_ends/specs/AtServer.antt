@@ -7,7 +7,7 @@ use Rattle.q3_player.specs.declared.state.PlayerState.{PlayerState}
 use Rattle.q3_entity.specs.declared.state.EntityState.{EntityState}
 use Rattle.q3_script.specs.declared.event.Event.{Event}
 use Rattle.q3_script.specs.declared.event.Event.TheVariants as events
-use Rattle.q3_lines.specs.ServerLines.{Run}
+use Rattle.q3_report.specs.ServerLines.{Run}
 use Rattle.q3_server.specs.Server.{ServerState, set_time_at, set_entity_at, remove_entity_at, set_player_at, set_area_at, new_map_at, set_baseline_at, set_config_at, say_at}
 use Rattle.q3_server.specs.Taking.{Taken}
 use Rattle.q3_report.specs.declared.answer.HandedIn.{HandedIn}

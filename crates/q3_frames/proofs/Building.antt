@@ -8,10 +8,10 @@ use Rattle.std.specs.Option.{option_map, IfSome}
 use Rattle.q3_entity.specs.declared.state.EntityState.{EntityState}
 use Rattle.q3_entity.specs.Entities.{Rises, zero_entity}
 use Rattle.q3_player.specs.declared.head.SnapHead.{SnapHead}
-use Rattle.q3_ring.specs.declared.kept.Kept.{Kept}
-use Rattle.q3_ring.specs.Ring.{RingState, new_ring, with_entities, entities_from, EndsWith, PlacesOnce}
-use Rattle.q3_ring.specs.Places.{most_places, place_of, no_places, put_at_number}
-use Rattle.q3_ring.specs.Laws.{PlacedIsThere, OthersStay}
+use Rattle.q3_entity_ring.specs.declared.kept.Kept.{Kept}
+use Rattle.q3_entity_ring.specs.Ring.{RingState, new_ring, with_entities, entities_from, EndsWith, PlacesOnce}
+use Rattle.q3_entity_ring.specs.Places.{most_places, place_of, no_places, put_at_number}
+use Rattle.q3_entity_ring.specs.Laws.{PlacedIsThere, OthersStay}
 use Rattle.q3_frames.specs.Frames.{Frame, FramesState, AreFrames, no_frames, has_entities, frame_remains, with_frame, build_at}
 use Rattle.q3_frames.specs.KeptFrames.{frame_in, IsKept}
 use Rattle.q3_frames.proofs.Remains.{remains-there, remains-gone, remains_twice}

@@ -7,8 +7,8 @@ use Rattle.std.proofs.lemmas.List.Elements.{filter-append}
 use Rattle.std.proofs.lemmas.List.Sums.{sum_by-cons, sum_by_push}
 use Rattle.std.specs.List.{last_or, filter}
 use Rattle.std.specs.Option.{option_map}
-use Rattle.q3_ring.specs.Snapshot.{Snapshot}
-use Rattle.q3_ring.specs.Places.{most_places, place_of, no_places, at_number, put_at_number}
+use Rattle.q3_entity_ring.specs.Snapshot.{Snapshot}
+use Rattle.q3_entity_ring.specs.Places.{most_places, place_of, no_places, at_number, put_at_number}
 use Rattle.q3_frames.specs.Frames.{Frame, FramesState, no_frames, AreFrames, has_entities, frame_under, held_frame, is_near, frame_remains, with_frame, build_at}
 use Rattle.q3_frames.specs.Built.{Build, placed_by, frames_from, last_built}
 use Rattle.q3_frames.specs.Laws.{NothingIsHeld, HeldWasBuilt, BuiltIsHeld, BuildKeeps, BaseIsNear, NothingStands, BuildIsAdded}

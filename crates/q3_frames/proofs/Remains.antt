@@ -2,7 +2,7 @@
 use Rattle.std.proofs.Common.{◌≡◌, ℕ, ◌+◌, ◌-◌, ◌<◌, ◌≤◌, nat_lt, Bool, true, false, ◌==◌, ◌&&◌, cond, Option, Some, None, inl, inr, refl, sym, ap, ◌∙◌, arith}
 use Rattle.std.proofs.lemmas.Bool.{cases_Bool, false≢true, and_parts, and_from, and_right, eqb-true, eq-eqb, ltb-true, lt-ltb}
 use Rattle.std.specs.Option.{option_map}
-use Rattle.q3_ring.specs.Snapshot.{Snapshot, without_entities}
+use Rattle.q3_entity_ring.specs.Snapshot.{Snapshot, without_entities}
 use Rattle.q3_frames.specs.Frames.{Frame, is_near, has_entities, frame_remains, frame_under}
 
 pub remains-there : (ring placed : ℕ) (frame : Frame) → has_entities ring placed frame ≡ true → frame_remains ring placed frame ≡ frame

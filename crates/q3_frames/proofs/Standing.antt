@@ -6,7 +6,7 @@ use Rattle.std.proofs.lemmas.List.{get_or-set_other, get_or_past, get_or-replica
 use Rattle.std.proofs.lemmas.Grind.{get_or-set_at}
 use Rattle.std.proofs.lemmas.Nat.{mod_below}
 use Rattle.std.specs.Option.{option_map}
-use Rattle.q3_ring.specs.Places.{most_places, place_of, no_places, at_number, put_at_number}
+use Rattle.q3_entity_ring.specs.Places.{most_places, place_of, no_places, at_number, put_at_number}
 use Rattle.q3_frames.specs.Frames.{Frame, with_frame}
 
 -- a function of each thing that stands in a place

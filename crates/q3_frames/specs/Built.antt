@@ -1,8 +1,8 @@
 -- The same over the list of all that was ever built, of which nothing is lost: counts are sums over it.
 use Rattle.std.specs.Prelude.{◌≡◌, ℕ, ◌+◌, ◌<◌, ◌==◌, ◌&&◌, if◌then◌else◌, List, [], ◌∷◌, length, filter, sum_by, slice_index_or, Option, None, option_map}
 use Rattle.std.specs.List.{last_or}
-use Rattle.q3_ring.specs.Snapshot.{Snapshot}
-use Rattle.q3_ring.specs.Places.{place_of, at_number}
+use Rattle.q3_entity_ring.specs.Snapshot.{Snapshot}
+use Rattle.q3_entity_ring.specs.Places.{place_of, at_number}
 use Rattle.q3_frames.specs.Frames.{Frame, FramesState, AreFrames, frame_under, is_near, frame_remains}
 
 -- what was built, and for which slot

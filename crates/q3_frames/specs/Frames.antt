@@ -1,7 +1,7 @@
 -- The frames of a server: what was built for each slot, as far as it may be a message's base.
 use Rattle.std.specs.Prelude.{◌≡◌, ℕ, ◌+◌, ◌-◌, ◌<◌, ◌==◌, ◌&&◌, nat_lt, if◌then◌else◌, Bool, List, [], length, map, replicate, slice_index_or, slice_set, Option, Some, None, option_map}
-use Rattle.q3_ring.specs.Snapshot.{Snapshot, without_entities}
-use Rattle.q3_ring.specs.Places.{most_places, no_places, at_number, put_at_number}
+use Rattle.q3_entity_ring.specs.Snapshot.{Snapshot, without_entities}
+use Rattle.q3_entity_ring.specs.Places.{most_places, no_places, at_number, put_at_number}
 
 -- a frame: a snapshot that was built, and how many entities were placed before its own
 pub record Frame : Type 0 where

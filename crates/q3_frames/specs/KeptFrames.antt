@@ -1,10 +1,10 @@
 -- How frames are kept: their entities lie in one ring, those of frames with the same entities once.
 use Rattle.std.specs.Prelude.{ℕ, ◌≡◌, ◌+◌, ◌^◌, ◌<◌, ◌≤◌, true, length, map, All, option_map, IfSome}
 use Rattle.q3_entity.specs.Entities.{Rises, most_entities}
-use Rattle.q3_ring.specs.declared.kept.Kept.{Kept}
-use Rattle.q3_ring.specs.Ring.{RingState}
-use Rattle.q3_ring.specs.Kept.{snapshot_in}
-use Rattle.q3_ring.specs.Places.{most_places}
+use Rattle.q3_entity_ring.specs.declared.kept.Kept.{Kept}
+use Rattle.q3_entity_ring.specs.Ring.{RingState}
+use Rattle.q3_entity_ring.specs.Kept.{snapshot_in}
+use Rattle.q3_entity_ring.specs.Places.{most_places}
 use Rattle.q3_frames.specs.declared.frames.Frames.TheInside.{Inside}
 use Rattle.q3_frames.specs.Frames.{Frame, FramesState, has_entities, frame_remains}
 

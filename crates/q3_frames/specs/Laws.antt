@@ -1,7 +1,7 @@
 -- Laws of frames.
 use Rattle.std.specs.Prelude.{◌≡◌, ◌≢◌, ◌⊎◌, ℕ, ◌+◌, ◌<◌, List, [], ◌∷◌, ◌++◌, length, Some, None}
-use Rattle.q3_ring.specs.Snapshot.{Snapshot}
-use Rattle.q3_ring.specs.Places.{place_of}
+use Rattle.q3_entity_ring.specs.Snapshot.{Snapshot}
+use Rattle.q3_entity_ring.specs.Places.{place_of}
 use Rattle.q3_frames.specs.Frames.{FramesState, no_frames, AreFrames, held_frame, base_of, build_at}
 use Rattle.q3_frames.specs.Built.{Build, base_built, FramesStandFor}
 

@@ -16,7 +16,7 @@ use Rattle.q3_player.specs.declared.state.PlayerState.{PlayerState}
 use Rattle.q3_player.specs.declared.head.SnapHead.{SnapHead}
 use Rattle.q3_player.specs.State.{AreShorts, IsState}
 use Rattle.q3_config.specs.Strings.{Pending, size_of, config_size, places, longest_string}
-use Rattle.q3_ring.specs.Places.{place_of}
+use Rattle.q3_entity_ring.specs.Places.{place_of}
 use Rattle.q3_rings.specs.Rings.{HeldSnapshot, HeldSnapshots}
 use Rattle.q3_rings.specs.ByNumber.{held_under, one_of}
 use Rattle.q3_profile.specs.declared.profile.Profile.{Profile}

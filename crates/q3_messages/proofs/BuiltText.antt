@@ -21,7 +21,7 @@ use Rattle.q3_svmsg.specs.Values.{Base, base_from, IsNamed, Context, Message}
 use Rattle.q3_svmsg.specs.Texts.{snapshot_bits, section_bits, server_message_bits}
 use Rattle.q3_svmsg.specs.Reading.{held_base, server_message_at}
 use Rattle.q3_svmsg.specs.Laws.{IsBase, IsContext, IsMessage, WrittenIsRead, ReadIsSkipped}
-use Rattle.q3_ring.specs.Snapshot.{Snapshot}
+use Rattle.q3_entity_ring.specs.Snapshot.{Snapshot}
 use Rattle.q3_rings.specs.declared.rings.NoBase.{NoBase}
 use Rattle.q3_rings.specs.Rings.{HeldSnapshots, held_snapshot, view_at}
 use Rattle.q3_clstate.specs.State.{context_of, has_base, received}

@@ -11,7 +11,7 @@ use Rattle.q3_chan.specs.Laws.{IsSendable}
 use Rattle.q3_svmsg.specs.Values as told
 use Rattle.q3_clmsg.specs.Values as client_told
 use Rattle.q3_map.specs.Map.{MapState, is_other}
-use Rattle.q3_ring.specs.Snapshot.{Snapshot}
+use Rattle.q3_entity_ring.specs.Snapshot.{Snapshot}
 use Rattle.q3_rings.specs.Rings.{HeldSnapshots, view_at}
 use Rattle.q3_window.specs.Outgoing.{acknowledge_at, text_at}
 use Rattle.q3_slot.specs.declared.taking.ServerTook.TheVariants.{Partial as SlotPartial}

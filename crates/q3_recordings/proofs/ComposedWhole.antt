@@ -28,7 +28,7 @@ use Rattle.q3_svmsg.specs.Values.{Context, Told, Snap, Message}
 use Rattle.q3_svmsg.specs.Texts.{server_message_bits}
 use Rattle.q3_svmsg.specs.Reading.{field_read, operation_error, game_at, section_at, ended_at, rest_at, operations_at, server_message_at, message_at}
 use Rattle.q3_svmsg.specs.Laws.{IsContext, IsRead, IsReadTold, IsMessage, WrittenIsRead, ReadIsSpelled, normal_told}
-use Rattle.q3_ring.specs.Snapshot.{Snapshot}
+use Rattle.q3_entity_ring.specs.Snapshot.{Snapshot}
 use Rattle.q3_rings.specs.declared.rings.NoBase.{NoBase}
 use Rattle.q3_rings.specs.Laws.{AcceptedIsHeld}
 use Rattle.q3_rings.specs.Rings.{HeldSnapshots, held_snapshot, view_at, accept_at}

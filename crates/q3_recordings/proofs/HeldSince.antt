@@ -6,8 +6,8 @@ use Rattle.std.proofs.lemmas.Bool.{cases_Bool, cond_both, le-leb, leb-true, leb-
 use Rattle.std.proofs.lemmas.List.{length-map, map-set, get_or-set_same, ext_get_or, get_or-replicate}
 use Rattle.std.proofs.Math.ListN.{get_or-map}
 use Rattle.q3_entity.specs.Entities.{most_entities}
-use Rattle.q3_ring.specs.Snapshot.{Snapshot, without_entities}
-use Rattle.q3_ring.specs.Places.{most_places, place_of, no_places, at_number}
+use Rattle.q3_entity_ring.specs.Snapshot.{Snapshot, without_entities}
+use Rattle.q3_entity_ring.specs.Places.{most_places, place_of, no_places, at_number}
 use Rattle.q3_rings.specs.declared.rings.NoBase.{NoBase}
 use Rattle.q3_rings.specs.declared.rings.NoBase.TheVariants.{NeverHeld, Overwritten, EntitiesGone}
 use Rattle.q3_rings.specs.Rings.{HeldSnapshot, HeldSnapshots, IsHeldIn, AreHeldSnapshots, no_snapshots, is_young, young, snapshot_under, view_at, older, accept_at}

@@ -18,7 +18,7 @@ use Rattle.q3_svmsg.specs.Values.{Context, Told, Nothing, Game, Snap, Skipped, H
 use Rattle.q3_svmsg.specs.declared.error.Illegible.{Illegible}
 use Rattle.q3_svmsg.specs.Reading.{message_at}
 use Rattle.q3_svmsg.specs.Laws.{IsReadTold, IsRead, ReadIsSpelled, SpelledIsRead}
-use Rattle.q3_ring.specs.Snapshot.{Snapshot}
+use Rattle.q3_entity_ring.specs.Snapshot.{Snapshot}
 use Rattle.q3_rings.specs.declared.rings.NoBase.{NoBase}
 use Rattle.q3_rings.specs.Rings.{HeldSnapshot, HeldSnapshots, no_snapshots, held_snapshot, view_at, accept_at}
 use Rattle.q3_clstate.specs.declared.applied.SnapOutcome.{SnapOutcome}

@@ -13,7 +13,7 @@ use Rattle.q3_svmsg.specs.Values.{Base, base_from, base_player, base_entities, C
 use Rattle.q3_svmsg.specs.Reading.{held_base, server_message_at, message_at}
 use Rattle.q3_svmsg.specs.Spelling.{SpellsSnapshot, SpellsSkippedSnapshot, SpellsSection, SpellsMessage}
 use Rattle.q3_svmsg.specs.Laws.{IsContext, IsReadTold, IsRead, ReadIsSpelled, SpelledIsRead}
-use Rattle.q3_ring.specs.Snapshot.{Snapshot}
+use Rattle.q3_entity_ring.specs.Snapshot.{Snapshot}
 use Rattle.q3_rings.specs.Rings.{HeldSnapshots, view_at}
 use Rattle.q3_clstate.specs.State.{context_of}
 use Rattle.q3_recordings.proofs.HeldSince.{held_since, view_from, view_none, view_some}

@@ -9,7 +9,7 @@ use Rattle.q3_entity.specs.Baselines.{Lines}
 use Rattle.q3_profile.specs.declared.profile.Profile.{Profile}
 use Rattle.q3_svmsg.specs.Values.{Told, Nothing, Game, Snap, Skipped, Message}
 use Rattle.q3_svmsg.specs.Laws.{IsContext, WrittenIsRead, ReadIsSpelled, SpelledIsRead}
-use Rattle.q3_ring.specs.Snapshot.{Snapshot}
+use Rattle.q3_entity_ring.specs.Snapshot.{Snapshot}
 use Rattle.q3_rings.specs.Rings.{HeldSnapshots, held_snapshot}
 use Rattle.q3_rings.specs.Laws.{AcceptedIsHeld}
 use Rattle.q3_clstate.specs.declared.applied.SnapOutcome.TheVariants.{Skipped as SkippedFor, Stale}

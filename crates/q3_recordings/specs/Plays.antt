@@ -6,7 +6,7 @@ use Rattle.q3_config.specs.Strings.{server_id}
 use Rattle.q3_profile.specs.declared.profile.Profile.{Profile}
 use Rattle.q3_clstate.specs.State.{AppliedState, Application, apply_at}
 use Rattle.q3_clstate.specs.Standing.{IsApplied}
-use Rattle.q3_ring.specs.Snapshot.{Snapshot}
+use Rattle.q3_entity_ring.specs.Snapshot.{Snapshot}
 use Rattle.q3_demo.specs.declared.error.DemoError.{DemoError}
 use Rattle.q3_demo.specs.declared.record.Piece.{Piece}
 use Rattle.q3_demo.specs.declared.record.Piece.TheVariants.{Message}

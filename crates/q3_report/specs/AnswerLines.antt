@@ -3,8 +3,8 @@ use Rattle.std.specs.Prelude.{ℕ, Bool, true, false, List, [], ◌∷◌, ◌++
 use Rattle.std.specs.List.{concat}
 use Rattle.q3_io.specs.Print.{hex_word}
 use Rattle.q3_clstate.specs.Report.{snapshot_text}
-use Rattle.q3_lines.specs.ServerLines.{slot_error_text, not_later_text, no_client_text, config_refused_text, say_error_text, serve_text, server_text}
-use Rattle.q3_lines.specs.ClientLines.{client_text, window_full_text, move_error_text, send_text}
+use Rattle.q3_report.specs.ServerLines.{slot_error_text, not_later_text, no_client_text, config_refused_text, say_error_text, serve_text, server_text}
+use Rattle.q3_report.specs.ClientLines.{client_text, window_full_text, move_error_text, send_text}
 use Rattle.q3_report.specs.declared.answer.OutOfRange.{OutOfRange}
 use Rattle.q3_report.specs.declared.answer.BaselineRefused.{BaselineRefused}
 use Rattle.q3_report.specs.declared.answer.BaselineRefused.TheVariants as unset

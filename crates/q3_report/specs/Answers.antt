@@ -1,6 +1,6 @@
 -- What an event answered, as a value: all that stands in its lines.
 use Rattle.std.specs.Prelude.{ℕ, Bool, List, Option, Some, None, Result}
-use Rattle.q3_ring.specs.Snapshot.{Snapshot}
+use Rattle.q3_entity_ring.specs.Snapshot.{Snapshot}
 use Rattle.q3_text.specs.declared.text.Command.{Command}
 use Rattle.q3_clstate.specs.State.{AppliedState}
 use Rattle.q3_slot.specs.declared.answer.Emitted.{Emitted}
@@ -8,7 +8,7 @@ use Rattle.q3_slot.specs.declared.answer.NoClient.{NoClient}
 use Rattle.q3_slot.specs.declared.taking.ServerTook.{ServerTook}
 use Rattle.q3_client.specs.declared.client.ClientTook.{ClientTook}
 use Rattle.q3_client.specs.declared.client.Sent.{Sent}
-use Rattle.q3_lines.specs.ServerLines.{Run, ran_nothing}
+use Rattle.q3_report.specs.ServerLines.{Run, ran_nothing}
 use Rattle.q3_report.specs.declared.answer.HandedIn.{HandedIn}
 use Rattle.q3_report.specs.declared.answer.Front.{Front}
 use Rattle.q3_report.specs.declared.answer.TakeRefused.{TakeRefused}

@@ -1,7 +1,7 @@
 -- What the program's answers tell, with what they lend.
 use Rattle.std.specs.Prelude.{option_map}
 use Rattle.q3_rings.specs.Loans.{snapshot_of}
-use Rattle.q3_lines.specs.ServerLines.{run_of}
+use Rattle.q3_report.specs.ServerLines.{run_of}
 use Rattle.q3_report.specs.declared.answer.Taker as taker
 use Rattle.q3_report.specs.declared.answer.Taker.TheVariants as takers
 use Rattle.q3_report.specs.declared.answer.Shown as shown

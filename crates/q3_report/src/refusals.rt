@@ -4,14 +4,14 @@
 ghost use Rattle.std.specs.Prelude.{ℕ, List};
 ghost use Rattle.q3_io.specs.Faults.{HasCause};
 ghost use Rattle.q3_io.specs.Written.{Adds};
-ghost use Rattle.q3_lines.specs.ServerLines.{slot_error_text, no_client_text, say_error_text, not_later_text, config_refused_text};
+ghost use Rattle.q3_report.specs.ServerLines.{slot_error_text, no_client_text, say_error_text, not_later_text, config_refused_text};
 ghost use Rattle.q3_report.specs.AnswerLines.{out_of_range_text, baseline_refused_text, type_refused_text, move_refused_text, record_refused_text, stop_refused_text};
 
 use crate::answer::{
     BaselineRefused, MoveRefused, OutOfRange, RecordRefused, StopRefused, TypeRefused,
 };
 use q3_io::{Failed, Piece, Sink, print_all};
-use q3_lines::client::print_move_error;
+use crate::client::print_move_error;
 use q3_map::NotLater;
 use q3_server::{ConfigRefused, SlotError};
 use q3_slot::{NoClient, SayError};

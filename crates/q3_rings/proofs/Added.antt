@@ -6,8 +6,8 @@ use Rattle.std.proofs.lemmas.Bool.{cases_eq, eq-eqb, ne_eqb, le-leb, lt-leb}
 use Rattle.std.proofs.lemmas.List.Elements.{All-filter, All-weaker}
 use Rattle.std.proofs.lemmas.List.Sums.{sum_by_push}
 use Rattle.q3_entity.specs.Entities.{most_entities}
-use Rattle.q3_ring.specs.Snapshot.{Snapshot}
-use Rattle.q3_ring.specs.Places.{place_of, at_number}
+use Rattle.q3_entity_ring.specs.Snapshot.{Snapshot}
+use Rattle.q3_entity_ring.specs.Places.{place_of, at_number}
 use Rattle.q3_rings.specs.Rings.{HeldSnapshot, HeldSnapshots, held_remains, older, accept_at}
 use Rattle.q3_rings.specs.Accepted.{AreAccepted, newest_of, last_accepted, age_of, aged, SnapshotsStandFor}
 use Rattle.q3_rings.proofs.Lists.{last_push, last_holds, filter_none, filter_push, filter_passes_by}

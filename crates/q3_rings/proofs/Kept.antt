@@ -9,10 +9,10 @@ use Rattle.std.proofs.Math.ListN.{get_or-map}
 use Rattle.q3_entity.specs.declared.state.EntityState.{EntityState}
 use Rattle.q3_player.specs.declared.head.SnapHead.{SnapHead}
 use Rattle.q3_entity.specs.Entities.{Rises, most_entities}
-use Rattle.q3_ring.specs.declared.kept.Kept.{Kept}
-use Rattle.q3_ring.specs.Ring.{RingState, with_entities, entities_from}
-use Rattle.q3_ring.specs.Places.{most_places, place_of, no_places, at_number, put_at_number}
-use Rattle.q3_ring.specs.Laws.{PlacedIsThere, OthersStay}
+use Rattle.q3_entity_ring.specs.declared.kept.Kept.{Kept}
+use Rattle.q3_entity_ring.specs.Ring.{RingState, with_entities, entities_from}
+use Rattle.q3_entity_ring.specs.Places.{most_places, place_of, no_places, at_number, put_at_number}
+use Rattle.q3_entity_ring.specs.Laws.{PlacedIsThere, OthersStay}
 use Rattle.q3_rings.specs.declared.rings.Rings.TheInside.{Inside}
 use Rattle.q3_rings.specs.declared.rings.Back.{Back}
 use Rattle.q3_rings.specs.Loans.{head_from}

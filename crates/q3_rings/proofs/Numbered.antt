@@ -6,8 +6,8 @@ use Rattle.std.proofs.lemmas.Bool.{cases_Bool, cases_eq, leb-true, leb-false, le
 use Rattle.std.proofs.lemmas.List.{length-append}
 use Rattle.std.proofs.lemmas.List.Sums.{sum_by-cons}
 use Rattle.std.proofs.Math.ListN.{get_or-map}
-use Rattle.q3_ring.specs.Places.{place_of}
-use Rattle.q3_ring.specs.declared.kept.Kept.{Kept}
+use Rattle.q3_entity_ring.specs.Places.{place_of}
+use Rattle.q3_entity_ring.specs.declared.kept.Kept.{Kept}
 use Rattle.q3_rings.specs.declared.rings.Rings.TheInside.{Inside}
 use Rattle.q3_rings.specs.Rings.{HeldSnapshot, HeldSnapshots, RingsState, IsHeldIn, AreHeldSnapshots, is_young, held_remains}
 use Rattle.q3_rings.specs.ByNumber.{of_number, held_under, one_of, held_up_to, by_number, GoneAreEmpty}

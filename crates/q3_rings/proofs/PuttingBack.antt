@@ -8,10 +8,10 @@ use Rattle.std.proofs.lemmas.List.Elements.{All-head, All-tail, All-set, All-wea
 use Rattle.std.proofs.Math.ListN.{get_or-map}
 use Rattle.q3_entity.specs.declared.state.EntityState.{EntityState}
 use Rattle.q3_entity.specs.Entities.{RiseFrom, Rises, most_entities}
-use Rattle.q3_ring.specs.declared.kept.Kept.{Kept}
-use Rattle.q3_ring.specs.Ring.{RingState, with_entity_at, entities_from}
-use Rattle.q3_ring.specs.Places.{most_places, place_of, no_places, put_at_number}
-use Rattle.q3_ring.specs.Laws.{PutIsNext, PutLeavesOthers}
+use Rattle.q3_entity_ring.specs.declared.kept.Kept.{Kept}
+use Rattle.q3_entity_ring.specs.Ring.{RingState, with_entity_at, entities_from}
+use Rattle.q3_entity_ring.specs.Places.{most_places, place_of, no_places, put_at_number}
+use Rattle.q3_entity_ring.specs.Laws.{PutIsNext, PutLeavesOthers}
 use Rattle.q3_rings.specs.declared.rings.Rings.TheInside.{Inside}
 use Rattle.q3_rings.specs.declared.rings.Back.{Back}
 use Rattle.q3_rings.specs.Rings.{HeldSnapshot, HeldSnapshots, RingsState, AreHeldSnapshots, CanPutBack, is_young, held_remains, held_of, no_rings, restored, place_in, end_in, put_back_in}

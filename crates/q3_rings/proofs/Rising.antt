@@ -4,8 +4,8 @@ use Rattle.std.specs.Prelude.{option_map, unwrap_or}
 use Rattle.std.specs.List.{All, last_or}
 use Rattle.std.proofs.lemmas.List.Elements.{All-nil, All-cons, All-weaker}
 use Rattle.q3_entity.specs.Entities.{most_entities}
-use Rattle.q3_ring.specs.Snapshot.{Snapshot}
-use Rattle.q3_ring.specs.Places.{place_of}
+use Rattle.q3_entity_ring.specs.Snapshot.{Snapshot}
+use Rattle.q3_entity_ring.specs.Places.{place_of}
 use Rattle.q3_rings.specs.Accepted.{AcceptedFrom, AreAccepted, newest_of}
 
 -- whether a snapshot has the place of a number, and whether it counts for the number's age

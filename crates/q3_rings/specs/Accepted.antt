@@ -2,8 +2,8 @@
 use Rattle.std.specs.Prelude.{◌≡◌, ℕ, ◌+◌, ◌≤◌, ◌==◌, nat_le, if◌then◌else◌, List, [], ◌∷◌, length, filter, sum_by, Option, None, option_map, unwrap_or, Result, Err}
 use Rattle.std.specs.List.{last_or}
 use Rattle.q3_entity.specs.Entities.{most_entities}
-use Rattle.q3_ring.specs.Snapshot.{Snapshot}
-use Rattle.q3_ring.specs.Places.{place_of, at_number}
+use Rattle.q3_entity_ring.specs.Snapshot.{Snapshot}
+use Rattle.q3_entity_ring.specs.Places.{place_of, at_number}
 use Rattle.q3_rings.specs.declared.rings.NoBase.{NoBase}
 use Rattle.q3_rings.specs.declared.rings.NoBase.TheVariants.{NeverHeld}
 use Rattle.q3_rings.specs.Rings.{HeldSnapshot, HeldSnapshots, AreHeldSnapshots, snapshot_under, held_remains}

@@ -1,6 +1,6 @@
 -- The snapshots that are held, by rising number.
 use Rattle.std.specs.Prelude.{◌≡◌, ◌⊎◌, ℕ, zero, suc, ◌==◌, if◌then◌else◌, false, List, [], ◌∷◌, ◌++◌, slice_index_or, Option, Some, None, IfSome, MatchOption}
-use Rattle.q3_ring.specs.Places.{at_number}
+use Rattle.q3_entity_ring.specs.Places.{at_number}
 use Rattle.q3_rings.specs.Rings.{HeldSnapshot, HeldSnapshots, is_young}
 
 -- the snapshot that is held under a number, also where its entities are gone

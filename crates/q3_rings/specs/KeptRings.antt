@@ -1,9 +1,9 @@
 -- How snapshots are held: their entities lie in one ring.
 use Rattle.std.specs.Prelude.{◌≡◌, ◌+◌, ◌*◌, ◌-◌, ◌^◌, ◌≤◌, true, length, map, All, option_map, IfSome}
 use Rattle.q3_entity.specs.Entities.{Rises, most_entities}
-use Rattle.q3_ring.specs.declared.kept.Kept.{Kept}
-use Rattle.q3_ring.specs.Ring.{RingState, entities_from}
-use Rattle.q3_ring.specs.Kept.{snapshot_in}
+use Rattle.q3_entity_ring.specs.declared.kept.Kept.{Kept}
+use Rattle.q3_entity_ring.specs.Ring.{RingState, entities_from}
+use Rattle.q3_entity_ring.specs.Kept.{snapshot_in}
 use Rattle.q3_rings.specs.declared.rings.Rings.TheInside.{Inside}
 use Rattle.q3_rings.specs.declared.rings.Back.{Back}
 use Rattle.q3_rings.specs.Rings.{HeldSnapshot, HeldSnapshots, Begun, RingsState, AreHeldSnapshots, CanPutBack, is_young, held_remains}

@@ -1,7 +1,7 @@
 -- Laws of the snapshots that a client holds.
 use Rattle.std.specs.Prelude.{◌≡◌, ◌⊎◌, ℕ, ◌+◌, ◌<◌, ◌≤◌, if◌then◌else◌, List, [], ◌∷◌, ◌++◌, length, Contains, Ok, Err}
 use Rattle.q3_entity.specs.Entities.{most_entities}
-use Rattle.q3_ring.specs.Snapshot.{Snapshot}
+use Rattle.q3_entity_ring.specs.Snapshot.{Snapshot}
 use Rattle.q3_rings.specs.declared.rings.NoBase.TheVariants.{EntitiesGone}
 use Rattle.q3_rings.specs.Rings.{HeldSnapshot, HeldSnapshots, AreHeldSnapshots, no_snapshots, is_young, held_snapshot, accept_at, CanPutBack, put_back_at}
 use Rattle.q3_rings.specs.Accepted.{AreAccepted, newest_of, age_of, held_among, SnapshotsStandFor}

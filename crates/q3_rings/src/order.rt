@@ -2,7 +2,7 @@
 
 ghost use Rattle.std.specs.Prelude.{◌≡◌, ◌≢◌, ◌⊎◌, ◌<◌, ◌≤◌, ℕ, Some, None, length, option_map};
 ghost use Rattle.q3_entity.specs.Entities.{Rises, run_of};
-ghost use Rattle.q3_ring.specs.Places.{place_of};
+ghost use Rattle.q3_entity_ring.specs.Places.{place_of};
 ghost use Rattle.q3_rings.specs.Loans.{head_of, head_from};
 ghost use Rattle.q3_rings.specs.Rings.{HeldSnapshot};
 ghost use Rattle.q3_rings.specs.ByNumber.{by_number};

@@ -4,7 +4,7 @@ use Rattle.std.specs.Prelude.{IfSome, MatchOption, nat_le, replicate}
 use Rattle.std.proofs.lemmas.Bool.{cases_eq, cases_lt, eq-eqb, ne_eqb, le-leb, lt-leb}
 use Rattle.std.proofs.lemmas.List.{append-nil, length-set, get_or-set_same, get_or-set_other, ext_get_or}
 use Rattle.std.proofs.lemmas.Option.{IfSome_then}
-use Rattle.q3_ring.specs.Places.{most_places, place_of, at_number}
+use Rattle.q3_entity_ring.specs.Places.{most_places, place_of, at_number}
 use Rattle.q3_rings.specs.Rings.{HeldSnapshot, HeldSnapshots, IsHeldIn, AreHeldSnapshots, no_snapshots, put_back_at}
 use Rattle.q3_rings.specs.ByNumber.{of_number, held_under, one_of, held_up_to, HoldsNewest}
 

@@ -7,7 +7,7 @@ use Rattle.std.proofs.lemmas.List.{get_or_past}
 use Rattle.std.proofs.lemmas.List.Elements.{All-get_or}
 use Rattle.std.proofs.lemmas.Option.{IfSome_then}
 use Rattle.q3_entity.specs.Entities.{most_entities}
-use Rattle.q3_ring.specs.Places.{most_places, place_of, at_number}
+use Rattle.q3_entity_ring.specs.Places.{most_places, place_of, at_number}
 use Rattle.q3_rings.specs.Rings.{HeldSnapshot, HeldSnapshots, IsHeldIn, IsOlder, AreHeldSnapshots, is_young, no_snapshots, put_back_at}
 use Rattle.q3_rings.specs.ByNumber.{held_under, held_up_to, by_number, HoldsNewest}
 use Rattle.q3_profile.specs.declared.profile.Profile.{Profile}

@@ -7,7 +7,7 @@ use Rattle.std.proofs.lemmas.List.{append-nil, get_or-set_same, get_or-set_other
 use Rattle.std.proofs.lemmas.List.Elements.{All-replicate, All-set}
 use Rattle.std.proofs.lemmas.Option.{IfSome_then}
 use Rattle.q3_entity.specs.Entities.{most_entities}
-use Rattle.q3_ring.specs.Places.{most_places, place_of, at_number}
+use Rattle.q3_entity_ring.specs.Places.{most_places, place_of, at_number}
 use Rattle.q3_rings.specs.Rings.{HeldSnapshot, HeldSnapshots, IsHeldIn, AreHeldSnapshots, CanPutBack, is_young, no_snapshots, put_back_at}
 use Rattle.q3_rings.specs.ByNumber.{of_number, held_under, held_up_to, by_number}
 use Rattle.q3_rings.specs.Laws.{SnapshotsStay}

@@ -9,7 +9,7 @@ use Rattle.q3_entity.specs.declared.state.EntityState.{EntityState}
 use Rattle.q3_entity.specs.Entities.{most_entities}
 use Rattle.q3_player.specs.declared.head.SnapHead.{SnapHead}
 use Rattle.q3_profile.specs.declared.profile.Profile.{Profile}
-use Rattle.q3_ring.specs.Places.{most_places, place_of}
+use Rattle.q3_entity_ring.specs.Places.{most_places, place_of}
 use Rattle.q3_rings.specs.Rings.{HeldSnapshot, HeldSnapshots, RingsState, AreHeldSnapshots, CanPutBack, is_young, begin_in, end_in, put_back_at}
 use Rattle.q3_savestate.specs.Cursor.{Cursor, Field, number_at}
 use Rattle.q3_savestate.specs.Entities.{entity_at, entities_at}

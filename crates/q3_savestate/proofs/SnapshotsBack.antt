@@ -5,7 +5,7 @@ use Rattle.std.specs.List.{flat_map, concat}
 use Rattle.std.proofs.lemmas.Bool.{cases_lt, cond_both, eqb-false}
 use Rattle.std.proofs.lemmas.List.{append-nil}
 use Rattle.byteorder.specs.Endian.{little_bytes, little_number}
-use Rattle.q3_ring.specs.Places.{most_places, place_of}
+use Rattle.q3_entity_ring.specs.Places.{most_places, place_of}
 use Rattle.q3_rings.specs.Rings.{HeldSnapshot, HeldSnapshots, IsHeldIn, no_snapshots, put_back_at}
 use Rattle.q3_rings.specs.ByNumber.{held_under, one_of, HoldsNewest}
 use Rattle.q3_profile.specs.declared.profile.Profile.{Profile}

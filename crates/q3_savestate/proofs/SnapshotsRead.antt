@@ -3,7 +3,7 @@ use Rattle.std.proofs.Common.{◌≡◌, ℕ, zero, suc, ◌+◌, ◌-◌, ◌<�
 use Rattle.std.specs.Prelude.{IfSome, ◌==◌, if◌then◌else◌}
 use Rattle.q3_bits.specs.ResultBind.{◌>>=◌}
 use Rattle.q3_profile.specs.declared.profile.Profile.{Profile}
-use Rattle.q3_ring.specs.Places.{most_places}
+use Rattle.q3_entity_ring.specs.Places.{most_places}
 use Rattle.q3_rings.specs.Rings.{HeldSnapshot, HeldSnapshots, RingsState, no_snapshots, no_rings}
 use Rattle.q3_savestate.specs.Cursor.{Cursor, Field, number_at}
 use Rattle.q3_savestate.specs.Snapshots.{last_number, snapshot_at, snapshots_after, snapshots_at}

@@ -6,7 +6,7 @@ use Rattle.std.proofs.lemmas.List.{append-nil}
 use Rattle.byteorder.specs.Endian.{little_bytes, little_number}
 use Rattle.q3_entity.specs.declared.state.EntityState.{EntityState}
 use Rattle.q3_player.specs.declared.head.SnapHead.{SnapHead}
-use Rattle.q3_ring.specs.Places.{most_places}
+use Rattle.q3_entity_ring.specs.Places.{most_places}
 use Rattle.q3_rings.specs.Rings.{HeldSnapshot, HeldSnapshots, no_snapshots, put_back_at}
 use Rattle.q3_rings.specs.ByNumber.{held_up_to, by_number}
 use Rattle.q3_rings.specs.Laws.{SnapshotsStay}

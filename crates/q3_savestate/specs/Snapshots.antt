@@ -9,7 +9,7 @@ use Rattle.q3_entity.specs.Entities.{most_entities}
 use Rattle.q3_player.specs.declared.state.PlayerState.{PlayerState}
 use Rattle.q3_player.specs.declared.head.SnapHead.{SnapHead}
 use Rattle.q3_profile.specs.declared.profile.Profile.{Profile}
-use Rattle.q3_ring.specs.Places.{most_places, at_number}
+use Rattle.q3_entity_ring.specs.Places.{most_places, at_number}
 use Rattle.q3_rings.specs.Rings.{HeldSnapshot, HeldSnapshots, no_snapshots, is_young, put_back_at}
 use Rattle.q3_rings.specs.ByNumber.{by_number}
 use Rattle.q3_savestate.specs.Cursor.{Cursor, Field, field_at, number_at}

@@ -9,15 +9,15 @@ use Rattle.q3_player.specs.declared.head.SnapHead.{SnapHead}
 use Rattle.q3_player.specs.declared.state.PlayerState.{PlayerState}
 use Rattle.q3_player.specs.State.{patterns_of}
 use Rattle.q3_player.specs.Report.{player_text}
-use Rattle.q3_ring.specs.Snapshot.{Snapshot}
+use Rattle.q3_entity_ring.specs.Snapshot.{Snapshot}
 use Rattle.q3_clstate.specs.Report.{start_text, entity_text, snapshot_text}
 use Rattle.q3_slot.specs.declared.answer.Emitted.{Emitted}
 use Rattle.q3_slot.specs.declared.answer.Emitted.TheVariants as emitted
 use Rattle.q3_slot.specs.declared.answer.NoClient.{NoClient}
 use Rattle.q3_client.specs.declared.client.Sent.{Sent}
 use Rattle.q3_client.specs.declared.client.Sent.TheVariants as sent
-use Rattle.q3_lines.specs.ServerLines.{slot_error_text, not_later_text, no_client_text, config_refused_text, say_error_text, emitted_text}
-use Rattle.q3_lines.specs.ClientLines.{sent_text}
+use Rattle.q3_report.specs.ServerLines.{slot_error_text, not_later_text, no_client_text, config_refused_text, say_error_text, emitted_text}
+use Rattle.q3_report.specs.ClientLines.{sent_text}
 use Rattle.q3_report.specs.declared.answer.HandedIn.{HandedIn}
 use Rattle.q3_report.specs.declared.answer.HandedIn.TheVariants as handed
 use Rattle.q3_report.specs.declared.answer.Front.{Front}

@@ -29,7 +29,7 @@ use Rattle.q3_map.specs.Map as of_map
 use Rattle.q3_map.specs.Map.{MapState, after_new_map, begins_game, is_other}
 use Rattle.q3_map.specs.declared.map.NotLater.{NotLater}
 use Rattle.q3_profile.specs.declared.profile.Profile.{Profile}
-use Rattle.q3_ring.specs.Snapshot.{Snapshot}
+use Rattle.q3_entity_ring.specs.Snapshot.{Snapshot}
 use Rattle.q3_world.specs.ByTags.{IsOwn}
 use Rattle.q3_schedules.specs.Schedules.{IsScheduled}
 use Rattle.q3_script.specs.declared.event.Event.{Event}
@@ -57,7 +57,7 @@ use Rattle.q3_text.specs.declared.text.Command.{Command}
 use Rattle.q3_window.specs.Incoming.{gap_in}
 use Rattle.q3_window.specs.Outgoing.{with_texts}
 use Rattle.q3_window.specs.declared.outgoing.WindowFull.{WindowFull}
-use Rattle.q3_lines.specs.ServerLines.{Run}
+use Rattle.q3_report.specs.ServerLines.{Run}
 use Rattle.q3_clstate.specs.State.{AppliedState}
 use Rattle.q3_client.specs.declared.client.ClientTook.{ClientTook}
 use Rattle.q3_report.specs.declared.answer.HandedIn.{HandedIn}

@@ -8,7 +8,7 @@ use Rattle.std.proofs.lemmas.Option.{slice_get-map}
 use Rattle.std.proofs.lemmas.List.Elements.{All-nil, All-get_or, All-contains}
 use Rattle.q3_profile.specs.declared.profile.Profile.{Profile}
 use Rattle.q3_script.specs.declared.event.Event.TheVariants as events
-use Rattle.q3_ring.specs.Snapshot.{Snapshot}
+use Rattle.q3_entity_ring.specs.Snapshot.{Snapshot}
 use Rattle.q3_rings.specs.Rings.{held_snapshot, view_at}
 use Rattle.q3_rings.specs.declared.rings.NoBase.TheVariants.{EntitiesGone}
 use Rattle.q3_rings.specs.Accepted.{held_among}
@@ -42,7 +42,7 @@ use Rattle.q3_built.specs.Built.{Built, number_of, IsNear, IsBuilt, built_bytes,
 use Rattle.q3_slot.specs.Slot.{SlotState}
 use Rattle.q3_server.specs.Server.{places, slot_at}
 use Rattle.q3_client.specs.Client.{ClientState, Taken, Reception, receive_message, take_answer, take_gathered}
-use Rattle.q3_lines.specs.ServerLines.{Run}
+use Rattle.q3_report.specs.ServerLines.{Run}
 use Rattle.q3_world.specs.declared.places.Place.{Place}
 use Rattle.q3_world.specs.Ends.{Ends, client_at, client_of, line_of, newest, place_at, showing_at, with_client}
 use Rattle.q3_world.specs.Kept.{SentBytes, Kept, KeptStep, kept_step}

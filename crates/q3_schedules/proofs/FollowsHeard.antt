@@ -20,7 +20,7 @@ use Rattle.q3_gamestate.specs.Values.{Gamestate}
 use Rattle.q3_map.specs.Map.{MapState, begins_game}
 use Rattle.q3_player.specs.declared.head.SnapHead.{SnapHead}
 use Rattle.q3_profile.specs.declared.profile.Profile.{Profile}
-use Rattle.q3_ring.specs.Snapshot.{Snapshot}
+use Rattle.q3_entity_ring.specs.Snapshot.{Snapshot}
 use Rattle.q3_rings.specs.Rings.{held_snapshot}
 use Rattle.q3_built.specs.Built.{Built, IsBuilt, is_unclear, number_of, built_bits}
 use Rattle.q3_slot.specs.Emitting.{SlotEmission, begin, begun_next, emit_built, emit_game, emit_new, emit_next, emit_slot, is_overlong, most_placed, next_frames, next_game, next_game_built, nothing}

@@ -9,7 +9,7 @@ use Rattle.q3_client.specs.Sending.{Said}
 use Rattle.q3_gamestate.specs.Values.{Gamestate}
 use Rattle.q3_map.specs.Map.{MapState}
 use Rattle.q3_profile.specs.declared.profile.Profile.{Profile}
-use Rattle.q3_ring.specs.Snapshot.{Snapshot}
+use Rattle.q3_entity_ring.specs.Snapshot.{Snapshot}
 use Rattle.q3_server.specs.Server.{slot_at}
 use Rattle.q3_built.specs.Built.{Built, IsBuilt, IsNear}
 use Rattle.q3_slot.specs.Slot.{SlotState}

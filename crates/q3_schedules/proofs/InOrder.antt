@@ -10,7 +10,7 @@ use Rattle.q3_report.specs.declared.answer.Front.TheVariants as fronts
 use Rattle.q3_report.specs.Answers.{ByClient, Took}
 use Rattle.q3_ends.specs.Recording.{note_taken}
 use Rattle.q3_schedules.specs.Schedules.{IsScheduled}
-use Rattle.q3_ring.specs.Snapshot.{Snapshot}
+use Rattle.q3_entity_ring.specs.Snapshot.{Snapshot}
 use Rattle.q3_text.specs.declared.text.Command.{Command}
 use Rattle.q3_window.specs.Incoming.{fresh_of}
 use Rattle.q3_clstate.specs.State.{apply_message}

@@ -25,7 +25,7 @@ use Rattle.q3_server.specs.declared.server.SlotError.{SlotError}
 use Rattle.q3_built.specs.Built.{Built, built_bytes, plain_bytes}
 use Rattle.q3_slot.specs.Slot.{SlotState}
 use Rattle.q3_server.specs.Server.{slot_at, add_client_at}
-use Rattle.q3_ring.specs.Snapshot.{Snapshot}
+use Rattle.q3_entity_ring.specs.Snapshot.{Snapshot}
 use Rattle.q3_rings.specs.Rings.{is_young}
 use Rattle.q3_rings.specs.Accepted.{age_of}
 use Rattle.q3_slot.specs.Taking as by_slot

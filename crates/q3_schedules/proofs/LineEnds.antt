@@ -27,8 +27,8 @@ use Rattle.q3_server.specs.declared.server.ConfigRefused.{ConfigRefused}
 use Rattle.q3_server.specs.declared.server.ConfigRefused.TheVariants as config
 use Rattle.q3_client.specs.declared.client.MoveError.{MoveError}
 use Rattle.q3_client.specs.declared.client.MoveError.TheVariants as unmoved
-use Rattle.q3_lines.specs.ServerLines.{slot_error_text, not_later_text, no_client_text, config_refused_text, say_error_text}
-use Rattle.q3_lines.specs.ClientLines.{move_error_text}
+use Rattle.q3_report.specs.ServerLines.{slot_error_text, not_later_text, no_client_text, config_refused_text, say_error_text}
+use Rattle.q3_report.specs.ClientLines.{move_error_text}
 use Rattle.q3_report.specs.declared.answer.OutOfRange.{OutOfRange}
 use Rattle.q3_report.specs.declared.answer.BaselineRefused.{BaselineRefused}
 use Rattle.q3_report.specs.declared.answer.BaselineRefused.TheVariants as unset

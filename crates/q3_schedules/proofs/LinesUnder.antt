@@ -13,7 +13,7 @@ use Rattle.q3_clstate.specs.State.{AppliedState}
 use Rattle.q3_clstate.specs.declared.applied.SnapOutcome.{SnapOutcome}
 use Rattle.q3_clstate.specs.declared.applied.SnapOutcome.TheVariants.{NoSnap, Accepted, Skipped, Stale}
 use Rattle.q3_clstate.specs.Report.{cause_text, outcome_text, game_text}
-use Rattle.q3_lines.specs.ServerLines.{entered_text, owed_text}
+use Rattle.q3_report.specs.ServerLines.{entered_text, owed_text}
 use Rattle.q3_report.specs.AnswerLines.{ended_text}
 use Rattle.q3_world.specs.declared.counts.Counts.{Counts}
 use Rattle.q3_world.specs.Counts.{no_counts, accepted_in, skipped_in}

@@ -16,7 +16,7 @@ use Rattle.q3_server.specs.Taking as hears
 use Rattle.q3_server.specs.Server.{slot_at}
 use Rattle.q3_client.specs.Client.{ClientState, take_answer, take_gathered, receive_message}
 use Rattle.q3_client.specs.Sending.{said_bytes}
-use Rattle.q3_ring.specs.Snapshot.{Snapshot}
+use Rattle.q3_entity_ring.specs.Snapshot.{Snapshot}
 use Rattle.q3_world.specs.declared.made.Direction.{Direction}
 use Rattle.q3_world.specs.declared.made.Direction.TheVariants.{ToClient, ToServer}
 use Rattle.q3_report.specs.Answers.{ran_in}

@@ -36,7 +36,7 @@ use Rattle.q3_world.proofs.ByTags.{cited_of}
 use Rattle.q3_map.specs.Map.{MapState, is_other}
 use Rattle.q3_clmsg.specs.Values.{Message}
 use Rattle.q3_slot.specs.Taking.{OfMap, OfOther, asks_game, came_as, goes_on, heads_of}
-use Rattle.q3_lines.specs.ServerLines.{Run, ran_nothing}
+use Rattle.q3_report.specs.ServerLines.{Run, ran_nothing}
 use Rattle.q3_schedules.proofs.Stood.{Stood, delivers_same, holds_of, of_each, stood}
 
 -- ---- moves

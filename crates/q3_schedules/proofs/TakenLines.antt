@@ -14,10 +14,10 @@ use Rattle.q3_slot.specs.declared.taking.ServerTook.{ServerTook}
 use Rattle.q3_slot.specs.declared.taking.ServerTook.TheVariants as took
 use Rattle.q3_client.specs.declared.client.ClientTook.{ClientTook}
 use Rattle.q3_client.specs.declared.client.ClientTook.TheVariants.{Dropped, Runt, Connectionless, Old, OutOfOrder, BadCheck, BadFragment, Partial, Illegible, Applied as ClientApplied}
-use Rattle.q3_lines.specs.ServerLines.{Run, server_text, run_text, entered_text, owed_text}
-use Rattle.q3_lines.specs.ServerLines as server_lines
-use Rattle.q3_lines.specs.ClientLines as client_lines
-use Rattle.q3_lines.specs.ClientLines.{took_text, client_text}
+use Rattle.q3_report.specs.ServerLines.{Run, server_text, run_text, entered_text, owed_text}
+use Rattle.q3_report.specs.ServerLines as server_lines
+use Rattle.q3_report.specs.ClientLines as client_lines
+use Rattle.q3_report.specs.ClientLines.{took_text, client_text}
 use Rattle.q3_report.specs.Answers.{Taking, ByClient, ByServer}
 use Rattle.q3_report.specs.AnswerLines.{ended_text, taking_text}
 use Rattle.q3_words.specs.Words.{words_of}

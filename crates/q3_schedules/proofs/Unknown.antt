@@ -24,7 +24,7 @@ use Rattle.q3_world.proofs.Holding.{Holds}
 use Rattle.q3_world.proofs.Arriving.{is_sent, is_for, is_of_client, client_of_tag, slot_of_tag}
 use Rattle.q3_world.proofs.ByTags.{cited_of}
 use Rattle.q3_clstate.specs.State.{AppliedState}
-use Rattle.q3_lines.specs.ServerLines.{Run}
+use Rattle.q3_report.specs.ServerLines.{Run}
 use Rattle.q3_schedules.proofs.Stood.{Stood, delivers_same, holds_of, step_own, stood}
 
 not_delivered : (number c : ℕ) (state : AppliedState) (took : ClientTook) (commands : List Command) (ended : Bool) (cause : TakeRefused)

@@ -6,7 +6,7 @@ use Rattle.q3_profile.specs.declared.profile.Profile.{Profile}
 use Rattle.q3_script.specs.declared.event.Event.{Event}
 use Rattle.q3_script.specs.declared.event.Event.TheVariants as events
 use Rattle.q3_script.specs.Grammar.{IsReplayEvent}
-use Rattle.q3_ring.specs.Snapshot.{Snapshot}
+use Rattle.q3_entity_ring.specs.Snapshot.{Snapshot}
 use Rattle.q3_rings.specs.declared.rings.NoBase.TheVariants.{NeverHeld, Overwritten}
 use Rattle.q3_rings.specs.Rings.{held_snapshot, view_at}
 use Rattle.q3_rings.specs.Accepted.{held_among}
@@ -50,7 +50,7 @@ use Rattle.q3_window.specs.Incoming.{fresh_of}
 use Rattle.q3_window.specs.Outgoing.{text_at}
 use Rattle.q3_config.specs.Commands.{change_in}
 use Rattle.q3_config.specs.Strings.{server_id}
-use Rattle.q3_lines.specs.ServerLines.{Run, ran_nothing}
+use Rattle.q3_report.specs.ServerLines.{Run, ran_nothing}
 use Rattle.q3_world.specs.ByTags.{kept_then, whole_then, IsOwn}
 use Rattle.q3_world.specs.Answering.{outcome_of, applied_of}
 use Rattle.q3_world.specs.World.{Tag, Played, History, history_at, built_at, said_at, texts_of, after}

@@ -12,7 +12,7 @@ use Rattle.q3_bits.specs.Bits.{message_length}
 use Rattle.q3_chan.specs.Datagrams.{sequence_end}
 use Rattle.q3_chan.specs.Sending.{UnderWay}
 use Rattle.q3_profile.specs.declared.profile.Profile.{Profile}
-use Rattle.q3_ring.specs.Snapshot.{Snapshot}
+use Rattle.q3_entity_ring.specs.Snapshot.{Snapshot}
 use Rattle.q3_frames.specs.Frames.{FramesState, build_at}
 use Rattle.q3_frames.specs.Laws.{HeldWasBuilt}
 use Rattle.q3_map.specs.Map.{MapState, begins_game}

@@ -9,7 +9,7 @@ use Rattle.q3_player.specs.State.{zero_player}
 use Rattle.q3_chan.specs.Datagrams.{sequence_end}
 use Rattle.q3_chan.specs.Sending.{UnderWay}
 use Rattle.q3_gamestate.specs.Laws.{IsGamestate}
-use Rattle.q3_ring.specs.Snapshot.{Snapshot}
+use Rattle.q3_entity_ring.specs.Snapshot.{Snapshot}
 use Rattle.q3_frames.specs.Frames.{FramesState, base_of}
 use Rattle.q3_map.specs.Map.{MapState}
 use Rattle.q3_slot.specs.declared.stage.ClientStage.{ClientStage}

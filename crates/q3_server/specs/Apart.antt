@@ -6,7 +6,7 @@ use Rattle.q3_chan.specs.Checks.{is_checked}
 use Rattle.q3_chan.specs.Senders.{qport_of}
 use Rattle.q3_entity.specs.declared.state.EntityState.{EntityState}
 use Rattle.q3_player.specs.declared.state.PlayerState.{PlayerState}
-use Rattle.q3_ring.specs.Snapshot.{Snapshot}
+use Rattle.q3_entity_ring.specs.Snapshot.{Snapshot}
 use Rattle.q3_frames.specs.Frames.{FramesState, held_frame}
 use Rattle.q3_server.specs.Server.{ServerState, slot_at, add_client_at, set_baseline_at, set_entity_at, remove_entity_at, set_time_at, set_player_at, set_area_at, set_delayed_at, say_at, emit_at}
 use Rattle.q3_server.specs.Taking.{sender_of, take_at}

@@ -7,7 +7,7 @@ use Rattle.q3_chan.specs.Gathering.{Gathering}
 use Rattle.q3_chan.specs.Sending.{Sending}
 use Rattle.q3_window.specs.Outgoing.{OutgoingState}
 use Rattle.q3_entity.specs.Baselines.{Lines}
-use Rattle.q3_ring.specs.Snapshot.{Snapshot}
+use Rattle.q3_entity_ring.specs.Snapshot.{Snapshot}
 use Rattle.q3_slot.specs.declared.joined.Joined.{Joined}
 use Rattle.q3_profile.specs.declared.profile.Profile.{Profile}
 use Rattle.q3_frames.specs.Frames.{FramesState, base_of, build_at}

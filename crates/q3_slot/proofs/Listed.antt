@@ -2,7 +2,7 @@
 use Rattle.std.proofs.Common.{◌≡◌, ◌∙◌, ℕ, inl, inr, sym, subst}
 use Rattle.q3_fields.specs.Kinds.{Layout}
 use Rattle.q3_entity.specs.Entities.{IsList}
-use Rattle.q3_ring.specs.Snapshot.{Snapshot}
+use Rattle.q3_entity_ring.specs.Snapshot.{Snapshot}
 use Rattle.q3_frames.specs.Frames.{FramesState, build_at}
 use Rattle.q3_frames.specs.Laws.{NothingIsHeld, HeldWasBuilt}
 use Rattle.q3_slot.specs.Slots.{HoldLists}

@@ -9,7 +9,7 @@ use Rattle.q3_profile.specs.declared.profile.Profile.{Profile}
 use Rattle.q3_entity.specs.Entities.{most_entities}
 use Rattle.q3_player.specs.State.{zero_player}
 use Rattle.q3_gamestate.specs.Values.{Gamestate}
-use Rattle.q3_ring.specs.Snapshot.{Snapshot}
+use Rattle.q3_entity_ring.specs.Snapshot.{Snapshot}
 use Rattle.q3_frames.specs.Frames.{FramesState, base_of, build_at}
 use Rattle.q3_map.specs.Map.{MapState, begins_game}
 use Rattle.q3_slot.specs.declared.answer.Emitted.{Emitted}

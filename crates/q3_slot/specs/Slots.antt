@@ -18,7 +18,7 @@ use Rattle.q3_clmsg.specs.Values.{Message}
 use Rattle.q3_clmsg.specs.declared.error.ClientIllegible.TheVariants.{Bits}
 use Rattle.q3_clmsg.specs.Reading.{heads_at}
 use Rattle.q3_profile.specs.declared.profile.Profile.{Profile}
-use Rattle.q3_ring.specs.Snapshot.{Snapshot}
+use Rattle.q3_entity_ring.specs.Snapshot.{Snapshot}
 use Rattle.q3_frames.specs.Frames.{FramesState, held_frame}
 use Rattle.q3_map.specs.Map.{MapState}
 use Rattle.q3_slot.specs.declared.joined.Joined.{Joined}

@@ -9,7 +9,7 @@ use Rattle.q3_entity.specs.declared.state.EntityState.{EntityState}
 use Rattle.q3_fields.specs.Kinds.{Layout}
 use Rattle.q3_entity.specs.Entities.{IsList, run_of}
 use Rattle.q3_entity.specs.Baselines.{Lines}
-use Rattle.q3_ring.specs.Snapshot.{Snapshot}
+use Rattle.q3_entity_ring.specs.Snapshot.{Snapshot}
 use Rattle.q3_gamestate.specs.Values.{Gamestate, gamestate_of}
 use Rattle.q3_svmsg.specs.declared.message.Section.{Section}
 use Rattle.q3_svmsg.specs.declared.message.Section.TheVariants as sections

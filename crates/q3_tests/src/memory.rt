@@ -1,7 +1,7 @@
 //! The objects in memory.
 
 use q3_io::{Failed, Files, Sink};
-use q3_memory::{MemFiles, MemSink};
+use q3_testio::{MemFiles, MemSink};
 use std::alloc::Global;
 use std::process::Abort;
 use std::test::*;

@@ -3,7 +3,7 @@
 ghost use Rattle.std.specs.Prelude.{◌≡◌, true};
 
 use q3_io::{Address, Clock, Failed, HostClock, UdpWire, Wire};
-use q3_memory::{MemClock, MemWire};
+use q3_testio::{MemClock, MemWire};
 use std::test::*;
 
 /// An address of this machine.

@@ -15,7 +15,7 @@ use Rattle.q3_window.specs.Outgoing.{OutgoingState, IsOutgoing, acknowledge_at}
 use Rattle.q3_window.specs.Incoming.{fresh_of, gap_in, executes, jump_at, IncomingState}
 use Rattle.q3_window.specs.Flow.{Flow}
 use Rattle.q3_svmsg.specs.declared.error.Illegible.{Illegible}
-use Rattle.q3_ring.specs.Snapshot.{Snapshot}
+use Rattle.q3_entity_ring.specs.Snapshot.{Snapshot}
 use Rattle.q3_rings.specs.Rings.{accept_at}
 use Rattle.q3_clstate.specs.State.{Application, apply_message, AppliedState, accepts, after_gamestate, applies_game, heard_with, hearing, passes}
 use Rattle.q3_chan.specs.declared.form.Form.{Form}

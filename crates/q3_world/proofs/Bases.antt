@@ -4,8 +4,8 @@ use Rattle.std.specs.Prelude.{IfSome, All, Contains}
 use Rattle.std.proofs.lemmas.List.{length_push, get_or_push}
 use Rattle.std.proofs.lemmas.List.Elements.{All-contains, Contains-append_left, All-drop, All-contains_itself}
 use Rattle.std.proofs.lemmas.Bool.{cases_eq, cases_lt}
-use Rattle.q3_ring.specs.Snapshot.{Snapshot}
-use Rattle.q3_ring.specs.Places.{place_of}
+use Rattle.q3_entity_ring.specs.Snapshot.{Snapshot}
+use Rattle.q3_entity_ring.specs.Places.{place_of}
 use Rattle.q3_frames.specs.Frames.{FramesState, base_of, build_at}
 use Rattle.q3_built.specs.Built.{Built, Telling, IsNear, built_of}
 use Rattle.q3_server.specs.Server.{places}

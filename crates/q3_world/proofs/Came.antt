@@ -12,7 +12,7 @@ use Rattle.q3_text.specs.declared.text.Command.{Command}
 use Rattle.q3_window.specs.Outgoing.{OutgoingState, IsOutgoing}
 use Rattle.q3_window.specs.Incoming.{IncomingState}
 use Rattle.q3_window.specs.Flow.{Flow}
-use Rattle.q3_ring.specs.Snapshot.{Snapshot}
+use Rattle.q3_entity_ring.specs.Snapshot.{Snapshot}
 use Rattle.q3_clstate.specs.Standing.{IsApplied}
 use Rattle.q3_clstate.specs.State.{AppliedState}
 use Rattle.q3_built.specs.Built.{Built, IsBuilt, BuildsSnapshot, Telling}
@@ -25,7 +25,7 @@ use Rattle.q3_world.specs.StandsFor.{messages_of, messages_said, KeepsSlot, IsPi
 use Rattle.q3_world.proofs.Growth.{HistoryGrows-beside}
 use Rattle.q3_world.proofs.Clients.{KeepsSlot-came, KeepsClient-took}
 use Rattle.q3_world.proofs.Joined.{AreAsked-ran}
-use Rattle.q3_lines.specs.ServerLines.{Run}
+use Rattle.q3_report.specs.ServerLines.{Run}
 use Rattle.q3_slot.specs.declared.stage.ClientStage.{ClientStage}
 use Rattle.q3_world.specs.Games.{AreSince, AreMapped, accepted_since, standing_of}
 use Rattle.q3_world.proofs.Holding.{Holds, Has, sent_grows, with_server_of, Holds-slot, frames_stay, with_client_of, Holds-client}

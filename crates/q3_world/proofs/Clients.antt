@@ -19,7 +19,7 @@ use Rattle.q3_text.specs.Texts.{IsText}
 use Rattle.q3_window.specs.Outgoing.{OutgoingState, IsOutgoing}
 use Rattle.q3_window.specs.Incoming.{IncomingState}
 use Rattle.q3_window.specs.Laws.{StaysOutgoing}
-use Rattle.q3_ring.specs.Snapshot.{Snapshot}
+use Rattle.q3_entity_ring.specs.Snapshot.{Snapshot}
 use Rattle.q3_frames.specs.Frames.{FramesState, base_of, build_at}
 use Rattle.q3_clstate.specs.State.{AppliedState, new_state}
 use Rattle.q3_clstate.specs.Standing.{IsApplied}

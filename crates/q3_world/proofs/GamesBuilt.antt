@@ -14,7 +14,7 @@ use Rattle.q3_gamestate.specs.Values.{Gamestate}
 use Rattle.q3_io.specs.declared.address.Address.{Address}
 use Rattle.q3_map.specs.Map.{MapState, begins_game}
 use Rattle.q3_profile.specs.declared.profile.Profile.{Profile}
-use Rattle.q3_ring.specs.Snapshot.{Snapshot}
+use Rattle.q3_entity_ring.specs.Snapshot.{Snapshot}
 use Rattle.q3_built.specs.Built.{Built}
 use Rattle.q3_slot.specs.Emitting.{nothing}
 use Rattle.q3_slot.specs.Slot.{is_active, new_slot, plays_under}

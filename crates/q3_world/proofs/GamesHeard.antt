@@ -10,7 +10,7 @@ use Rattle.q3_clstate.specs.State.{AppliedState, Settings, hearing, id_in}
 use Rattle.q3_config.specs.Changes.{after_commands}
 use Rattle.q3_config.specs.Strings.{Strings, server_id}
 use Rattle.q3_map.specs.Map.{MapState}
-use Rattle.q3_ring.specs.Snapshot.{Snapshot}
+use Rattle.q3_entity_ring.specs.Snapshot.{Snapshot}
 use Rattle.q3_rings.specs.Rings.{HeldSnapshots}
 use Rattle.q3_built.specs.Built.{Built}
 use Rattle.q3_text.specs.declared.text.Command.{Command}

@@ -12,7 +12,7 @@ use Rattle.q3_fields.specs.Kinds.{Layout}
 use Rattle.q3_gamestate.specs.Values.{Gamestate}
 use Rattle.q3_map.specs.Map.{Handed, MapState, set_baseline_at, after_new_map, begins_game}
 use Rattle.q3_map.specs.declared.map.Late.{Late}
-use Rattle.q3_ring.specs.Snapshot.{Snapshot}
+use Rattle.q3_entity_ring.specs.Snapshot.{Snapshot}
 use Rattle.q3_built.specs.Built.{Built}
 use Rattle.q3_slot.specs.declared.stage.ClientStage.TheVariants.{Active, Connected}
 use Rattle.q3_world.specs.Games.{AreMapped, Carries, HasLast, Standing, Tells}

@@ -11,7 +11,7 @@ use Rattle.q3_client.specs.declared.moves.Issued.{Issued}
 use Rattle.q3_clmsg.specs.declared.moves.Move.{Move}
 use Rattle.q3_clstate.specs.State.{AppliedState}
 use Rattle.q3_map.specs.Map.{MapState}
-use Rattle.q3_ring.specs.Snapshot.{Snapshot}
+use Rattle.q3_entity_ring.specs.Snapshot.{Snapshot}
 use Rattle.q3_built.specs.Built.{Built}
 use Rattle.q3_slot.specs.Slot.{SlotState}
 use Rattle.q3_slot.specs.Taking.{goes_on, last_run_of, moves_on, runs, last_time}

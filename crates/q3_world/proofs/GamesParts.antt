@@ -10,7 +10,7 @@ use Rattle.std.proofs.lemmas.List.Elements.{Contains-append_left, Contains-push_
 use Rattle.q3_clstate.specs.State.{AppliedState}
 use Rattle.q3_gamestate.specs.Values.{Gamestate}
 use Rattle.q3_map.specs.Map.{MapState}
-use Rattle.q3_ring.specs.Snapshot.{Snapshot}
+use Rattle.q3_entity_ring.specs.Snapshot.{Snapshot}
 use Rattle.q3_built.specs.Built.{Built}
 use Rattle.q3_client.specs.Sending.{Said}
 use Rattle.q3_world.specs.Games.{Carries, GamesRise, HasGames, HasLast, IsFresh, IsOf, Standing, StandsAt, Tells, WasPlayed, accepted_since, last_played}

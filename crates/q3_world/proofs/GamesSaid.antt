@@ -9,7 +9,7 @@ use Rattle.q3_clmsg.specs.declared.moves.Move.{Move}
 use Rattle.q3_clstate.specs.State.{AppliedState}
 use Rattle.q3_gamestate.specs.Values.{Gamestate}
 use Rattle.q3_map.specs.Map.{MapState, is_other}
-use Rattle.q3_ring.specs.Snapshot.{Snapshot}
+use Rattle.q3_entity_ring.specs.Snapshot.{Snapshot}
 use Rattle.q3_built.specs.Built.{Built}
 use Rattle.q3_slot.specs.Slot.{SlotState, is_active}
 use Rattle.q3_slot.specs.Taking.{Playing, asked_with, goes_on, is_behind_game, moves_on}

@@ -11,7 +11,7 @@ use Rattle.q3_config.specs.Changes.{after_commands}
 use Rattle.q3_config.specs.Strings.{Strings, server_id}
 use Rattle.q3_gamestate.specs.Values.{Gamestate}
 use Rattle.q3_map.specs.Map.{MapState}
-use Rattle.q3_ring.specs.Snapshot.{Snapshot}
+use Rattle.q3_entity_ring.specs.Snapshot.{Snapshot}
 use Rattle.q3_built.specs.Built.{Built}
 use Rattle.q3_slot.specs.Slots.{tells}
 use Rattle.q3_world.specs.Games.{AreMapped, Carries, GamesRise, IsFresh, IsSaidUnder, MapsRise, Standing, Tells, WasApplied, WasPlayed, accepted_since, last_played}

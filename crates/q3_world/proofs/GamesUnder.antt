@@ -3,7 +3,7 @@ use Rattle.std.proofs.Common.{[], List, Some, ap, arith, drop, get_or-drop, inl,
 use Rattle.std.proofs.lemmas.List.{get_or_append_left, get_or_default, length-append}
 use Rattle.std.proofs.lemmas.List.Elements.{Contains-append_left, Contains-push_cases}
 use Rattle.q3_player.specs.Heads.{empty_head}
-use Rattle.q3_ring.specs.Snapshot.{Snapshot}
+use Rattle.q3_entity_ring.specs.Snapshot.{Snapshot}
 use Rattle.q3_built.specs.Built.{Built}
 use Rattle.q3_world.specs.Games.{AcceptedUnder, GamesRise, WasApplied, last_played}
 use Rattle.q3_world.specs.StandsFor.{WasAccepted}

@@ -6,7 +6,7 @@ use Rattle.q3_player.specs.State.{normal_player}
 use Rattle.q3_player.specs.declared.state.PlayerState.{PlayerState}
 use Rattle.q3_clmsg.specs.declared.moves.Move.{Move}
 use Rattle.q3_clmsg.specs.Moves.{IsMove}
-use Rattle.q3_ring.specs.Snapshot.{Snapshot}
+use Rattle.q3_entity_ring.specs.Snapshot.{Snapshot}
 use Rattle.q3_clstate.specs.State.{AppliedState}
 use Rattle.q3_map.specs.Map.{MapState}
 use Rattle.q3_built.specs.Built.{Built, IsHeld, IsArea}

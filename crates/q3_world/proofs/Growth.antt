@@ -5,7 +5,7 @@ use Rattle.std.proofs.lemmas.Bool.{cases_eq, cases_lt}
 use Rattle.q3_profile.specs.declared.profile.Profile.{Profile}
 use Rattle.q3_chan.specs.Checks.{check_for}
 use Rattle.q3_chan.specs.Datagrams.{Header, server_header, client_header, piece_count, datagram}
-use Rattle.q3_ring.specs.Snapshot.{Snapshot}
+use Rattle.q3_entity_ring.specs.Snapshot.{Snapshot}
 use Rattle.q3_built.specs.Built.{Built, built_bytes}
 use Rattle.q3_server.specs.Server.{places}
 use Rattle.q3_client.specs.Sending.{said_bytes, Said}

@@ -6,7 +6,7 @@ use Rattle.q3_profile.specs.declared.profile.Profile.{Profile}
 use Rattle.q3_player.specs.State.{zero_player}
 use Rattle.q3_io.specs.declared.address.Address.{Address}
 use Rattle.q3_chan.specs.Laws.{EndsGather, EndsSend}
-use Rattle.q3_ring.specs.Places.{no_places}
+use Rattle.q3_entity_ring.specs.Places.{no_places}
 use Rattle.q3_frames.specs.Frames.{Frame, FramesState}
 use Rattle.q3_clstate.specs.Standing.{IsApplied}
 use Rattle.q3_clstate.specs.State.{new_state}

@@ -15,7 +15,7 @@ use Rattle.q3_chan.specs.Gathering.{Gathering}
 use Rattle.q3_chan.specs.Laws.{Gathers, EndsGather}
 use Rattle.q3_clmsg.specs.declared.moves.Move.{Move}
 use Rattle.q3_window.specs.Outgoing.{OutgoingState}
-use Rattle.q3_ring.specs.Snapshot.{Snapshot}
+use Rattle.q3_entity_ring.specs.Snapshot.{Snapshot}
 use Rattle.q3_rings.specs.Rings.{HeldSnapshots, accept_at, no_snapshots}
 use Rattle.q3_rings.specs.declared.rings.NoBase.{NoBase}
 use Rattle.q3_rings.specs.Accepted.{AcceptedFrom, newest_of, SnapshotsStandFor}

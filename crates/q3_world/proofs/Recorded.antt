@@ -5,7 +5,7 @@ use Rattle.std.proofs.lemmas.List.{set-set}
 use Rattle.q3_profile.specs.declared.profile.Profile.{Profile}
 use Rattle.q3_clmsg.specs.declared.moves.Move.{Move}
 use Rattle.q3_map.specs.Map.{MapState}
-use Rattle.q3_ring.specs.Snapshot.{Snapshot}
+use Rattle.q3_entity_ring.specs.Snapshot.{Snapshot}
 use Rattle.q3_slot.specs.Slot.{SlotState}
 use Rattle.q3_built.specs.Built.{Built}
 use Rattle.q3_server.specs.Server.{places, slot_at}

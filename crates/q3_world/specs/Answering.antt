@@ -1,6 +1,6 @@
 -- What a client answers where it applies a message that was built for it.
 use Rattle.std.specs.Prelude.{ℕ, if◌then◌else◌, Bool, true, false, List, Option, Some, None}
-use Rattle.q3_ring.specs.Snapshot.{Snapshot}
+use Rattle.q3_entity_ring.specs.Snapshot.{Snapshot}
 use Rattle.q3_rings.specs.declared.rings.NoBase.TheVariants.{EntitiesGone}
 use Rattle.q3_rings.specs.Rings.{is_young}
 use Rattle.q3_rings.specs.Accepted.{age_of}

@@ -8,7 +8,7 @@ use Rattle.q3_entity.specs.Baselines.{no_lines}
 use Rattle.q3_clmsg.specs.declared.moves.Move.{Move}
 use Rattle.q3_gamestate.specs.Values.{Gamestate}
 use Rattle.q3_svmsg.specs.Values as told
-use Rattle.q3_ring.specs.Snapshot.{Snapshot}
+use Rattle.q3_entity_ring.specs.Snapshot.{Snapshot}
 use Rattle.q3_clstate.specs.State.{AppliedState}
 use Rattle.q3_map.specs.Map.{MapState}
 use Rattle.q3_slot.specs.declared.stage.ClientStage.{ClientStage}

@@ -17,7 +17,7 @@ use Rattle.q3_clmsg.specs.declared.moves.Move.{Move}
 use Rattle.q3_clmsg.specs.Moves.{IsMove}
 use Rattle.q3_svmsg.specs.Values as told
 use Rattle.q3_svmsg.specs.Values.{Told}
-use Rattle.q3_ring.specs.Snapshot.{Snapshot}
+use Rattle.q3_entity_ring.specs.Snapshot.{Snapshot}
 use Rattle.q3_frames.specs.Frames.{FramesState, AreFrames, held_frame}
 use Rattle.q3_rings.specs.Rings.{view_at}
 use Rattle.q3_rings.specs.Accepted.{SnapshotsStandFor}

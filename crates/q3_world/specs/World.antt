@@ -13,7 +13,7 @@ use Rattle.q3_chan.specs.Keys.{Key}
 use Rattle.q3_text.specs.declared.text.Command.{Command}
 use Rattle.q3_clmsg.specs.declared.moves.Move.{Move}
 use Rattle.q3_clmsg.specs.Values.{empty_message}
-use Rattle.q3_ring.specs.Snapshot.{Snapshot}
+use Rattle.q3_entity_ring.specs.Snapshot.{Snapshot}
 use Rattle.q3_entity.specs.Baselines.{no_lines}
 use Rattle.q3_config.specs.Laws.{piece_texts}
 use Rattle.q3_gamestate.specs.Values.{Gamestate}
@@ -29,7 +29,7 @@ use Rattle.q3_client.specs.declared.client.ClientTook.TheVariants as took
 use Rattle.q3_client.specs.Client.{Taken, receive_message, take_gathered}
 use Rattle.q3_client.specs.Sending as speaks
 use Rattle.q3_client.specs.Sending.{Said, said_bytes}
-use Rattle.q3_lines.specs.ServerLines.{Run}
+use Rattle.q3_report.specs.ServerLines.{Run}
 use Rattle.q3_server.specs.Server.{ServerState, Emission, places, slot_at, emit_at, is_same}
 use Rattle.q3_server.specs.Taking as hears
 use Rattle.q3_report.specs.declared.answer.HandedIn.TheVariants as handed

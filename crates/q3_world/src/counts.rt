@@ -1,7 +1,7 @@
 //! What a replay counts: the lines of its report, by their kind.
 
 ghost use Rattle.std.specs.Prelude.{◌≡◌};
-ghost use Rattle.q3_lines.specs.ServerLines.{run_of};
+ghost use Rattle.q3_report.specs.ServerLines.{run_of};
 ghost use Rattle.q3_report.specs.Tellings.{answered_of};
 ghost use Rattle.q3_world.specs.Counts.{no_counts, made_served, made_sent, accepted_in, skipped_in, lines_of_client, lines_of_server, lines_in, with_lines};
 

@@ -1,5 +1,5 @@
 use Rattle.std.proofs.Common.{◌≡◌, replicate}
-use Rattle.q3_ring.specs.Places.{no_places}
+use Rattle.q3_entity_ring.specs.Places.{no_places}
 use Rattle.q3_frames.proofs.frames.empty_slots.Given as goal
 
 -- so many slots are empty

@@ -1,6 +1,6 @@
 use Rattle.std.proofs.Common.{Bool, ◌++◌, ap, refl}
 use Rattle.std.proofs.lemmas.Result.{err_from_is_err_and}
-use Rattle.q3_lines.specs.ClientLines.{client_text}
+use Rattle.q3_report.specs.ClientLines.{client_text}
 use Rattle.q3_report.specs.AnswerLines.{ended_text}
 use Rattle.q3_report.proofs.report.print_client_took.Goals as goal
 

@@ -1,5 +1,5 @@
 use Rattle.std.proofs.Common.{refl}
-use Rattle.q3_ring.specs.Places.{most_places, place_of}
+use Rattle.q3_entity_ring.specs.Places.{most_places, place_of}
 use Rattle.q3_rings.proofs.Accepting.{none_at, none_are_held}
 use Rattle.q3_rings.proofs.laws.nothing_stands.Goals as goal
 

@@ -1,6 +1,6 @@
 use Rattle.std.proofs.Common.{◌≡◌, subst, sym, rules}
 use Rattle.q3_frames.specs.Frames.{build_at}
-use Rattle.q3_ring.specs.Snapshot.{Snapshot}
+use Rattle.q3_entity_ring.specs.Snapshot.{Snapshot}
 use Rattle.q3_slot.specs.Slots.{HoldLists}
 use Rattle.q3_slot.proofs.Listed.{build_lists}
 use Rattle.q3_slot.proofs.emitting.build.Goals as goal

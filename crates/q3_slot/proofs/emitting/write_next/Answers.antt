@@ -2,7 +2,7 @@ use Rattle.std.proofs.Common.{◌≡◌, ◌∙◌, None, refl, subst, ap, rules
 use Rattle.q3_chan.specs.Datagrams.{client_form}
 use Rattle.q3_chan.specs.Gathering.{new_gathering}
 use Rattle.q3_frames.specs.Frames.{build_at}
-use Rattle.q3_ring.specs.Snapshot.{Snapshot}
+use Rattle.q3_entity_ring.specs.Snapshot.{Snapshot}
 use Rattle.q3_built.specs.Built.{Built}
 use Rattle.q3_slot.specs.Slot.{SlotState}
 use Rattle.q3_slot.specs.Emitting.{next_snapshot}

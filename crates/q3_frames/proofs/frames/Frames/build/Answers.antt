@@ -1,8 +1,8 @@
 use Rattle.std.proofs.Common.{◌≡◌, ◌+◌, ◌<◌, ◌≤◌, List, Option, Some, All, IfSome, sym, ◌∙◌, length, map, set, slice_set, subst, ap, arith}
 use Rattle.std.proofs.lemmas.List.{length-map, length-set}
 use Rattle.std.proofs.lemmas.List.Elements.{All-get_or, All-set}
-use Rattle.q3_ring.specs.declared.kept.Kept.{Kept}
-use Rattle.q3_ring.specs.Places.{most_places, place_of}
+use Rattle.q3_entity_ring.specs.declared.kept.Kept.{Kept}
+use Rattle.q3_entity_ring.specs.Places.{most_places, place_of}
 use Rattle.q3_frames.specs.Frames.{FramesState, build_at}
 use Rattle.q3_frames.specs.KeptFrames.{IsKept}
 use Rattle.q3_frames.proofs.Building.{LieIn, lie_in, next_kept, built, left_in, all-kept}

@@ -2,9 +2,9 @@ use Rattle.std.proofs.Common.{◌≡◌, List, Option, None, replicate, length, 
 use Rattle.std.proofs.lemmas.List.{length-replicate}
 use Rattle.std.proofs.lemmas.List.Elements.{All-same, All-replicate}
 use Rattle.q3_entity.specs.Entities.{zero_entity}
-use Rattle.q3_ring.specs.declared.kept.Kept.{Kept}
-use Rattle.q3_ring.specs.Ring.{RingState, new_ring}
-use Rattle.q3_ring.specs.Places.{most_places, no_places}
+use Rattle.q3_entity_ring.specs.declared.kept.Kept.{Kept}
+use Rattle.q3_entity_ring.specs.Ring.{RingState, new_ring}
+use Rattle.q3_entity_ring.specs.Places.{most_places, no_places}
 use Rattle.q3_frames.proofs.Building.{empty-frames, empty-kept}
 use Rattle.q3_frames.proofs.frames.Frames.new.Goals as goal
 

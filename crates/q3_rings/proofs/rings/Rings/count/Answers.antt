@@ -2,7 +2,7 @@ use Rattle.std.proofs.Common.{◌≡◌, length, sym, ap, ◌∙◌, arith}
 use Rattle.std.specs.Prelude.{is_some}
 use Rattle.std.specs.List.{count_by}
 use Rattle.std.proofs.lemmas.List.{take_all}
-use Rattle.q3_ring.specs.Places.{most_places}
+use Rattle.q3_entity_ring.specs.Places.{most_places}
 use Rattle.q3_rings.proofs.Numbered.{count_held}
 use Rattle.q3_rings.proofs.rings.Rings.count.Goals as goal
 

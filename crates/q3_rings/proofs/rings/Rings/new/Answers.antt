@@ -1,7 +1,7 @@
 use Rattle.std.proofs.Common.{◌≡◌, ◌≤◌, length, ap, ◌∙◌, arith}
 use Rattle.std.proofs.lemmas.List.{length-replicate}
 use Rattle.q3_entity.specs.Entities.{zero_entity}
-use Rattle.q3_ring.specs.Ring.{RingState}
+use Rattle.q3_entity_ring.specs.Ring.{RingState}
 use Rattle.q3_rings.proofs.Kept.{nothing_is_kept}
 use Rattle.q3_rings.proofs.rings.Rings.new.Goals as goal
 

@@ -1,5 +1,5 @@
 use Rattle.std.proofs.Common.{◌≡◌, ◌≢◌, ◌⊎◌, ℕ, ◌<◌, ◌≤◌, None}
-use Rattle.q3_ring.specs.Places.{place_of}
+use Rattle.q3_entity_ring.specs.Places.{place_of}
 use Rattle.q3_rings.specs.ByNumber.{held_under}
 use Rattle.q3_rings.proofs.rings.Rings.next_number.Given as goal
 

@@ -1,2 +1,0 @@
-pub mod ServerLines
-pub mod ClientLines

@@ -1,5 +1,0 @@
-use Rattle.q3_ring.proofs.Rounds.{put_next}
-use Rattle.q3_ring.proofs.laws.put_is_next.Goals as goal
-
-pub returns : goal.returns
-returns c = put_next

@@ -1,5 +1,0 @@
-use Rattle.q3_ring.proofs.Rounds.{put_behind}
-use Rattle.q3_ring.proofs.laws.put_leaves_others.Goals as goal
-
-pub returns : goal.returns
-returns c = put_behind
