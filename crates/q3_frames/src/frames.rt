@@ -8,8 +8,8 @@ ghost use Rattle.q3_entity_ring.specs.Ring.{PlacesOnce};
 ghost use Rattle.q3_frames.specs.Frames.{no_frames, is_near, base_of, build_at};
 
 use q3_entity::{EntityState, Run};
-use q3_player::{PlayerState, SnapHead};
 use q3_entity_ring::{Places, Ring, laws};
+use q3_player::{PlayerState, SnapHead};
 use std::alloc::{AllocError as NoMemory, Global};
 use std::marker::Model;
 

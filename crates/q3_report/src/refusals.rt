@@ -10,8 +10,8 @@ ghost use Rattle.q3_report.specs.AnswerLines.{out_of_range_text, baseline_refuse
 use crate::answer::{
     BaselineRefused, MoveRefused, OutOfRange, RecordRefused, StopRefused, TypeRefused,
 };
-use q3_io::{Failed, Piece, Sink, print_all};
 use crate::client::print_move_error;
+use q3_io::{Failed, Piece, Sink, print_all};
 use q3_map::NotLater;
 use q3_server::{ConfigRefused, SlotError};
 use q3_slot::{NoClient, SayError};

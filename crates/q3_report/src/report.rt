@@ -13,13 +13,13 @@ ghost use Rattle.q3_report.specs.AnswerLines.{lines_of, handed_lines, front_text
 ghost use Rattle.q3_report.specs.Tellings.{answered_of, taking_of, showing_of};
 
 use crate::answer::{Answer, Front, HandedIn, Shown, TakeRefused, Taker};
+use crate::client::print_sent;
 use crate::refusals::Refusal;
+use crate::server::print_emitted;
+use crate::{client, server};
 use q3_client::{Client, ClientTook};
 use q3_clstate::{Log, print_snapshot};
 use q3_io::{Failed, Piece, Sink, laws, print_all, print_hex_word};
-use crate::client::print_sent;
-use crate::server::print_emitted;
-use crate::{client, server};
 use q3_rings::SnapView;
 use q3_server::NoClient;
 

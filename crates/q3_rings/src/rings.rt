@@ -9,9 +9,9 @@ ghost use Rattle.q3_rings.specs.ByNumber.{GoneAreEmpty};
 
 use crate::views::{Held, SnapView};
 use q3_entity::{EntityState, Run};
-use q3_player::SnapHead;
 use q3_entity_ring::laws::{others_stay, placed_is_there, put_is_next, put_leaves_others};
 use q3_entity_ring::{Kept, Places, Ring, copy_head};
+use q3_player::SnapHead;
 use std::alloc::{AllocError as NoMemory, Global};
 use std::marker::Model;
 

@@ -4,10 +4,10 @@ ghost use Rattle.std.specs.Prelude.{◌≡◌, false};
 
 use crate::profiles::text_of_profile;
 use q3_io::{Address, Clock, Sink, Wire};
-use q3_testio::{MemClock, MemSink, MemWire};
 use q3_node::{NodeError, serve_loop};
 use q3_profile::read_profile;
 use q3_script::{ScriptKind, read_script};
+use q3_testio::{MemClock, MemSink, MemWire};
 use std::alloc::Global;
 use std::process::Abort;
 use std::test::*;

@@ -4,8 +4,8 @@ ghost use Rattle.std.specs.Prelude.{◌≡◌, ◌≤◌, None};
 ghost use Rattle.q3_entity.specs.Entities.{Rises};
 
 use q3_entity::{EntityState, List};
-use q3_player::SnapHead;
 use q3_entity_ring::Ring;
+use q3_player::SnapHead;
 use q3_rings::{NoBase, Rings};
 use std::process::Abort;
 use std::test::*;
