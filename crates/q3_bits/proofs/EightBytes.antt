@@ -125,7 +125,7 @@ pub record StoredAtOnce (start now : List ℕ) (place bits count : ℕ) : Type 0
   pub clear : IsClear now (place + count)
 
 pub stored_at_once : (start now : List ℕ) (place bits count first rest : ℕ) → IsClear start place → bits < 2 ^ count → count ≤ 56 → first ≡ place / 8 → first + 8 ≤ length start
-    → rest ≡ get_or start first 0 + bits * 2 ^ (place % 8) → take (first + 8) now ≡ take first start ++ to_le_bytes w64 rest → drop (first + 8) now ≡ drop (first + 8) start
+    → rest ≡ get_or start first 0 + bits * 2 ^ (place % 8) % 2 ^ 64 → take (first + 8) now ≡ take first start ++ to_le_bytes w64 rest → drop (first + 8) now ≡ drop (first + 8) start
     → StoredAtOnce start now place bits count
 stored_at_once start now place bits count first rest clear fits few at room is written behind =
     let end = place + count in
@@ -133,9 +133,10 @@ stored_at_once start now place bits count first rest clear fits few at room is w
     let q = left / 8 in
     let r = left % 8 in
     let whole : 8 * q + r ≡ left = omega arith in
-    let part : rest ≡ get_or start (place / 8) 0 + bits * 2 ^ (place % 8) = subst (λ (k : ℕ). rest ≡ get_or start k 0 + bits * 2 ^ (place % 8)) at is in
+    let all = stored-fits (get_or start (place / 8) 0) place bits count clear.part fits few in
+    let part : rest ≡ get_or start (place / 8) 0 + bits * 2 ^ (place % 8) = subst (λ (k : ℕ). rest ≡ get_or start k 0 + bits * 2 ^ (place % 8) % 2 ^ 64) at is ∙ omega (arith, all.0) in
     let begun = HasStored-none start place bits count clear fits in
-    let small : rest < 2 ^ 64 = rw part (stored-fits (get_or start (place / 8) 0) place bits count clear.part fits few).1 in
+    let small : rest < 2 ^ 64 = rw part all.1 in
     let below : rest < 2 ^ left = subst (λ (k : ℕ). rest < 2 ^ (end - 8 * k)) (sym at) (rw part begun.fits) in
     let fits' : rest < 2 ^ (8 * q + r) = subst (λ (k : ℕ). rest < 2 ^ k) (sym whole) below in
     let f : Fronted (take first start) now first rest = record {

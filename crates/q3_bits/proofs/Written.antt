@@ -12,6 +12,7 @@ use Rattle.q3_bits.specs.declared.writer.Writer.TheInside.{Inside}
 use Rattle.q3_bits.specs.Table.{bits_of_word}
 use Rattle.q3_bits.specs.Words.{bytes_bits, field_bits, word_of}
 use Rattle.q3_bits.specs.declared.code.Word.{Word}
+use Rattle.q3_bits.specs.declared.writer.Gathered.{Gathered}
 use Rattle.q3_bits.proofs.Numbers.{low_bits-zero, low_bits-add, low_bits-join, low_bits-mod, bits_of-push, length-low_bits, length-bits_of, number_of-low_bits}
 use Rattle.q3_bits.proofs.CodeText.{bytes_bits-zero, bytes_bits-suc, field_bits-is}
 use Rattle.q3_bits.proofs.MessageBytes.{message_bytes-byte, message_bytes-short}
@@ -198,6 +199,26 @@ field_bits-short words width value few = sym (field_bits-raw words width value f
 
 pub marks-none : (words : List (List Bool)) (value : ℕ) → field_bits words 0 value ≡ []
 marks-none words value = field_bits-short words 0 value (omega arith) ∙ low_bits-zero value
+
+-- three fields in two parts, each as a number
+pub record AreInTwo (front back : Gathered) (text : List Bool) : Type 0 where
+  pub is : low_bits front.count front.bits ++ low_bits back.count back.bits ≡ text
+  pub long : length text ≡ front.count + back.count
+
+pub in_two : (own words : List (List Bool)) (front back : Gathered) (first mark last : ℕ × ℕ) → own ≡ words
+    → low_bits front.count front.bits ≡ field_bits own 0 0 ++ field_bits own first.1 first.0
+    → low_bits back.count back.bits ≡ field_bits own mark.1 mark.0 ++ field_bits own last.1 last.0
+    → AreInTwo front back (field_bits words first.1 first.0 ++ (field_bits words mark.1 mark.0 ++ field_bits words last.1 last.0))
+in_two own words front back first mark last same front_is back_is =
+    let text : List (List Bool) → List Bool = λ ws. field_bits ws first.1 first.0 ++ (field_bits ws mark.1 mark.0 ++ field_bits ws last.1 last.0) in
+    let low = low_bits front.count front.bits in
+    let high = low_bits back.count back.bits in
+    let none : low ≡ field_bits own first.1 first.0 = front_is ∙ ap (λ (bits : List Bool). bits ++ field_bits own first.1 first.0) (marks-none own 0) in
+    let is : low ++ high ≡ text words = rw (none, back_is) refl ∙ ap text same in
+    record {
+      is = is;
+      long = omega (arith, ap length is, length-append low high, length-low_bits front.count front.bits, length-low_bits back.count back.bits);
+    }
 
 pub marks-joined : (words : List (List Bool)) (first second mark other : ℕ) → first + second < 8 → mark < 2 ^ first
     → field_bits words (first + second) (mark + other * 2 ^ first) ≡ field_bits words first mark ++ field_bits words second other

@@ -1,7 +1,9 @@
 -- The settings of a gamestate that are read one after the other.
-use Rattle.std.proofs.Common.{◌≡◌, ◌≤◌, ◌==◌, ℕ, zero, suc, Bool, false, List, [], ◌∷◌, length, replicate, Ok, Err, refl, sym, ap, arith}
+use Rattle.std.proofs.Common.{◌≡◌, ◌+◌, ◌<◌, ◌≤◌, ◌==◌, ℕ, zero, suc, Bool, false, List, [], ◌∷◌, length, replicate, Ok, Err, refl, sym, ap, ◌∙◌, arith}
 use Rattle.q3_bits.specs.Words.{IsCode, field_at}
 use Rattle.q3_bits.specs.declared.reader.ReadError.{ReadError}
+use Rattle.q3_bits.specs.Streams.{Reading, Reads}
+use Rattle.q3_strings.specs.Turns.{HasTurned}
 use Rattle.q3_strings.specs.Laws.{TurnsAreTaken}
 use Rattle.q3_fields.specs.Kinds.{Layout, IsTable}
 use Rattle.q3_fields.specs.States.{AreWords, normal_words}
@@ -23,6 +25,32 @@ zeros_are_words table is zero_is =
     (none.0, ap (λ (entity : EntityState). entity.words) none.1)
 
 -- ---- turn by turn
+
+-- behind an operation that was read a turn less is left
+pub record TakesTurn (start now got : Reading) (operation turns : ℕ) : Type 0 where
+  pub words : got.words ≡ start.words
+  pub place : got.place + length got.left ≡ start.place + length start.left
+  pub read : Ok (operation, got.left) ≡ field_at start.words 8 now.left
+  pub shorter : length got.left < length now.left
+  pub left : ℕ
+  pub is : turns ≡ suc left
+  pub enough : length got.left ≤ left
+
+pub takes_turn : {A : Type 0} {start now got : Reading} {answer : ℕ → List Bool → A} {whole : A} {n operation : ℕ} → TurnsAreTaken → IsCode start.words → (turned : HasTurned start now answer whole)
+    → n ≡ operation → Reads {T = ℕ} {E = ReadError} now got (field_at now.words 8 now.left) (Ok n) → TakesTurn start now got operation turned.turns
+takes_turn {start = start} {now = now} {got = got} {operation = operation} law code turned same reads =
+    let read : Ok (operation, got.left) ≡ field_at start.words 8 now.left =
+    ap (λ (m : ℕ). Ok (m, got.left)) (sym same) ∙ reads.value ∙ ap (λ (words : List (List Bool)). field_at words 8 now.left) turned.words in
+    let turn = law.turn start.words now.left got.left operation turned.turns code read turned.enough in
+    record {
+      words = reads.words ∙ turned.words;
+      place = reads.place ∙ turned.place;
+      read = read;
+      shorter = law.shorter start.words now.left got.left operation code (sym read);
+      left = turn.left;
+      is = turn.is;
+      enough = turn.enough;
+    }
 
 -- a fault of bits
 pub settings_fault : (profile : Profile) (strings : Strings) (lines : Lines) → TurnsAreTaken → IsCode profile.code → (bits : List Bool) (e : ReadError) (turns : ℕ)

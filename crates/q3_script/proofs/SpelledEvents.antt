@@ -33,7 +33,7 @@ use Rattle.q3_words.specs.Hex.{most_handed, area_at, handed_at, SpellsHex}
 use Rattle.q3_words.specs.Names.{name_at}
 use Rattle.q3_words.specs.Fields.{values_of, player_of, entity_at, player_at, AreFields, SpellsEntity, SpellsPlayer}
 use Rattle.q3_words.specs.Numbers.{last_client, last_entity, number_word, entity_word, client_word}
-use Rattle.q3_script.specs.Lines.{last_datagram, last_time, client_line, port_line, map_line, entity_line, remove_line, baseline_line, player_line, area_line, time_line, config_line, say_line, type_line, move_line, serve_line, send_line, deliver_line, record_line, stop_line, show_line, bytes_line, hand_at, toclient_line, toserver_line, at_line, end_line, Table, line_in, lines_taken, line_at}
+use Rattle.q3_script.specs.Lines.{only_number, last_datagram, last_time, client_line, port_line, map_line, entity_line, remove_line, baseline_line, player_line, area_line, time_line, config_line, say_line, type_line, move_line, serve_line, send_line, deliver_line, record_line, stop_line, show_line, bytes_line, hand_at, toclient_line, toserver_line, at_line, end_line, Table, line_in, lines_taken, line_at}
 use Rattle.q3_script.specs.Grammar.{SpellsEvent, IsInRange, IsEventOf, HasWords}
 use Rattle.q3_script.proofs.SpelledLines.{IsLine}
 use Rattle.q3_words.proofs.Spaces.{is_space, words_at_space, AreLeft}
@@ -192,14 +192,21 @@ entity_line-spelled (word ∷ words) event e =
     subst (λ (x : Event). IsLine (codes "entity" ∷ word ∷ words) x) (ok_is (Entity state.0) event state.2)
     (record { in_range = (omega arith, entity_words words state.0 was.spelled); whole = (words, was.spelled, ap (λ (w : List ℕ). codes "entity" ∷ w ∷ words) (is.2 ∙ ap decimal (sym same))) })
 
+-- a line of one number
+number_line-spelled : (first : List ℕ) (low high : ℕ) (make : ℕ → Event) → high < 2 ^ 64 → ((n : ℕ) → low ≤ n → n ≤ high → IsLine (first ∷ decimal n ∷ []) (make n))
+    → (words : List (List ℕ)) (event : Event) → (only_number low high words >>= λ n. Ok (make n)) ≡ Ok event → IsLine (first ∷ words) event
+unfolding only_number
+number_line-spelled first low high make small line [] event e = absurd cc
+number_line-spelled first low high make small line (word ∷ []) event e =
+    let n = bind_ok (number_word low high word) (λ n. Ok (make n)) event e in
+    let is = number_word-spelled low high word n.0 small n.1 in
+    subst (λ (x : Event). IsLine (first ∷ word ∷ []) x) (ok_is (make n.0) event n.2)
+    (subst (λ (w : List ℕ). IsLine (first ∷ w ∷ []) (make n.0)) (sym is.2) (line n.0 is.0 is.1))
+number_line-spelled first low high make small line (word ∷ other ∷ others) event e = absurd cc
+
 remove_line-spelled : (words : List (List ℕ)) (event : Event) → remove_line words ≡ Ok event → IsLine (codes "remove" ∷ words) event
 unfolding remove_line
-remove_line-spelled [] event e = absurd cc
-remove_line-spelled (word ∷ []) event e =
-    let number = bind_ok (entity_word word) (λ number. Ok (Remove number)) event e in
-    let is = number_word-spelled 0 last_entity word number.0 (omega arith) number.1 in
-    subst (λ (x : Event). IsLine (codes "remove" ∷ word ∷ []) x) (ok_is (Remove number.0) event number.2) (record { in_range = is.1; whole = ap (λ (w : List ℕ). codes "remove" ∷ w ∷ []) is.2 })
-remove_line-spelled (word ∷ other ∷ others) event e = absurd cc
+remove_line-spelled words event e = number_line-spelled (codes "remove") 0 last_entity Remove (omega arith) (λ n low high. record { in_range = high; whole = refl }) words event e
 
 baseline_line-spelled : (words : List (List ℕ)) (event : Event) → baseline_line words ≡ Ok event → IsLine (codes "baseline" ∷ words) event
 unfolding baseline_line
@@ -239,39 +246,19 @@ area_line-spelled (word ∷ last ∷ other ∷ others) event e = absurd cc
 
 time_line-spelled : (words : List (List ℕ)) (event : Event) → time_line words ≡ Ok event → IsLine (codes "time" ∷ words) event
 unfolding time_line
-time_line-spelled [] event e = absurd cc
-time_line-spelled (word ∷ []) event e =
-    let time = bind_ok (number_word 0 4294967295 word) (λ time. Ok (Time time)) event e in
-    let is = number_word-spelled 0 4294967295 word time.0 (omega arith) time.1 in
-    subst (λ (x : Event). IsLine (codes "time" ∷ word ∷ []) x) (ok_is (Time time.0) event time.2) (record { in_range = omega arith; whole = ap (λ (w : List ℕ). codes "time" ∷ w ∷ []) is.2 })
-time_line-spelled (word ∷ other ∷ others) event e = absurd cc
+time_line-spelled words event e = number_line-spelled (codes "time") 0 4294967295 Time (omega arith) (λ n low high. record { in_range = omega (arith, high); whole = refl }) words event e
 
 serve_line-spelled : (words : List (List ℕ)) (event : Event) → serve_line words ≡ Ok event → IsLine (codes "serve" ∷ words) event
 unfolding serve_line
-serve_line-spelled [] event e = absurd cc
-serve_line-spelled (word ∷ []) event e =
-    let c = bind_ok (client_word word) (λ c. Ok (Serve c)) event e in
-    let is = number_word-spelled 0 last_client word c.0 (omega arith) c.1 in
-    subst (λ (x : Event). IsLine (codes "serve" ∷ word ∷ []) x) (ok_is (Serve c.0) event c.2) (record { in_range = omega arith; whole = ap (λ (w : List ℕ). codes "serve" ∷ w ∷ []) is.2 })
-serve_line-spelled (word ∷ other ∷ others) event e = absurd cc
+serve_line-spelled words event e = number_line-spelled (codes "serve") 0 last_client Serve (omega arith) (λ n low high. record { in_range = high; whole = refl }) words event e
 
 send_line-spelled : (words : List (List ℕ)) (event : Event) → send_line words ≡ Ok event → IsLine (codes "send" ∷ words) event
 unfolding send_line
-send_line-spelled [] event e = absurd cc
-send_line-spelled (word ∷ []) event e =
-    let c = bind_ok (client_word word) (λ c. Ok (Send c)) event e in
-    let is = number_word-spelled 0 last_client word c.0 (omega arith) c.1 in
-    subst (λ (x : Event). IsLine (codes "send" ∷ word ∷ []) x) (ok_is (Send c.0) event c.2) (record { in_range = omega arith; whole = ap (λ (w : List ℕ). codes "send" ∷ w ∷ []) is.2 })
-send_line-spelled (word ∷ other ∷ others) event e = absurd cc
+send_line-spelled words event e = number_line-spelled (codes "send") 0 last_client Send (omega arith) (λ n low high. record { in_range = high; whole = refl }) words event e
 
 deliver_line-spelled : (words : List (List ℕ)) (event : Event) → deliver_line words ≡ Ok event → IsLine (codes "deliver" ∷ words) event
 unfolding deliver_line
-deliver_line-spelled [] event e = absurd cc
-deliver_line-spelled (word ∷ []) event e =
-    let datagram = bind_ok (number_word 1 last_datagram word) (λ datagram. Ok (Deliver datagram)) event e in
-    let is = number_word-spelled 1 last_datagram word datagram.0 (omega arith) datagram.1 in
-    subst (λ (x : Event). IsLine (codes "deliver" ∷ word ∷ []) x) (ok_is (Deliver datagram.0) event datagram.2) (record { in_range = (is.0, is.1); whole = ap (λ (w : List ℕ). codes "deliver" ∷ w ∷ []) is.2 })
-deliver_line-spelled (word ∷ other ∷ others) event e = absurd cc
+deliver_line-spelled words event e = number_line-spelled (codes "deliver") 1 last_datagram Deliver (omega arith) (λ n low high. record { in_range = (low, high); whole = refl }) words event e
 
 -- the two words of a recording, each read
 record_from : (word last : List ℕ) (c : ℕ) (name : List ℕ) → client_word word ≡ Ok c → name_at last ≡ Some name → IsLine (codes "record" ∷ word ∷ last ∷ []) (RecordTo c name)
@@ -292,48 +279,23 @@ record_line-spelled (word ∷ last ∷ other ∷ others) event e = absurd cc
 
 stop_line-spelled : (words : List (List ℕ)) (event : Event) → stop_line words ≡ Ok event → IsLine (codes "stop" ∷ words) event
 unfolding stop_line
-stop_line-spelled [] event e = absurd cc
-stop_line-spelled (word ∷ []) event e =
-    let c = bind_ok (client_word word) (λ c. Ok (Stop c)) event e in
-    let is = number_word-spelled 0 last_client word c.0 (omega arith) c.1 in
-    subst (λ (x : Event). IsLine (codes "stop" ∷ word ∷ []) x) (ok_is (Stop c.0) event c.2) (record { in_range = omega arith; whole = ap (λ (w : List ℕ). codes "stop" ∷ w ∷ []) is.2 })
-stop_line-spelled (word ∷ other ∷ others) event e = absurd cc
+stop_line-spelled words event e = number_line-spelled (codes "stop") 0 last_client Stop (omega arith) (λ n low high. record { in_range = high; whole = refl }) words event e
 
 show_line-spelled : (words : List (List ℕ)) (event : Event) → show_line words ≡ Ok event → IsLine (codes "show" ∷ words) event
 unfolding show_line
-show_line-spelled [] event e = absurd cc
-show_line-spelled (word ∷ []) event e =
-    let c = bind_ok (client_word word) (λ c. Ok (Show c)) event e in
-    let is = number_word-spelled 0 last_client word c.0 (omega arith) c.1 in
-    subst (λ (x : Event). IsLine (codes "show" ∷ word ∷ []) x) (ok_is (Show c.0) event c.2) (record { in_range = omega arith; whole = ap (λ (w : List ℕ). codes "show" ∷ w ∷ []) is.2 })
-show_line-spelled (word ∷ other ∷ others) event e = absurd cc
+show_line-spelled words event e = number_line-spelled (codes "show") 0 last_client Show (omega arith) (λ n low high. record { in_range = high; whole = refl }) words event e
 
 bytes_line-spelled : (words : List (List ℕ)) (event : Event) → bytes_line words ≡ Ok event → IsLine (codes "bytes" ∷ words) event
 unfolding bytes_line
-bytes_line-spelled [] event e = absurd cc
-bytes_line-spelled (word ∷ []) event e =
-    let datagram = bind_ok (number_word 1 last_datagram word) (λ datagram. Ok (Bytes datagram)) event e in
-    let is = number_word-spelled 1 last_datagram word datagram.0 (omega arith) datagram.1 in
-    subst (λ (x : Event). IsLine (codes "bytes" ∷ word ∷ []) x) (ok_is (Bytes datagram.0) event datagram.2) (record { in_range = (is.0, is.1); whole = ap (λ (w : List ℕ). codes "bytes" ∷ w ∷ []) is.2 })
-bytes_line-spelled (word ∷ other ∷ others) event e = absurd cc
+bytes_line-spelled words event e = number_line-spelled (codes "bytes") 1 last_datagram Bytes (omega arith) (λ n low high. record { in_range = (low, high); whole = refl }) words event e
 
 at_line-spelled : (words : List (List ℕ)) (event : Event) → at_line words ≡ Ok event → IsLine (codes "at" ∷ words) event
 unfolding at_line
-at_line-spelled [] event e = absurd cc
-at_line-spelled (word ∷ []) event e =
-    let ms = bind_ok (number_word 0 last_time word) (λ ms. Ok (At ms)) event e in
-    let is = number_word-spelled 0 last_time word ms.0 (omega arith) ms.1 in
-    subst (λ (x : Event). IsLine (codes "at" ∷ word ∷ []) x) (ok_is (At ms.0) event ms.2) (record { in_range = is.1; whole = ap (λ (w : List ℕ). codes "at" ∷ w ∷ []) is.2 })
-at_line-spelled (word ∷ other ∷ others) event e = absurd cc
+at_line-spelled words event e = number_line-spelled (codes "at") 0 last_time At (omega arith) (λ n low high. record { in_range = high; whole = refl }) words event e
 
 end_line-spelled : (words : List (List ℕ)) (event : Event) → end_line words ≡ Ok event → IsLine (codes "end" ∷ words) event
 unfolding end_line
-end_line-spelled [] event e = absurd cc
-end_line-spelled (word ∷ []) event e =
-    let ms = bind_ok (number_word 0 last_time word) (λ ms. Ok (End ms)) event e in
-    let is = number_word-spelled 0 last_time word ms.0 (omega arith) ms.1 in
-    subst (λ (x : Event). IsLine (codes "end" ∷ word ∷ []) x) (ok_is (End ms.0) event ms.2) (record { in_range = is.1; whole = ap (λ (w : List ℕ). codes "end" ∷ w ∷ []) is.2 })
-end_line-spelled (word ∷ other ∷ others) event e = absurd cc
+end_line-spelled words event e = number_line-spelled (codes "end") 0 last_time End (omega arith) (λ n low high. record { in_range = high; whole = refl }) words event e
 
 -- bytes that are handed in, and whose they are
 record WasHand (words : List (List ℕ)) (c : ℕ) (bytes : List ℕ) : Type 0 where
@@ -481,7 +443,7 @@ record Again (words : List (List ℕ)) (event : Event) : Type 0 where
 
 -- what is spelled so is read
 again : (words : List (List ℕ)) (event : Event) → IsInRange event → HasWords words event → Again words event
-unfolding client_line port_line map_line entity_line remove_line baseline_line player_line area_line time_line config_line say_line type_line serve_line send_line deliver_line record_line stop_line show_line bytes_line toclient_line toserver_line at_line end_line
+unfolding only_number client_line port_line map_line entity_line remove_line baseline_line player_line area_line time_line config_line say_line type_line serve_line send_line deliver_line record_line stop_line show_line bytes_line toclient_line toserver_line at_line end_line
 again words (Client c challenge qport dup address) is whole = record { others = decimal c ∷ decimal challenge ∷ decimal qport ∷ decimal dup ∷ whole.0 ∷ []; whole = whole.2; read = rw (number_word-again 0 last_client c (omega arith) (omega arith) (omega arith), number_word-again 0 4294967295 challenge (omega arith) (omega arith) (omega arith), number_word-again 0 65535 qport (omega arith) (omega arith) (omega arith), number_word-again 0 5 dup (omega arith) (omega arith) is.3, address_at-again whole.0 address whole.1 is.4 is.5) refl }
 again words (Port c port) is whole = record { others = decimal c ∷ decimal port ∷ []; whole = whole; read = rw (number_word-again 0 last_client c (omega arith) (omega arith) (omega arith), number_word-again 1 65535 port (omega arith) is.1 (omega arith)) refl }
 again words (Map id feed) is whole = record { others = decimal id ∷ decimal feed ∷ []; whole = whole; read = rw (number_word-again 1 2147483647 id (omega arith) is.0 (omega arith), number_word-again 0 4294967295 feed (omega arith) (omega arith) (omega arith)) refl }

@@ -1,7 +1,7 @@
 -- Each line in the steps by which it is read.
 use Rattle.std.proofs.Common.{◌≡◌, ℕ, List, [], ◌∷◌, Ok, refl}
 use Rattle.std.specs.Option.{ok_or}
-use Rattle.q3_script.specs.declared.event.Event.TheVariants.{Client, Port, Map, Entity, Remove, Baseline, Player, Area, Time, Move, Serve, Send, Deliver, RecordTo, Stop, Show, Bytes, At, End}
+use Rattle.q3_script.specs.declared.event.Event.TheVariants.{Client, Port, Map, Entity, Baseline, Player, Area, Move, RecordTo}
 use Rattle.q3_words.specs.declared.cause.LineCause.TheVariants.{Address, Count, Name, Number}
 use Rattle.q3_bits.specs.ResultBind.{◌>>=◌}
 use Rattle.q3_words.specs.Words.{next_of, three_of, only_of, text_from}
@@ -11,7 +11,7 @@ use Rattle.q3_words.specs.Names.{name_at}
 use Rattle.q3_words.specs.Quotes.{bytes_word, text_word, most_config}
 use Rattle.q3_words.specs.Fields.{entity_at, player_at}
 use Rattle.q3_words.specs.Numbers.{last_entity, number_word, entity_word, client_word}
-use Rattle.q3_script.specs.Lines.{last_datagram, last_time, angles_at, steps_at, move_with, client_line, port_line, map_line, entity_line, remove_line, baseline_line, player_line, area_line, time_line, config_at, command_at, move_line, serve_line, send_line, deliver_line, record_line, stop_line, show_line, bytes_line, hand_at, at_line, end_line}
+use Rattle.q3_script.specs.Lines.{only_number, angles_at, steps_at, move_with, client_line, port_line, map_line, entity_line, baseline_line, player_line, area_line, config_at, command_at, move_line, record_line, hand_at}
 
 -- a client: four words and the last, then each of them
 pub client_steps : (words : List (List ℕ)) → client_line words ≡ (ok_or (next_of words) Count >>= λ c. ok_or (next_of c.1) Count >>= λ challenge. ok_or (next_of challenge.1) Count >>= λ qport. ok_or (next_of qport.1) Count >>= λ dup. ok_or (only_of dup.1) Count >>= λ address.
@@ -48,18 +48,18 @@ unfolding entity_line
 entity_steps [] = refl
 entity_steps (number ∷ fields) = refl
 
--- an entity that goes: the only word is its number
-pub remove_steps : (words : List (List ℕ)) → remove_line words ≡ (ok_or (only_of words) Count >>= λ word. entity_word word >>= λ number. Ok (Remove number))
-unfolding remove_line
-remove_steps [] = refl
-remove_steps (number ∷ []) = refl
-remove_steps (number ∷ other ∷ others) = refl
-
 -- a baseline: a word, and fields
 pub baseline_steps : (words : List (List ℕ)) → baseline_line words ≡ (ok_or (next_of words) Count >>= λ number. number_word 1 last_entity number.0 >>= λ n. entity_at n number.1 >>= λ state. Ok (Baseline state))
 unfolding baseline_line
 baseline_steps [] = refl
 baseline_steps (number ∷ fields) = refl
+
+-- the only word, a number
+pub only_steps : (low high : ℕ) (words : List (List ℕ)) → only_number low high words ≡ (ok_or (only_of words) Count >>= λ word. number_word low high word)
+unfolding only_number
+only_steps low high [] = refl
+only_steps low high (word ∷ []) = refl
+only_steps low high (word ∷ other ∷ others) = refl
 
 -- area bytes: a word and the last, then each of them
 pub area_steps : (words : List (List ℕ)) → area_line words ≡ (ok_or (next_of words) Count >>= λ c. ok_or (only_of c.1) Count >>= λ area. client_word c.0 >>= λ c. ok_or (area_at area) Number >>= λ area. Ok (Area c area))
@@ -68,13 +68,6 @@ area_steps [] = refl
 area_steps (c ∷ []) = refl
 area_steps (c ∷ area ∷ []) = refl
 area_steps (c ∷ area ∷ other ∷ others) = refl
-
--- a time: the only word is a number
-pub time_steps : (words : List (List ℕ)) → time_line words ≡ (ok_or (only_of words) Count >>= λ word. number_word 0 4294967295 word >>= λ time. Ok (Time time))
-unfolding time_line
-time_steps [] = refl
-time_steps (time ∷ []) = refl
-time_steps (time ∷ other ∷ others) = refl
 
 -- a player: a word, and fields
 pub player_steps : (words : List (List ℕ)) → player_line words ≡ (ok_or (next_of words) Count >>= λ c. client_word c.0 >>= λ client. player_at c.1 >>= λ player. Ok (Player client player))
@@ -114,27 +107,6 @@ move_steps (c ∷ time ∷ pitch ∷ yaw ∷ roll ∷ forward ∷ right ∷ up �
 move_steps (c ∷ time ∷ pitch ∷ yaw ∷ roll ∷ forward ∷ right ∷ up ∷ buttons ∷ weapon ∷ []) = refl
 move_steps (c ∷ time ∷ pitch ∷ yaw ∷ roll ∷ forward ∷ right ∷ up ∷ buttons ∷ weapon ∷ other ∷ others) = refl
 
--- a call of the server: the only word is a client
-pub serve_steps : (words : List (List ℕ)) → serve_line words ≡ (ok_or (only_of words) Count >>= λ word. client_word word >>= λ c. Ok (Serve c))
-unfolding serve_line
-serve_steps [] = refl
-serve_steps (c ∷ []) = refl
-serve_steps (c ∷ other ∷ others) = refl
-
--- a call of the client: the only word is a client
-pub send_steps : (words : List (List ℕ)) → send_line words ≡ (ok_or (only_of words) Count >>= λ word. client_word word >>= λ c. Ok (Send c))
-unfolding send_line
-send_steps [] = refl
-send_steps (c ∷ []) = refl
-send_steps (c ∷ other ∷ others) = refl
-
--- an arrival: the only word is the number of a datagram
-pub deliver_steps : (words : List (List ℕ)) → deliver_line words ≡ (ok_or (only_of words) Count >>= λ word. number_word 1 last_datagram word >>= λ datagram. Ok (Deliver datagram))
-unfolding deliver_line
-deliver_steps [] = refl
-deliver_steps (datagram ∷ []) = refl
-deliver_steps (datagram ∷ other ∷ others) = refl
-
 -- a recording: a word and the last, then each of them
 pub record_steps : (words : List (List ℕ)) → record_line words ≡ (ok_or (next_of words) Count >>= λ c. ok_or (only_of c.1) Count >>= λ name. client_word c.0 >>= λ c. ok_or (name_at name) Name >>= λ name. Ok (RecordTo c name))
 unfolding record_line
@@ -143,27 +115,6 @@ record_steps (c ∷ []) = refl
 record_steps (c ∷ name ∷ []) = refl
 record_steps (c ∷ name ∷ other ∷ others) = refl
 
--- its end: the only word is a client
-pub stop_steps : (words : List (List ℕ)) → stop_line words ≡ (ok_or (only_of words) Count >>= λ word. client_word word >>= λ c. Ok (Stop c))
-unfolding stop_line
-stop_steps [] = refl
-stop_steps (c ∷ []) = refl
-stop_steps (c ∷ other ∷ others) = refl
-
--- a look: the only word is a client
-pub show_steps : (words : List (List ℕ)) → show_line words ≡ (ok_or (only_of words) Count >>= λ word. client_word word >>= λ c. Ok (Show c))
-unfolding show_line
-show_steps [] = refl
-show_steps (c ∷ []) = refl
-show_steps (c ∷ other ∷ others) = refl
-
--- a look at bytes: the only word is the number of a datagram
-pub bytes_steps : (words : List (List ℕ)) → bytes_line words ≡ (ok_or (only_of words) Count >>= λ word. number_word 1 last_datagram word >>= λ datagram. Ok (Bytes datagram))
-unfolding bytes_line
-bytes_steps [] = refl
-bytes_steps (datagram ∷ []) = refl
-bytes_steps (datagram ∷ other ∷ others) = refl
-
 -- bytes that are handed in: a word and the last, then each of them
 pub hand_steps : (words : List (List ℕ)) → hand_at words ≡ (ok_or (next_of words) Count >>= λ c. ok_or (only_of c.1) Count >>= λ bytes. client_word c.0 >>= λ c. ok_or (handed_at bytes) Number >>= λ bytes. Ok (c, bytes))
 unfolding hand_at
@@ -171,17 +122,3 @@ hand_steps [] = refl
 hand_steps (c ∷ []) = refl
 hand_steps (c ∷ bytes ∷ []) = refl
 hand_steps (c ∷ bytes ∷ other ∷ others) = refl
-
--- the time of the lines behind: the only word is a number
-pub at_steps : (words : List (List ℕ)) → at_line words ≡ (ok_or (only_of words) Count >>= λ word. number_word 0 last_time word >>= λ ms. Ok (At ms))
-unfolding at_line
-at_steps [] = refl
-at_steps (ms ∷ []) = refl
-at_steps (ms ∷ other ∷ others) = refl
-
--- the end: the only word is a number
-pub end_steps : (words : List (List ℕ)) → end_line words ≡ (ok_or (only_of words) Count >>= λ word. number_word 0 last_time word >>= λ ms. Ok (End ms))
-unfolding end_line
-end_steps [] = refl
-end_steps (ms ∷ []) = refl
-end_steps (ms ∷ other ∷ others) = refl

@@ -11,7 +11,7 @@ use Rattle.q3_words.specs.declared.cause.LineCause.{LineCause}
 use Rattle.q3_words.specs.declared.cause.LineCause.TheVariants as causes
 use Rattle.q3_script.specs.declared.cause.ScriptKind.{ScriptKind}
 use Rattle.q3_script.specs.declared.cause.ScriptKind.TheVariants as kinds
-use Rattle.q3_words.specs.Numbers.{last_entity, number_word, entity_word, client_word}
+use Rattle.q3_words.specs.Numbers.{last_client, last_entity, number_word, entity_word, client_word}
 use Rattle.q3_words.specs.Words.{behind}
 use Rattle.q3_text.specs.Decimals.{number_at}
 use Rattle.q3_words.specs.Addresses.{address_at}
@@ -28,6 +28,11 @@ last_datagram = 65536
 -- the latest time of a node's script, in milliseconds
 abbrev pub last_time : ℕ
 last_time = 3600000
+
+-- the only word, a number from low to high
+unfoldable pub only_number : ℕ → ℕ → List (List ℕ) → Result ℕ LineCause
+only_number low high (word ∷ []) = number_word low high word
+only_number low high words = Err causes.Count
 
 unfoldable pub client_line : List (List ℕ) → Result Event LineCause
 client_line (c ∷ challenge ∷ qport ∷ dup ∷ address ∷ []) = do
@@ -61,10 +66,9 @@ entity_line (number ∷ fields) = do
 entity_line [] = Err causes.Count
 
 unfoldable pub remove_line : List (List ℕ) → Result Event LineCause
-remove_line (number ∷ []) = do
-  number ← entity_word number
+remove_line words = do
+  number ← only_number 0 last_entity words
   Ok (Remove number)
-remove_line words = Err causes.Count
 
 unfoldable pub baseline_line : List (List ℕ) → Result Event LineCause
 baseline_line (number ∷ fields) = do
@@ -88,10 +92,9 @@ area_line (c ∷ area ∷ []) = do
 area_line words = Err causes.Count
 
 unfoldable pub time_line : List (List ℕ) → Result Event LineCause
-time_line (time ∷ []) = do
-  time ← number_word 0 4294967295 time
+time_line words = do
+  time ← only_number 0 4294967295 words
   Ok (Time time)
-time_line words = Err causes.Count
 
 -- an index and the text of its config string, which is the rest of the line with its spaces
 unfoldable pub config_at : List (List ℕ) → Result (ℕ × List ℕ) LineCause
@@ -174,22 +177,19 @@ move_line (c ∷ time ∷ pitch ∷ yaw ∷ roll ∷ forward ∷ right ∷ up �
 move_line words = Err causes.Count
 
 unfoldable pub serve_line : List (List ℕ) → Result Event LineCause
-serve_line (c ∷ []) = do
-  c ← client_word c
+serve_line words = do
+  c ← only_number 0 last_client words
   Ok (Serve c)
-serve_line words = Err causes.Count
 
 unfoldable pub send_line : List (List ℕ) → Result Event LineCause
-send_line (c ∷ []) = do
-  c ← client_word c
+send_line words = do
+  c ← only_number 0 last_client words
   Ok (Send c)
-send_line words = Err causes.Count
 
 unfoldable pub deliver_line : List (List ℕ) → Result Event LineCause
-deliver_line (datagram ∷ []) = do
-  datagram ← number_word 1 last_datagram datagram
+deliver_line words = do
+  datagram ← only_number 1 last_datagram words
   Ok (Deliver datagram)
-deliver_line words = Err causes.Count
 
 unfoldable pub record_line : List (List ℕ) → Result Event LineCause
 record_line (c ∷ name ∷ []) = do
@@ -199,22 +199,19 @@ record_line (c ∷ name ∷ []) = do
 record_line words = Err causes.Count
 
 unfoldable pub stop_line : List (List ℕ) → Result Event LineCause
-stop_line (c ∷ []) = do
-  c ← client_word c
+stop_line words = do
+  c ← only_number 0 last_client words
   Ok (Stop c)
-stop_line words = Err causes.Count
 
 unfoldable pub show_line : List (List ℕ) → Result Event LineCause
-show_line (c ∷ []) = do
-  c ← client_word c
+show_line words = do
+  c ← only_number 0 last_client words
   Ok (Show c)
-show_line words = Err causes.Count
 
 unfoldable pub bytes_line : List (List ℕ) → Result Event LineCause
-bytes_line (datagram ∷ []) = do
-  datagram ← number_word 1 last_datagram datagram
+bytes_line words = do
+  datagram ← only_number 1 last_datagram words
   Ok (Bytes datagram)
-bytes_line words = Err causes.Count
 
 -- a client and the bytes that are handed to it, or to the server from it
 unfoldable pub hand_at : List (List ℕ) → Result (ℕ × List ℕ) LineCause
@@ -235,16 +232,14 @@ toserver_line words = do
   Ok (Toserver hand.0 hand.1)
 
 unfoldable pub at_line : List (List ℕ) → Result Event LineCause
-at_line (ms ∷ []) = do
-  ms ← number_word 0 last_time ms
+at_line words = do
+  ms ← only_number 0 last_time words
   Ok (At ms)
-at_line words = Err causes.Count
 
 unfoldable pub end_line : List (List ℕ) → Result Event LineCause
-end_line (ms ∷ []) = do
-  ms ← number_word 0 last_time ms
+end_line words = do
+  ms ← only_number 0 last_time words
   Ok (End ms)
-end_line words = Err causes.Count
 
 -- lines by their first words, each with what reads the others
 abbrev pub Table : Type 0

@@ -1,8 +1,9 @@
 //! Reads one line of a script, by the lines that its kind has.
 
-ghost use Rattle.std.specs.Prelude.{◌≡◌, ◌∷◌, IfOk};
+ghost use Rattle.std.specs.Prelude.{◌≡◌, ◌≤◌, ◌∷◌, IfOk};
 ghost use Rattle.q3_words.specs.Words.{words_of, words_left};
-ghost use Rattle.q3_script.specs.Lines.{client_line, port_line, map_line, entity_line, remove_line, baseline_line, player_line, area_line, time_line, config_at, config_line, command_at, say_line, type_line, serve_line, send_line, deliver_line, record_line, stop_line, show_line, bytes_line, hand_at, toclient_line, toserver_line, at_line, end_line, turn_lines, line_in, line_at};
+ghost use Rattle.q3_words.specs.Numbers.{last_client};
+ghost use Rattle.q3_script.specs.Lines.{only_number, client_line, port_line, map_line, entity_line, remove_line, baseline_line, player_line, area_line, time_line, config_at, config_line, command_at, say_line, type_line, serve_line, send_line, deliver_line, record_line, stop_line, show_line, bytes_line, hand_at, toclient_line, toserver_line, at_line, end_line, turn_lines, line_in, line_at};
 
 use crate::cause::ScriptKind;
 use crate::event::Event;
@@ -18,6 +19,23 @@ use std::alloc::Global;
 
 /// The latest time of a node's script, in milliseconds.
 const LAST_TIME: u32 = 3_600_000;
+
+/// The only word, a number from `low` to `high`.
+#[tactic(auto, using(crate::proofs::Steps::only_steps))]
+fn only_number(left: &[u8], low: u32, high: u32) -> Result<u32, LineCause>
+    ensures value { result ≡ only_number low high (words_left left.now) }
+    ensures within { IfOk result (λ n. (low ≤ n) × (n ≤ high)) }
+{
+    let word = only_word(left).ok_or(LineCause::Count)?;
+    number_word(word, low, high)
+}
+
+/// The only word, the number of a client.
+fn only_client(left: &[u8]) -> Result<u8, LineCause>
+    ensures { result ≡ only_number 0 last_client (words_left left.now) }
+{
+    Ok(only_number(left, 0, 15)? as u8)
+}
 
 #[tactic(auto, using(crate::proofs::Steps::client_steps))]
 fn client(left: &[u8]) -> Result<Event, LineCause>
@@ -72,13 +90,12 @@ fn entity(left: &[u8]) -> Result<Event, LineCause>
     })
 }
 
-#[tactic(auto, using(crate::proofs::Steps::remove_steps))]
+#[tactic(auto, unfolding(crate::specs::Lines::remove_line))]
 fn remove(left: &[u8]) -> Result<Event, LineCause>
     ensures { result ≡ remove_line (words_left left.now) }
 {
-    let word = only_word(left).ok_or(LineCause::Count)?;
     Ok(Event::Remove {
-        number: entity_word(word)?,
+        number: only_number(left, 0, LAST_ENTITY)? as u16,
     })
 }
 
@@ -116,13 +133,12 @@ fn area(left: &[u8]) -> Result<Event, LineCause>
     })
 }
 
-#[tactic(auto, using(crate::proofs::Steps::time_steps))]
+#[tactic(auto, unfolding(crate::specs::Lines::time_line))]
 fn time(left: &[u8]) -> Result<Event, LineCause>
     ensures { result ≡ time_line (words_left left.now) }
 {
-    let word = only_word(left).ok_or(LineCause::Count)?;
     Ok(Event::Time {
-        time: number_word(word, 0, u32::MAX)?,
+        time: only_number(left, 0, u32::MAX)?,
     })
 }
 
@@ -185,33 +201,30 @@ fn type_text(left: &[u8]) -> Result<Event, LineCause>
     Ok(Event::TypeText { c, text })
 }
 
-#[tactic(auto, using(crate::proofs::Steps::serve_steps))]
+#[tactic(auto, unfolding(crate::specs::Lines::serve_line))]
 fn serve(left: &[u8]) -> Result<Event, LineCause>
     ensures { result ≡ serve_line (words_left left.now) }
 {
-    let word = only_word(left).ok_or(LineCause::Count)?;
     Ok(Event::Serve {
-        c: client_word(word)?,
+        c: only_client(left)?,
     })
 }
 
-#[tactic(auto, using(crate::proofs::Steps::send_steps))]
+#[tactic(auto, unfolding(crate::specs::Lines::send_line))]
 fn send(left: &[u8]) -> Result<Event, LineCause>
     ensures { result ≡ send_line (words_left left.now) }
 {
-    let word = only_word(left).ok_or(LineCause::Count)?;
     Ok(Event::Send {
-        c: client_word(word)?,
+        c: only_client(left)?,
     })
 }
 
-#[tactic(auto, using(crate::proofs::Steps::deliver_steps))]
+#[tactic(auto, unfolding(crate::specs::Lines::deliver_line))]
 fn deliver(left: &[u8]) -> Result<Event, LineCause>
     ensures { result ≡ deliver_line (words_left left.now) }
 {
-    let word = only_word(left).ok_or(LineCause::Count)?;
     Ok(Event::Deliver {
-        datagram: number_word(word, 1, 65_536)?,
+        datagram: only_number(left, 1, 65_536)?,
     })
 }
 
@@ -227,33 +240,30 @@ fn record_to(left: &[u8]) -> Result<Event, LineCause>
     })
 }
 
-#[tactic(auto, using(crate::proofs::Steps::stop_steps))]
+#[tactic(auto, unfolding(crate::specs::Lines::stop_line))]
 fn stop(left: &[u8]) -> Result<Event, LineCause>
     ensures { result ≡ stop_line (words_left left.now) }
 {
-    let word = only_word(left).ok_or(LineCause::Count)?;
     Ok(Event::Stop {
-        c: client_word(word)?,
+        c: only_client(left)?,
     })
 }
 
-#[tactic(auto, using(crate::proofs::Steps::show_steps))]
+#[tactic(auto, unfolding(crate::specs::Lines::show_line))]
 fn show(left: &[u8]) -> Result<Event, LineCause>
     ensures { result ≡ show_line (words_left left.now) }
 {
-    let word = only_word(left).ok_or(LineCause::Count)?;
     Ok(Event::Show {
-        c: client_word(word)?,
+        c: only_client(left)?,
     })
 }
 
-#[tactic(auto, using(crate::proofs::Steps::bytes_steps))]
+#[tactic(auto, unfolding(crate::specs::Lines::bytes_line))]
 fn bytes(left: &[u8]) -> Result<Event, LineCause>
     ensures { result ≡ bytes_line (words_left left.now) }
 {
-    let word = only_word(left).ok_or(LineCause::Count)?;
     Ok(Event::Bytes {
-        datagram: number_word(word, 1, 65_536)?,
+        datagram: only_number(left, 1, 65_536)?,
     })
 }
 
@@ -302,23 +312,21 @@ fn toserver(alloc: Global, left: &[u8]) -> Result<Result<Event, LineCause>, NoMe
     }
 }
 
-#[tactic(auto, using(crate::proofs::Steps::at_steps))]
+#[tactic(auto, unfolding(crate::specs::Lines::at_line))]
 fn at(left: &[u8]) -> Result<Event, LineCause>
     ensures { result ≡ at_line (words_left left.now) }
 {
-    let word = only_word(left).ok_or(LineCause::Count)?;
     Ok(Event::At {
-        ms: number_word(word, 0, LAST_TIME)?,
+        ms: only_number(left, 0, LAST_TIME)?,
     })
 }
 
-#[tactic(auto, using(crate::proofs::Steps::end_steps))]
+#[tactic(auto, unfolding(crate::specs::Lines::end_line))]
 fn end(left: &[u8]) -> Result<Event, LineCause>
     ensures { result ≡ end_line (words_left left.now) }
 {
-    let word = only_word(left).ok_or(LineCause::Count)?;
     Ok(Event::End {
-        ms: number_word(word, 0, LAST_TIME)?,
+        ms: only_number(left, 0, LAST_TIME)?,
     })
 }
 

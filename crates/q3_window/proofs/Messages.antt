@@ -1,5 +1,5 @@
 -- What messages carry and acknowledge, by their numbers.
-use Rattle.std.proofs.Common.{◌≡◌, ℕ, zero, suc, ◌+◌, ◌≤◌, List, [], ◌∷◌, ◌++◌, length, map, take, drop, refl, sym, ap, subst, ◌∙◌, inl, inr, arith}
+use Rattle.std.proofs.Common.{◌≡◌, ℕ, zero, suc, ◌+◌, ◌≤◌, List, [], ◌∷◌, ◌++◌, length, map, take, drop, refl, sym, ap, subst, ◌∙◌, add-one, inl, inr, arith}
 use Rattle.std.specs.Prelude.{All, max}
 use Rattle.std.proofs.lemmas.List.{get_or_append_left, get_or_push, take-append-le, drop-append-le, get_or-take, length-append}
 use Rattle.std.proofs.lemmas.List.Elements.{All-get_or}
@@ -96,10 +96,7 @@ acks_stay acks ack (suc k) few = ap (λ (c : Command). c.number) (get_or_append_
 
 -- and it acknowledges what it does
 pub ack_is : (acks : List Command) (ack : Command) → acknowledged_by (acks ++ ack ∷ []) (length acks + 1) ≡ ack.number
-ack_is acks ack =
-    let place : suc (length acks) ≡ length acks + 1 = omega arith in
-    subst (λ (n : ℕ). acknowledged_by (acks ++ ack ∷ []) n ≡ ack.number) place
-    (ap (λ (c : Command). c.number) (get_or_push acks ack no_command (length acks) refl))
+ack_is acks ack = rw add-one (ap (λ (c : Command). c.number) (get_or_push acks ack no_command (length acks) refl))
 
 pub acknowledged_more : (issued more : List (List ℕ)) (executed : ℕ) (ack : Command) → executed ≤ length issued → IsAcknowledged issued executed ack
     → IsAcknowledged (issued ++ more) executed ack
@@ -126,10 +123,7 @@ lasts_stay carried next (suc k) few = ap (λ (c : Carriage). c.last) (get_or_app
 
 -- and it carries what it does
 pub last_is : (carried : List Carriage) (next : Carriage) → last_carried (carried ++ next ∷ []) (length carried + 1) ≡ next.last
-last_is carried next =
-    let place : suc (length carried) ≡ length carried + 1 = omega arith in
-    subst (λ (n : ℕ). last_carried (carried ++ next ∷ []) n ≡ next.last) place
-    (ap (λ (c : Carriage). c.last) (get_or_push carried next no_carriage (length carried) refl))
+last_is carried next = rw add-one (ap (λ (c : Carriage). c.last) (get_or_push carried next no_carriage (length carried) refl))
 
 -- what was carried stays where more is issued
 pub carried_more : (issued more : List (List ℕ)) (executed : ℕ) (carriage : Carriage) → IsCarried issued executed carriage → IsCarried (issued ++ more) executed carriage

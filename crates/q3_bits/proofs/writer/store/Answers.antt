@@ -1,4 +1,4 @@
-use Rattle.std.proofs.Common.{◌≡◌, ◌+◌, ◌*◌, ◌/◌, ◌%◌, ◌^◌, ◌≤◌, ℕ, get_or, length, refl, arith}
+use Rattle.std.proofs.Common.{◌+◌, ◌*◌, ◌/◌, ◌%◌, ◌^◌, ℕ, get_or, refl, arith}
 use Rattle.q3_bits.proofs.Written.{stored-fits}
 use Rattle.q3_bits.proofs.EightBytes.{stored_at_once}
 use Rattle.q3_bits.proofs.writer.store.Goals as goal
@@ -10,22 +10,14 @@ overflow_add-rest c =
 
 pub returns-clause-bits : goal.returns-clause-bits
 returns-clause-bits c =
-    let bytes = c.args.bytes.now in
-    let place = c.args.place in
-    let fits = stored-fits (get_or bytes (place / 8) 0) place c.args.bits c.args.count c.requires.clear.part c.requires.fits c.requires.few in
-    let rest : ℕ = c.from.result + c.args.bits * 2 ^ (place % 8) % 18446744073709551616 in
-    let is : rest ≡ get_or bytes (place / 8) 0 + c.args.bits * 2 ^ (place % 8) = omega (arith, c.from.ensures, fits.0) in
-    let room : place / 8 + 8 ≤ length bytes = omega (arith, c.if-first-gt16376.false, c.told-bytes) in
-    (stored_at_once bytes c.store_eight.new.bytes place c.args.bits c.args.count (place / 8) rest c.requires.clear c.requires.fits c.requires.few refl room is c.store_eight.ensures.front
-    c.store_eight.ensures.behind).stored
+    let first = c.args.place / 8 in
+    let rest : ℕ = c.from.result + c.args.bits * 2 ^ (c.args.place % 8) % 18446744073709551616 in
+    (stored_at_once c.args.bytes.now c.store_eight.new.bytes c.args.place c.args.bits c.args.count first rest c.requires.clear c.requires.fits c.requires.few refl
+    (omega (arith, c.if-first-gt16376.false, c.told-bytes)) (omega (arith, c.from.ensures)) c.store_eight.ensures.front c.store_eight.ensures.behind).stored
 
 pub returns-clause-clear : goal.returns-clause-clear
 returns-clause-clear c =
-    let bytes = c.args.bytes.now in
-    let place = c.args.place in
-    let fits = stored-fits (get_or bytes (place / 8) 0) place c.args.bits c.args.count c.requires.clear.part c.requires.fits c.requires.few in
-    let rest : ℕ = c.from.result + c.args.bits * 2 ^ (place % 8) % 18446744073709551616 in
-    let is : rest ≡ get_or bytes (place / 8) 0 + c.args.bits * 2 ^ (place % 8) = omega (arith, c.from.ensures, fits.0) in
-    let room : place / 8 + 8 ≤ length bytes = omega (arith, c.if-first-gt16376.false, c.told-bytes) in
-    (stored_at_once bytes c.store_eight.new.bytes place c.args.bits c.args.count (place / 8) rest c.requires.clear c.requires.fits c.requires.few refl room is c.store_eight.ensures.front
-    c.store_eight.ensures.behind).clear
+    let first = c.args.place / 8 in
+    let rest : ℕ = c.from.result + c.args.bits * 2 ^ (c.args.place % 8) % 18446744073709551616 in
+    (stored_at_once c.args.bytes.now c.store_eight.new.bytes c.args.place c.args.bits c.args.count first rest c.requires.clear c.requires.fits c.requires.few refl
+    (omega (arith, c.if-first-gt16376.false, c.told-bytes)) (omega (arith, c.from.ensures)) c.store_eight.ensures.front c.store_eight.ensures.behind).clear
