@@ -13,9 +13,9 @@ use Rattle.q3_profile.specs.declared.profile.Profile.{Profile}
 use Rattle.q3_frames.specs.Frames.{FramesState, base_of, build_at}
 use Rattle.q3_map.specs.Map.{MapState}
 use Rattle.q3_built.specs.Built.{built_of, is_unclear}
-use Rattle.q3_slot.specs.Slot.{SlotState}
-use Rattle.q3_slot.specs.Emitting.{begun_next, emit_slot, most_placed, next_snapshot}
-use Rattle.q3_slot.specs.Slots.{asked_by, emission_of, game_emission, slot_of, snapshot_emission, told_under}
+use Rattle.q3_slot.specs.Slot.{SlotState, asked}
+use Rattle.q3_slot.specs.Emitting.{begun_next, emit_slot, most_placed, next_snapshot, telling_under}
+use Rattle.q3_slot.specs.Slots.{emission_of, game_emission, slot_of, slot_with, snapshot_emission}
 
 -- a snapshot, where a message may be begun and no gamestate is owed
 pub emits_snapshot : (profile : Profile) (map : MapState) (frames : FramesState) (c : ℕ) (slot : SlotState) → slot.sending.under_way ≡ None
@@ -39,7 +39,7 @@ emits_game profile map frames c slot idle open_ clear owed =
 pub is_begun : (profile : Profile) (map : MapState) (frames built : FramesState) (c : ℕ) (sending : Sending) (gathering : Gathering) (issued : OutgoingState) (client : Joined)
     (number : ℕ) (snapshot : Snapshot) (lines : Lines) → number ≡ sending.number + 1 → snapshot ≡ next_snapshot map (slot_of sending gathering issued client)
     → built ≡ build_at frames c snapshot → lines ≡ map.lines
-    → built_of (told_under profile issued client number) lines (base_of built c number (asked_by client)) snapshot
+    → built_of (telling_under profile (slot_with issued client) number) lines (base_of built c number (asked (slot_with issued client))) snapshot
     ≡ begun_next profile map frames c (slot_of sending gathering issued client)
 is_begun profile map frames built c sending gathering issued client number snapshot lines number_is snapshot_is built_is lines_are =
     rw (number_is, built_is, lines_are, snapshot_is) refl

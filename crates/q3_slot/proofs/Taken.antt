@@ -11,7 +11,7 @@ use Rattle.q3_profile.specs.declared.profile.Profile.{Profile}
 use Rattle.q3_window.specs.Outgoing.{OutgoingState}
 use Rattle.q3_slot.specs.declared.joined.Joined.{Joined}
 use Rattle.q3_slot.specs.Slot.{SlotState}
-use Rattle.q3_slot.specs.Slots.{slot_of, said_with}
+use Rattle.q3_slot.specs.Slots.{slot_of, slot_with}
 use Rattle.q3_slot.specs.Taking.{Came, run_read, said_by, take_answer, take_gathered, take_slot}
 
 -- what came whole is read under its number
@@ -27,7 +27,7 @@ pub whole_is_taken : (profile : Profile) (map : MapState) (c : ℕ) (from : Addr
     → behind ≡ (gathered_of gathering datagram).gathering
     → (gathered_of gathering datagram).answer ≡ gathered.Whole number count
     → bytes ≡ (gathered_of gathering datagram).message
-    → read ≡ said_with profile map moved.challenge issued bytes
+    → read ≡ said_by profile map (slot_with issued moved) bytes
     → take_slot profile map c from datagram (slot_of sending gathering issued client) ≡ run_read map (slot_of sending behind issued moved) c number read
 whole_is_taken profile map c from datagram sending gathering behind issued client moved number count bytes read moved_is behind_is whole bytes_are read_is =
     let slot = slot_of sending gathering issued client in

@@ -45,15 +45,19 @@ next_snapshot map slot = if is_active slot.stage then played_snapshot map slot e
 abbrev pub next_frames : MapState → FramesState → ℕ → SlotState → FramesState
 next_frames map frames c slot = build_at frames c (next_snapshot map slot)
 
--- what it says besides: all commands that aren't acknowledged
-abbrev pub telling_of : Profile → SlotState → Telling
-telling_of profile slot = record {
+-- what a message of a number says besides: all commands that aren't acknowledged
+abbrev pub telling_under : Profile → SlotState → ℕ → Telling
+telling_under profile slot number = record {
   ack = slot.executed.executed;
   commands = carried slot.issued;
   last = issued_of slot.issued;
   under = plays_under slot.stage slot.game;
-  key = server_key profile.protocol slot.challenge (slot.sending.number + 1) slot.executed.last;
+  key = server_key profile.protocol slot.challenge number slot.executed.last;
 }
+
+-- and the next one
+abbrev pub telling_of : Profile → SlotState → Telling
+telling_of profile slot = telling_under profile slot (slot.sending.number + 1)
 
 -- the message that goes to a client next: its snapshot, against the base that these frames have for it
 abbrev pub next_built : Profile → MapState → FramesState → ℕ → SlotState → Built

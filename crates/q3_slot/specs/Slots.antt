@@ -1,22 +1,18 @@
 -- How a slot is kept, and what each call does to it, with a client or with none.
 use Rattle.std.specs.Prelude.{◌≡◌, ℕ, ◌==◌, ◌&&◌, not, if◌then◌else◌, Bool, false, List, [], length, Option, Some, None, option_map, Result, Ok, Err}
 use Rattle.q3_io.specs.declared.address.Address.{Address}
-use Rattle.q3_bits.specs.Bits.{bits_of}
-use Rattle.q3_bits.specs.ResultBind.{◌>>=◌, fault_as}
-use Rattle.q3_chan.specs.Sending.{Sending, Piece}
-use Rattle.q3_chan.specs.Gathering.{Gathering}
-use Rattle.q3_chan.specs.Keys.{server_key}
+use Rattle.q3_chan.specs.Datagrams.{server_form, client_form}
+use Rattle.q3_chan.specs.Sending.{Sending, Piece, new_sending}
+use Rattle.q3_chan.specs.Gathering.{Gathering, new_gathering}
 use Rattle.q3_text.specs.declared.text.Command.{Command}
 use Rattle.q3_window.specs.declared.outgoing.WindowFull.{WindowFull}
-use Rattle.q3_window.specs.Outgoing.{OutgoingState, acknowledge_at, carried, fits, issue_at, issued_of, text_at, total_of, with_texts}
+use Rattle.q3_window.specs.Outgoing.{OutgoingState, fits, issue_at, total_of, with_texts}
 use Rattle.q3_config.specs.Commands.{Change, change_in}
 use Rattle.q3_fields.specs.Kinds.{Layout}
 use Rattle.q3_entity.specs.Entities.{IsList}
 use Rattle.q3_clmsg.specs.declared.moves.Move.{Move}
 use Rattle.q3_clmsg.specs.declared.error.ClientIllegible.{ClientIllegible}
 use Rattle.q3_clmsg.specs.Values.{Message}
-use Rattle.q3_clmsg.specs.declared.error.ClientIllegible.TheVariants.{Bits}
-use Rattle.q3_clmsg.specs.Reading.{heads_at}
 use Rattle.q3_profile.specs.declared.profile.Profile.{Profile}
 use Rattle.q3_entity_ring.specs.Snapshot.{Snapshot}
 use Rattle.q3_frames.specs.Frames.{FramesState, held_frame}
@@ -31,10 +27,9 @@ use Rattle.q3_slot.specs.declared.taking.ServerTook.{ServerTook}
 use Rattle.q3_slot.specs.declared.taking.ServerTook.TheVariants as took
 use Rattle.q3_slot.specs.declared.taking.Origin.{Origin}
 use Rattle.q3_slot.specs.declared.taking.Origin.TheVariants as origins
-use Rattle.q3_built.specs.Built.{Telling}
-use Rattle.q3_slot.specs.Slot.{SlotState, is_active, is_connected, plays_under}
+use Rattle.q3_slot.specs.Slot.{SlotState, is_connected}
 use Rattle.q3_slot.specs.Emitting.{SlotEmission, next_frames, begun_next, next_game_built, emit_built, emit_game, emit_slot}
-use Rattle.q3_slot.specs.Taking.{Came, OfMap, OfOther, Leading, Playing, ack_taken, came_under, goes_on, is_behind_game, leading_of, take_slot}
+use Rattle.q3_slot.specs.Taking.{Came, OfMap, OfOther, Playing, goes_on, leading_of, take_slot}
 
 -- what is being sent to a client, what was gathered of what it sends, which commands were issued to it, and what is kept of it
 -- beside that
@@ -57,18 +52,13 @@ slot_of sending gathering issued client = record {
   delayed = client.delayed;
 }
 
+-- the slot of a client to which these commands were issued, where nothing is being sent and nothing was gathered
+abbrev pub slot_with : OutgoingState → Joined → SlotState
+slot_with issued client = slot_of (new_sending (server_form None) 0) (new_gathering (client_form None)) issued client
+
 -- every frame that a slot holds has a list of entities of a table
 pub record HoldLists (table : Layout) (frames : FramesState) : Type 0 where
   pub listed : (slot number : ℕ) (held : Snapshot) → held_frame frames slot number ≡ Some held → IsList table held.entities
-
--- what the message of a number tells a client beside its snapshot
-abbrev pub told_under : Profile → OutgoingState → Joined → ℕ → Telling
-told_under profile issued client number =
-    record { ack = client.executed.executed; commands = carried issued; last = issued_of issued; under = plays_under client.stage client.game; key = server_key profile.protocol client.challenge number client.executed.last }
-
--- the snapshot against which the next one for a client may be written
-abbrev pub asked_by : Joined → ℕ
-asked_by client = if is_active client.stage then client.delta else 0
 
 -- what is answered where something is handed in for the client of a slot
 abbrev pub given : Option SlotState → Result (Unit {0}) NoClient
@@ -173,22 +163,11 @@ goes_with sending gathering issued client message = goes_on (slot_of sending gat
 abbrev pub played : Joined → Playing → Joined
 played client playing = record client { stage = playing.stage; delta = playing.delta; last_run = playing.last_run }
 
--- whether a message of another map makes a gamestate owed to a client
-abbrev pub asks_by : MapState → Joined → Leading → Bool
-asks_by map client heads = not (map.id == 0) && not (is_active client.stage) && is_behind_game heads.acknowledged client.game
-
 -- what a message that was read comes as, by the map that it is of
 abbrev pub came_of : Message → Result Origin ClientIllegible → Result Came ClientIllegible
 came_of message (Ok origins.Map) = Ok (OfMap message)
 came_of message (Ok (origins.Other heads)) = Ok (OfOther (leading_of heads))
 came_of message (Err cause) = Err cause
-
--- what bytes come as from the client that joined with a challenge, by the commands that were issued to it
-abbrev pub said_with : Profile → MapState → ℕ → OutgoingState → List ℕ → Result Came ClientIllegible
-said_with profile map challenge issued bytes = do
-  heads ← fault_as Bits (heads_at profile.code (bits_of bytes))
-  taken ← ack_taken heads.command (acknowledge_at issued heads.command).answer
-  came_under profile map challenge heads (text_at issued heads.command) bytes
 
 -- the slot after a datagram
 abbrev pub slot_behind : Profile → MapState → ℕ → Address → List ℕ → Option SlotState → Option SlotState

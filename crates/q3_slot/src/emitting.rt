@@ -11,8 +11,9 @@ ghost use Rattle.q3_entity.specs.Entities.{IsList, RiseFrom, Rises};
 ghost use Rattle.q3_svmsg.specs.Values.{base_viewed, base_from, base_entities, IsNamed};
 ghost use Rattle.q3_built.specs.Built.{built_of, number_of};
 ghost use Rattle.q3_built.specs.Writing.{HoldsBuilt};
-ghost use Rattle.q3_slot.specs.Emitting.{begun_next, most_placed, next_frames};
-ghost use Rattle.q3_slot.specs.Slots.{HoldLists, asked_by, slot_of, told_under};
+ghost use Rattle.q3_slot.specs.Slot.{asked};
+ghost use Rattle.q3_slot.specs.Emitting.{begun_next, most_placed, next_frames, telling_under};
+ghost use Rattle.q3_slot.specs.Slots.{HoldLists, slot_of, slot_with};
 
 use crate::joined::Joined;
 use q3_bits::Overflow;
@@ -102,8 +103,9 @@ fn write_against(
     requires lists { HoldLists profile.now.entity frames.now }
     requires listed { IsList profile.now.entity entities.now }
     requires buffer { length buffer.old ≡ longest_message }
-    ensures { HoldsBuilt profile.now (built_of (told_under profile.now to.entry.issued.now to.entry.client.now head.now.number) map.now.lines
-        (base_of frames.now to.entry.slot head.now.number (asked_by to.entry.client.now)) (record { head = head.now; entities = entities.now })) buffer.new result }
+    ensures { HoldsBuilt profile.now (built_of (telling_under profile.now (slot_with to.entry.issued.now to.entry.client.now) head.now.number) map.now.lines
+        (base_of frames.now to.entry.slot head.now.number (asked (slot_with to.entry.issued.now to.entry.client.now)))
+        (record { head = head.now; entities = entities.now })) buffer.new result }
 {
     let (base, against) = base_in(frames, to.slot, head.number, to.client.asked());
     let telling = TellingParts {

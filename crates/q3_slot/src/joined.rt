@@ -18,16 +18,18 @@ ghost use Rattle.q3_window.specs.Incoming.{executes, fresh_of};
 ghost use Rattle.q3_window.specs.Outgoing.{OutgoingState, acknowledge_at, new_outgoing};
 ghost use Rattle.q3_slot.specs.declared.stage.ClientStage.TheVariants.{Connected, Primed, Active};
 ghost use Rattle.q3_slot.specs.Emitting.{next_snapshot, snapshot_flags};
-ghost use Rattle.q3_slot.specs.Slots.{slot_of, asked_by, asks_by, came_of, said_with, goes_with, played};
-ghost use Rattle.q3_slot.specs.Taking.{delta_behind, ignores, is_behind_game, last_run_of, leading_of, run_read, runs};
+ghost use Rattle.q3_slot.specs.Slot.{asked};
+ghost use Rattle.q3_slot.specs.Slots.{slot_of, slot_with, came_of, goes_with, played};
+ghost use Rattle.q3_slot.specs.Taking.{asks_game, delta_behind, ignores, is_behind_game, last_run_of, leading_of, run_read, runs, said_by};
 
 use crate::stage::ClientStage;
 use crate::taking::{
-    Heard, Origin, ServerTook, delta_behind, execute_commands, gap_before, read_message, run_moves,
+    Heard, Origin, ServerTook, check_ack, delta_behind, execute_commands, gap_before, read_behind,
+    run_moves,
 };
 use arrayvec::ArrayVec;
 use q3_chan::Sender;
-use q3_clmsg::{ClientIllegible, ClientMessage, Heads, Move};
+use q3_clmsg::{ClientIllegible, ClientMessage, Heads, Move, read_heads};
 use q3_entity::EntityState;
 use q3_io::Address;
 use q3_map::Map;
@@ -136,8 +138,14 @@ impl Joined {
         self.address = address;
     }
 
-    /// Reads a message of the client, by the commands that were issued to it. The bytes are cleared in their place. After a
-    /// refusal, and after a message of another map, `into` may hold anything.
+    /// Reads a message of the client, by the commands that were issued to it: what its leading longs say counts, and by
+    /// protocol 68 the bytes after them are cleared in their place by the text of the command that they acknowledge. Of a
+    /// message of another map no more is read. After a refusal, and after a message of another map, `into` may hold anything.
+    ///
+    /// `Err` is the first of these:
+    /// - `Bits`: the leading longs don't read.
+    /// - `Ack`: the window doesn't take the acknowledgement.
+    /// - What `read_client_message` refuses, of a message of the map.
     pub fn read(
         &self,
         profile: &Profile,
@@ -146,9 +154,12 @@ impl Joined {
         bytes: &mut [u8],
         into: &mut ClientMessage,
     ) -> Result<Origin, ClientIllegible>
-        ensures { came_of (said_of into.new) result ≡ said_with profile.now map.now self.now.challenge issued.now bytes.old }
+        ensures { came_of (said_of into.new) result ≡ said_by profile.now map.now (slot_with issued.now self.now) bytes.old }
     {
-        read_message(profile, map, self.challenge, issued, bytes, into)
+        let heads = read_heads(&profile.code, bytes)?;
+        check_ack(issued, heads.command)?;
+        let text = issued.text(heads.command);
+        read_behind(profile, map, self.challenge, heads, text, bytes, into)
     }
 
     /// Runs what was read of a message of the client in a slot, under a number. The answer is the first that fits:
@@ -223,14 +234,14 @@ impl Joined {
 
     /// Whether a gamestate is owed after a message of another map.
     fn owes_behind(&self, map: &Map, heads: Heads) -> bool
-        ensures { result ≡ (self.now.owed || asks_by map.now self.now (leading_of heads)) }
+        ensures { result ≡ (self.now.owed || asks_game map.now (slot_with new_outgoing self.now) (leading_of heads)) }
     {
         self.owed || self.asks_game(map, heads)
     }
 
     /// Whether a message of another map makes a gamestate owed.
     fn asks_game(&self, map: &Map, heads: Heads) -> bool
-        ensures { result ≡ asks_by map.now self.now (leading_of heads) }
+        ensures { result ≡ asks_game map.now (slot_with new_outgoing self.now) (leading_of heads) }
     {
         map.has_map() && !self.stage.is_active() && self.is_behind_game(heads.acknowledged)
     }
@@ -356,7 +367,7 @@ impl Joined {
     /// The number of the snapshot against which the next one may be written, 0 for none: the one that the client asks for, as
     /// long as it plays.
     pub fn asked(&self) -> u32
-        ensures { result ≡ asked_by self.now }
+        ensures { result ≡ asked (slot_with new_outgoing self.now) }
     {
         if self.stage.is_active() {
             self.delta

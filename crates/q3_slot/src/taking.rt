@@ -10,15 +10,13 @@ ghost use Rattle.q3_bits.specs.Streams.{holding};
 ghost use Rattle.q3_clmsg.specs.Values.{said_of};
 ghost use Rattle.q3_window.specs.Incoming.{executes, fresh_of, gap_in};
 ghost use Rattle.q3_window.specs.Outgoing.{acknowledge_at, issued_of};
-ghost use Rattle.q3_slot.specs.Slots.{came_of, said_with};
+ghost use Rattle.q3_slot.specs.Slots.{came_of};
 ghost use Rattle.q3_slot.specs.Taking.{ack_taken, came_under, said_under, with_heads, delta_behind, runs, last_run_of};
 
 use arrayvec::ArrayVec;
 use q3_bits::NoMemory;
 use q3_chan::scramble_client;
-use q3_clmsg::{
-    ClientIllegible, ClientMessage, Heads, Move, message_key, read_client_message, read_heads,
-};
+use q3_clmsg::{ClientIllegible, ClientMessage, Heads, Move, message_key, read_client_message};
 use q3_map::Map;
 use q3_profile::Profile;
 use q3_text::{Commands, Text};
@@ -108,33 +106,8 @@ pub(crate) enum Origin {
     Other(Heads),
 }
 
-/// Reads a message of the client that joined with a challenge, by the commands that were issued to it: what its leading longs
-/// say counts, and by protocol 68 the bytes after them are cleared in their place by the text of the command that they
-/// acknowledge. Of a message of another map no more is read. After a refusal, and after a message of another map, `into` may
-/// hold anything.
-///
-/// `Err` is the first of these:
-/// - `Bits`: the leading longs don't read.
-/// - `Ack`: the window doesn't take the acknowledgement.
-/// - What `read_client_message` refuses, of a message of the map.
-pub(crate) fn read_message(
-    profile: &Profile,
-    map: &Map,
-    challenge: u32,
-    issued: &Outgoing,
-    bytes: &mut [u8],
-    into: &mut ClientMessage,
-) -> Result<Origin, ClientIllegible>
-    ensures { came_of (said_of into.new) result ≡ said_with profile.now map.now challenge issued.now bytes.old }
-{
-    let heads = read_heads(&profile.code, bytes)?;
-    check_ack(issued, heads.command)?;
-    let text = issued.text(heads.command);
-    read_behind(profile, map, challenge, heads, text, bytes, into)
-}
-
 /// Refuses the acknowledgement of a command that the window doesn't take.
-fn check_ack(issued: &Outgoing, command: u32) -> Result<(), ClientIllegible>
+pub(crate) fn check_ack(issued: &Outgoing, command: u32) -> Result<(), ClientIllegible>
     ensures taken { result ≡ ack_taken command (acknowledge_at issued.now command).answer }
     ensures within { IfOk result (λ _. (issued.now.acknowledged ≤ command) × (command ≤ issued_of issued.now)) }
 {
@@ -145,7 +118,7 @@ fn check_ack(issued: &Outgoing, command: u32) -> Result<(), ClientIllegible>
 }
 
 /// Reads what comes after these leading longs, by the text of the command that they acknowledge, where they are of the map.
-fn read_behind(
+pub(crate) fn read_behind(
     profile: &Profile,
     map: &Map,
     challenge: u32,
