@@ -1,28 +1,25 @@
 -- What a client made of a message that it applied.
-use Rattle.std.proofs.Common.{◌≡◌, ℕ, ◌+◌, ◌^◌, ◌<◌, ◌≤◌, List, [], ◌++◌, length, take, Option, Some, None, Result, Ok, Err, refl, sym, ap, subst, ◌∙◌, arith}
+use Rattle.std.proofs.Common.{◌≡◌, ℕ, ◌+◌, ◌^◌, ◌<◌, List, [], ◌++◌, length, take, Option, Some, None, Result, Ok, Err, refl, sym, ap, subst, ◌∙◌, arith}
 use Rattle.std.specs.Prelude.{◌==◌, ◌||◌, nat_lt, nat_le, if◌then◌else◌}
 use Rattle.std.proofs.lemmas.Bool.{cond_both, eqb-true, leb-false}
 use Rattle.q3_bits.specs.Bits.{bits_of}
-use Rattle.q3_bits.specs.ResultBind.{◌>>=◌, bind_ok, fault_as}
-use Rattle.q3_window.specs.Outgoing.{acknowledge_at, text_at}
+use Rattle.q3_bits.specs.ResultBind.{bind_ok}
 use Rattle.q3_chan.specs.declared.gatherer.Gathered.{Gathered}
 use Rattle.q3_chan.specs.declared.gatherer.Gathered.TheVariants as gathered
 use Rattle.q3_chan.specs.Datagrams.{fragment_size, longest_message, is_fragment, number_in, length_of, has_bad_check, start_in, count_in, behind_header}
 use Rattle.q3_chan.specs.Gathering.{Gathering, Took, answers as gathers, arrives, emptied, gathering_of, take_whole, add_piece, take_piece, take_fragment, take_newer, is_connectionless, gathered as gathered_of}
 use Rattle.q3_svmsg.specs.declared.error.Illegible.{Illegible}
-use Rattle.q3_svmsg.specs.declared.error.Illegible.TheVariants.{Bits}
-use Rattle.q3_svmsg.specs.Reading.{ack_at, message_at}
+use Rattle.q3_svmsg.specs.Reading.{message_at}
 use Rattle.q3_svmsg.specs.Values as told
 use Rattle.q3_svmsg.specs.Values.{Told, Message}
 use Rattle.q3_clstate.specs.declared.applied.Applied.{Applied}
 use Rattle.q3_clstate.specs.declared.applied.SnapOutcome.TheVariants.{Stale, Skipped}
 use Rattle.q3_clstate.specs.State.{AppliedState, Application, context_of, passes, accepts, is_stale, skipped_for, apply_section, apply_read, apply_at, hearing}
 use Rattle.q3_rings.specs.Rings.{held_snapshot}
-use Rattle.q3_client.specs.declared.client.ClientTook.{ClientTook}
 use Rattle.q3_client.specs.declared.client.ClientTook.TheVariants as took
-use Rattle.q3_client.specs.Client.{ClientState, Taken, Reception, applies_read, take_answer, take_unless, take_at, receive_bytes, ack_taken, cleared}
+use Rattle.q3_client.specs.Client.{ClientState, Reception, applies_read, take_answer, take_unless, take_at, receive_bytes}
 use Rattle.q3_client.specs.Laws.{WasApplied}
-use Rattle.q3_client.specs.Standing.{IsClient}
+use Rattle.q3_client.proofs.Received.{WasReceived, was_received}
 
 -- ---- a message that comes whole is newer than all that were taken
 
@@ -101,56 +98,19 @@ numbered state number bytes application e =
     let does = are_same (apply_read state number read.0) application read.2 in
     subst (λ (a : Application). a.answer.number ≡ number) does (section_numbered (hearing state read.0.commands) number read.0.section)
 
--- ---- what was received is what its bytes do
-
-record WasReceived (state : AppliedState) (number : ℕ) (received : Reception) : Type 0 where
-  does : apply_at state number received.message ≡ Ok received.application
-  numbered : received.application.answer.number ≡ number
-
-abbrev received_with : ClientState → ℕ → List ℕ → Result Application Illegible → Result Reception Illegible
-received_with client ack plain applied =
-    applied >>= λ application. Ok (record { message = plain; issued = (acknowledge_at client.issued ack).window; application = application })
-
-abbrev received_behind : ClientState → ℕ → List ℕ → ℕ × ℕ → Result Reception Illegible
-received_behind client n bytes ack =
-    ack_taken ack.0 (acknowledge_at client.issued ack.0).answer >>= λ taken.
-    received_with client ack.0 (cleared client.state.profile.protocol client.challenge n (text_at client.issued ack.0) bytes)
-    (apply_at client.state n (cleared client.state.profile.protocol client.challenge n (text_at client.issued ack.0) bytes))
-
-abbrev received_as : Reception → Result Reception Illegible
-received_as reception = Ok reception
-
-same : (one other : Reception) → received_as one ≡ received_as other → one ≡ other
-same one other e = cc
-
-with_was : (client : ClientState) (n ack : ℕ) (plain : List ℕ) (applied : Result Application Illegible) (received : Reception) → apply_at client.state n plain ≡ applied
-    → received_with client ack plain applied ≡ Ok received → WasReceived client.state n received
-with_was client n ack plain (Ok application) received does e =
-    subst (WasReceived client.state n) (same (record { message = plain; issued = (acknowledge_at client.issued ack).window; application = application }) received e)
-    (record { does = does; numbered = numbered client.state n plain application does })
-with_was client n ack plain (Err cause) received does e = absurd cc
-
-was_received : (client : ClientState) (n : ℕ) (bytes : List ℕ) (received : Reception) → receive_bytes client n bytes ≡ Ok received → WasReceived client.state n received
-was_received client n bytes received e =
-    let long = bind_ok (fault_as Bits (ack_at client.state.profile.code (bits_of bytes))) (received_behind client n bytes) received e in
-    let ack = long.0.0 in
-    let plain = cleared client.state.profile.protocol client.challenge n (text_at client.issued ack) bytes in
-    let taken = bind_ok (ack_taken ack (acknowledge_at client.issued ack).answer) (λ (taken : Unit {0}). received_with client ack plain (apply_at client.state n plain)) received long.2 in
-    with_was client n ack plain (apply_at client.state n plain) received refl taken.2
-
 -- ---- what a client applied
 
 applied_same : (one other : Applied) → took.Applied one ≡ took.Applied other → one ≡ other
 applied_same one other e = cc
 
 read_was : (client : ClientState) (last n : ℕ) (received : Result Reception Illegible) (applied : Applied) → AreAbove last n
-    → ((reception : Reception) → received ≡ Ok reception → WasReceived client.state n reception)
+    → ((reception : Reception) → received ≡ Ok reception → WasReceived client.state client.issued n reception)
     → (applies_read client received).answer ≡ took.Applied applied → WasApplied client.state last (applies_read client received) applied
 read_was client last n (Err cause) applied above were e = absurd cc
 read_was client last n (Ok reception) applied above were e =
     let was = were reception refl in
     let is = applied_same reception.application.answer applied e in
-    let number : n ≡ applied.number = sym was.numbered ∙ ap (λ (a : Applied). a.number) is in
+    let number : n ≡ applied.number = sym (numbered client.state n reception.message reception.application was.does) ∙ ap (λ (a : Applied). a.number) is in
     record {
       application = reception.application;
       does = subst (λ (m : ℕ). apply_at client.state m reception.message ≡ Ok reception.application) number was.does;
@@ -163,7 +123,7 @@ read_was client last n (Ok reception) applied above were e =
     }
 
 answer_was : (client : ClientState) (last : ℕ) (answer : Gathered) (receive : ℕ → Result Reception Illegible) (applied : Applied) → IsAbove last answer
-    → ((n : ℕ) (reception : Reception) → receive n ≡ Ok reception → WasReceived client.state n reception)
+    → ((n : ℕ) (reception : Reception) → receive n ≡ Ok reception → WasReceived client.state client.issued n reception)
     → (take_answer client answer receive).answer ≡ took.Applied applied → WasApplied client.state last (take_answer client answer receive) applied
 answer_was client last (gathered.Whole n count) receive applied above were e =
     read_was client last n (receive n) applied (record { newer = above.0; fits = above.1 }) (were n) e

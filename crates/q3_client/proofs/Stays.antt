@@ -1,11 +1,10 @@
 -- What a client keeps stays well formed and in range, whatever is handed in and whatever comes.
-use Rattle.std.proofs.Common.{◌≡◌, ℕ, ◌+◌, ◌%◌, ◌^◌, ◌<◌, ◌≤◌, Bool, List, [], ◌++◌, length, take, Option, Some, None, Result, Ok, Err, refl, sym, ap, subst, ◌∙◌, arith, ◌-◌, ◌∷◌}
+use Rattle.std.proofs.Common.{◌≡◌, ℕ, ◌+◌, ◌^◌, ◌<◌, ◌≤◌, Bool, List, [], ◌++◌, length, take, Option, Some, None, Result, Ok, Err, refl, sym, subst, arith, ◌-◌, ◌∷◌}
 use Rattle.std.specs.Prelude.{◌==◌, ◌||◌, not, nat_lt, nat_le, if◌then◌else◌}
 use Rattle.std.proofs.lemmas.Bool.{cond_both, eqb-true}
 use Rattle.std.proofs.lemmas.List.{length-drop}
 use Rattle.circular_buffer.specs.Buffer.{keep_last}
-use Rattle.q3_bits.specs.Bits.{bits_of, message_bytes, message_length}
-use Rattle.q3_bits.specs.ResultBind.{◌>>=◌, bind_ok, fault_as}
+use Rattle.q3_bits.specs.Bits.{message_bytes, message_length}
 use Rattle.q3_text.specs.Texts.{IsText}
 use Rattle.q3_profile.specs.declared.profile.Profile.{Profile}
 use Rattle.q3_profile.specs.Profile.{IsCodec}
@@ -17,24 +16,22 @@ use Rattle.q3_chan.specs.Datagrams.{sequence_end}
 use Rattle.q3_chan.specs.Sending.{Sending, UnderWay, started, next_of}
 use Rattle.q3_chan.specs.Keys.{client_scrambled}
 use Rattle.q3_svmsg.specs.declared.error.Illegible.{Illegible}
-use Rattle.q3_svmsg.specs.declared.error.Illegible.TheVariants.{Bits}
-use Rattle.q3_svmsg.specs.Reading.{ack_at}
-use Rattle.q3_window.specs.Outgoing.{OutgoingState, IsOutgoing, new_outgoing, issue_at, acknowledge_at, text_at}
+use Rattle.q3_window.specs.Outgoing.{IsOutgoing}
 use Rattle.q3_window.specs.Laws.{StaysOutgoing}
 use Rattle.q3_clmsg.specs.declared.moves.Move.{Move}
 use Rattle.q3_clmsg.specs.Moves.{IsMove}
-use Rattle.q3_clstate.specs.State.{AppliedState, Application, new_state, apply_at, state_behind}
+use Rattle.q3_clstate.specs.State.{Application, state_behind}
 use Rattle.q3_clstate.specs.Standing.{IsApplied}
 use Rattle.q3_clstate.specs.Laws.{ApplyStays}
-use Rattle.q3_client.specs.declared.client.ClientTook.{ClientTook}
 use Rattle.q3_client.specs.declared.moves.Issued.{Issued}
 use Rattle.q3_client.specs.declared.client.MoveError.{MoveError}
 use Rattle.q3_client.specs.declared.client.MoveError.TheVariants.{NoGame, NotLater, Range}
-use Rattle.q3_client.specs.Client.{ClientState, Taken, Reception, new_client, type_at, answers, applies_read, take_answer, take_unless, take_at, receive_bytes, ack_taken, cleared, moves_behind}
+use Rattle.q3_client.specs.Client.{ClientState, Reception, new_client, type_at, applies_read, take_answer, take_unless, take_at, receive_bytes, moves_behind}
 use Rattle.q3_client.specs.Moves.{Handed, most_moves, is_issuable, issue, add_move_at}
 use Rattle.q3_client.specs.declared.client.Sent.TheVariants as sent
 use Rattle.q3_client.specs.Sending.{Said, Emission, next_message, next_said, said_bits, is_unclear, nothing, hand_out, emit_bits, emit_new, emit_left, emit_unless, emit_at}
-use Rattle.q3_client.specs.Standing.{AreMoves, IsClient}
+use Rattle.q3_client.specs.Standing.{IsClient}
+use Rattle.q3_client.proofs.Received.{was_received}
 use Rattle.q3_client.proofs.Begins.{no_moves, moves_pushed, moves_wiped}
 
 -- ---- what was gathered
@@ -101,37 +98,14 @@ pub record AreReceived (received : Reception) : Type 0 where
   pub applied : IsApplied received.application.state
   pub window : IsOutgoing received.issued
 
-abbrev received_with : ClientState → ℕ → List ℕ → Result Application Illegible → Result Reception Illegible
-received_with client ack plain applied =
-    applied >>= λ application. Ok (record { message = plain; issued = (acknowledge_at client.issued ack).window; application = application })
-
-abbrev received_behind : ClientState → ℕ → List ℕ → ℕ × ℕ → Result Reception Illegible
-received_behind client n bytes ack =
-    ack_taken ack.0 (acknowledge_at client.issued ack.0).answer >>= λ taken.
-    received_with client ack.0 (cleared client.state.profile.protocol client.challenge n (text_at client.issued ack.0) bytes)
-    (apply_at client.state n (cleared client.state.profile.protocol client.challenge n (text_at client.issued ack.0) bytes))
-
-abbrev received_as : Reception → Result Reception Illegible
-received_as reception = Ok reception
-
-same : (one other : Reception) → received_as one ≡ received_as other → one ≡ other
-same one other e = cc
-
-were_received : StaysOutgoing → (client : ClientState) (ack : ℕ) (plain : List ℕ) (applied : Result Application Illegible) (received : Reception) → IsOutgoing client.issued
-    → IsApplied (state_behind client.state applied) → received_with client ack plain applied ≡ Ok received → AreReceived received
-were_received stays client ack plain (Ok application) received window is e =
-    subst AreReceived (same (record { message = plain; issued = (acknowledge_at client.issued ack).window; application = application }) received e)
-    (record { applied = is; window = stays.acknowledges client.issued ack window })
-were_received stays client ack plain (Err cause) received window is e = absurd cc
-
 pub are_received : ApplyStays → StaysOutgoing → (client : ClientState) (n : ℕ) (bytes : List ℕ) (received : Reception) → n < 2 ^ 32 → IsApplied client.state → IsOutgoing client.issued
     → receive_bytes client n bytes ≡ Ok received → AreReceived received
 are_received applies stays client n bytes received fits is window e =
-    let long = bind_ok (fault_as Bits (ack_at client.state.profile.code (bits_of bytes))) (received_behind client n bytes) received e in
-    let ack = long.0.0 in
-    let plain = cleared client.state.profile.protocol client.challenge n (text_at client.issued ack) bytes in
-    let taken = bind_ok (ack_taken ack (acknowledge_at client.issued ack).answer) (λ (taken : Unit {0}). received_with client ack plain (apply_at client.state n plain)) received long.2 in
-    were_received stays client ack plain (apply_at client.state n plain) received window (applies.apply client.state n plain fits is) taken.2
+    let was = was_received client n bytes received e in
+    record {
+      applied = subst (λ (applied : Result Application Illegible). IsApplied (state_behind client.state applied)) was.does (applies.apply client.state n received.message fits is);
+      window = subst IsOutgoing (sym was.window) (stays.acknowledges client.issued was.ack window);
+    }
 
 -- ---- a client
 

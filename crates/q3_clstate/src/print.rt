@@ -62,27 +62,12 @@ fn print_outcome<O: Sink>(applied: &Applied, out: &mut O) -> Result<(), Failed>
 {
     match applied.snap {
         SnapOutcome::NoSnap => print_all(&[], out),
-        SnapOutcome::Accepted { base } => print_accepted(applied.number, base, out),
+        SnapOutcome::Accepted { base } => {
+            print_base(b"+ accepted ", applied.number, base, b"\n", out)
+        }
         SnapOutcome::Skipped { base, cause } => print_skipped(applied.number, base, cause, out),
         SnapOutcome::Stale => print_stale(applied.number, out),
     }
-}
-
-fn print_accepted<O: Sink>(number: u32, base: u32, out: &mut O) -> Result<(), Failed>
-    ensures adds { Adds (O.written out.old) (O.written out.new)
-        (concat (codes "+ accepted " ∷ decimal number ∷ codes " base " ∷ decimal base ∷ codes "\n" ∷ [])) result }
-    ensures cause { HasCause (O.faults out.old) (O.faults out.new) result }
-{
-    print_all(
-        &[
-            Piece::Text(b"+ accepted "),
-            Piece::Number(u64::from(number)),
-            Piece::Text(b" base "),
-            Piece::Number(u64::from(base)),
-            Piece::Text(b"\n"),
-        ],
-        out,
-    )
 }
 
 fn print_stale<O: Sink>(number: u32, out: &mut O) -> Result<(), Failed>
@@ -106,23 +91,29 @@ fn print_skipped<O: Sink>(number: u32, base: u32, cause: NoBase, out: &mut O) ->
     ensures cause { HasCause (O.faults out.old) (O.faults out.new) result }
 {
     laws::texts_follow();
-    print_front(number, base, out)?;
+    print_base(b"+ skipped ", number, base, b" ", out)?;
     print_cause(cause, out)?;
     out.write_all(b"\n")
 }
 
-fn print_front<O: Sink>(number: u32, base: u32, out: &mut O) -> Result<(), Failed>
-    ensures adds { Adds (O.written out.old) (O.written out.new)
-        (concat (codes "+ skipped " ∷ decimal number ∷ codes " base " ∷ decimal base ∷ codes " " ∷ [])) result }
+/// Prints a word for what became of a snapshot, its number, its base, and what ends the line or goes on in it.
+fn print_base<'a, O: Sink>(
+    word: &'a [u8],
+    number: u32,
+    base: u32,
+    end: &'a [u8],
+    out: &mut O,
+) -> Result<(), Failed>
+    ensures adds { Adds (O.written out.old) (O.written out.new) (concat (word.now ∷ decimal number ∷ codes " base " ∷ decimal base ∷ end.now ∷ [])) result }
     ensures cause { HasCause (O.faults out.old) (O.faults out.new) result }
 {
     print_all(
         &[
-            Piece::Text(b"+ skipped "),
+            Piece::Text(word),
             Piece::Number(u64::from(number)),
             Piece::Text(b" base "),
             Piece::Number(u64::from(base)),
-            Piece::Text(b" "),
+            Piece::Text(end),
         ],
         out,
     )

@@ -210,8 +210,8 @@ impl Table {
     }
 }
 
-/// Whether bytes are these others, each translated.
-fn is_translated(bytes: &[u8], text: &[u8]) -> bool
+/// Whether bytes are these others, each translated, as a string keeps them.
+pub fn is_translated(bytes: &[u8], text: &[u8]) -> bool
     ensures { result ≡ bytes_eq bytes.now (map translated text.now) }
 {
     if bytes.len() != text.len() {

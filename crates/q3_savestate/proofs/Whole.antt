@@ -19,7 +19,7 @@ use Rattle.q3_savestate.specs.Cursor.{Cursor, end_at}
 use Rattle.q3_savestate.specs.Entities.{lines_at}
 use Rattle.q3_savestate.specs.Texts.{strings_at, pending_at}
 use Rattle.q3_savestate.specs.Snapshots.{last_number, snapshots_at}
-use Rattle.q3_savestate.specs.State.{Saved, Start, flag_bytes, state_bytes, start_at, flag_at, state_at}
+use Rattle.q3_savestate.specs.State.{Saved, Start, flag_bytes, state_bytes, start_at, flag_at, whole_at, state_at}
 use Rattle.q3_savestate.specs.Standing.{IsSaved, AreWellHeld}
 use Rattle.q3_savestate.specs.Laws.{WrittenIsRead, ReadIsWritten}
 use Rattle.q3_savestate.proofs.Rows.{ReadsBack, back_then, back_last, back_end, ReadsAllBack, all_back_then, WasRead, were_then, were_last, were_end, were_row, HasReadAll, all_were_then}
@@ -129,28 +129,6 @@ end_was_read {Q = Q} saved holds = record {
 }
 
 -- ---- the whole
-
--- a state, wherever it stands
-abbrev whole_at : Profile → Cursor → Result Saved ℕ
-whole_at profile cursor = do
-  start ← start_at cursor
-  pending ← pending_at start.1
-  has_game ← flag_at pending.1
-  texts ← strings_at has_game.1
-  lines ← lines_at profile.entity texts.1
-  held ← snapshots_at profile lines.1
-  none ← end_at held.1
-  Ok (record {
-    number = start.0.number;
-    executed = start.0.executed;
-    has_game = has_game.0;
-    id = start.0.id;
-    slot = start.0.slot;
-    feed = start.0.feed;
-    strings = record { texts = texts.0; pending = pending.0 };
-    lines = lines.0;
-    held = held.0;
-  })
 
 -- what stands in front of a state
 abbrev start_of : Saved → Start

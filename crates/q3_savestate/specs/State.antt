@@ -68,11 +68,11 @@ flag_at cursor = do
   flag ← number_at 1 0 1 cursor
   Ok (not (flag.0 == 0), flag.1)
 
--- the state that bytes are, and no others behind it; or the place of the first field that is cut short or breaks a rule, or of the first
+-- the state behind a cursor, and no bytes behind it; or the place of the first field that is cut short or breaks a rule, or of the first
 -- byte behind the state
-unfoldable pub state_at : Profile → List ℕ → Result Saved ℕ
-state_at profile bytes = do
-  start ← start_at (record { at = 0; bytes = bytes })
+abbrev pub whole_at : Profile → Cursor → Result Saved ℕ
+whole_at profile cursor = do
+  start ← start_at cursor
   pending ← pending_at start.1
   has_game ← flag_at pending.1
   texts ← strings_at has_game.1
@@ -90,3 +90,7 @@ state_at profile bytes = do
     lines = lines.0;
     held = held.0;
   })
+
+-- the state that bytes are
+unfoldable pub state_at : Profile → List ℕ → Result Saved ℕ
+state_at profile bytes = whole_at profile (record { at = 0; bytes = bytes })

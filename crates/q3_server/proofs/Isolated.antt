@@ -109,45 +109,32 @@ alike one other d from bytes agree is =
 
 -- ---- what it leaves
 
-by_leaves : (server : ServerState) (c : ℕ) (from : Address) (bytes : List ℕ) (slot : Option SlotState) → (hears.take_by server c from bytes slot).server.map ≡ server.map
-by_leaves server c from bytes None = refl
-by_leaves server c from bytes (Some slot) = refl
+record LeavesShared (server now : ServerState) : Type 0 where
+  map : now.map ≡ server.map
+  frames : now.frames ≡ server.frames
 
-from_leaves : (server : ServerState) (from : Address) (bytes : List ℕ) (place : Option ℕ) → (hears.take_from server from bytes place).server.map ≡ server.map
-from_leaves server from bytes None = refl
+by_leaves : (server : ServerState) (c : ℕ) (from : Address) (bytes : List ℕ) (slot : Option SlotState) → LeavesShared server (hears.take_by server c from bytes slot).server
+by_leaves server c from bytes None = record { map = refl; frames = refl }
+by_leaves server c from bytes (Some slot) = record { map = refl; frames = refl }
+
+from_leaves : (server : ServerState) (from : Address) (bytes : List ℕ) (place : Option ℕ) → LeavesShared server (hears.take_from server from bytes place).server
+from_leaves server from bytes None = record { map = refl; frames = refl }
 from_leaves server from bytes (Some c) = by_leaves server c from bytes (slot_at server c)
 
-headed_leaves : (server : ServerState) (from : Address) (bytes : List ℕ) (qport : Result ℕ NoQport) → (hears.take_headed server from bytes qport).server.map ≡ server.map
+headed_leaves : (server : ServerState) (from : Address) (bytes : List ℕ) (qport : Result ℕ NoQport) → LeavesShared server (hears.take_headed server from bytes qport).server
 headed_leaves server from bytes (Ok qport) = from_leaves server from bytes (hears.sender_of server from.host qport)
-headed_leaves server from bytes (Err no.Runt) = refl
-headed_leaves server from bytes (Err no.Connectionless) = refl
+headed_leaves server from bytes (Err no.Runt) = record { map = refl; frames = refl }
+headed_leaves server from bytes (Err no.Connectionless) = record { map = refl; frames = refl }
 
-leaves : (server : ServerState) (from : Address) (bytes : List ℕ) → (hears.take_at server from bytes).server.map ≡ server.map
+leaves : (server : ServerState) (from : Address) (bytes : List ℕ) → LeavesShared server (hears.take_at server from bytes).server
 unfolding hears.take_at
 leaves server from bytes = headed_leaves server from bytes (qport_of (is_checked server.profile.protocol) bytes)
-
-by_frames : (server : ServerState) (c : ℕ) (from : Address) (bytes : List ℕ) (slot : Option SlotState) → (hears.take_by server c from bytes slot).server.frames ≡ server.frames
-by_frames server c from bytes None = refl
-by_frames server c from bytes (Some slot) = refl
-
-from_frames : (server : ServerState) (from : Address) (bytes : List ℕ) (place : Option ℕ) → (hears.take_from server from bytes place).server.frames ≡ server.frames
-from_frames server from bytes None = refl
-from_frames server from bytes (Some c) = by_frames server c from bytes (slot_at server c)
-
-headed_frames : (server : ServerState) (from : Address) (bytes : List ℕ) (qport : Result ℕ NoQport) → (hears.take_headed server from bytes qport).server.frames ≡ server.frames
-headed_frames server from bytes (Ok qport) = from_frames server from bytes (hears.sender_of server from.host qport)
-headed_frames server from bytes (Err no.Runt) = refl
-headed_frames server from bytes (Err no.Connectionless) = refl
-
-keeps_frames : (server : ServerState) (from : Address) (bytes : List ℕ) → (hears.take_at server from bytes).server.frames ≡ server.frames
-unfolding hears.take_at
-keeps_frames server from bytes = headed_frames server from bytes (qport_of (is_checked server.profile.protocol) bytes)
 
 pub slots_isolated : SlotsApart → SlotsIsolated
 slots_isolated apart = record {
   found = found;
   alike = alike;
-  maps = leaves;
-  frames = keeps_frames;
+  maps = λ server from bytes. (leaves server from bytes).map;
+  frames = λ server from bytes. (leaves server from bytes).frames;
   slots = λ server d from bytes other. (apart.takes server d from bytes other).slot;
 }

@@ -5,11 +5,9 @@
 //! - Ours: that all clients must have room for all commands of a change.
 
 ghost use Rattle.std.specs.Prelude.{◌≡◌, ◌<◌, ◌≤◌, None, All, IsTrue, length, map, option_map, position};
-ghost use Rattle.std.specs.Str.{bytes_eq};
 ghost use Rattle.q3_config.specs.Laws.{piece_texts};
 ghost use Rattle.q3_config.specs.Strings as strings;
 ghost use Rattle.q3_config.specs.Strings.{is_config_byte, longest_string};
-ghost use Rattle.q3_text.specs.Texts.{translated};
 ghost use Rattle.q3_window.specs.Outgoing.{total_of};
 ghost use Rattle.q3_slot.specs.Slot.{on_new_map};
 ghost use Rattle.q3_slot.specs.Slots.{lacks_places, lacks_room, tells};
@@ -17,7 +15,7 @@ ghost use Rattle.q3_server.specs.Server.{places};
 
 use q3_config::{piece, pieces};
 use q3_slot::Slot;
-use q3_text::{Text, translate};
+use q3_text::Text;
 
 /// A new map begins for each client.
 pub fn begin_map(slots: &mut [Slot])
@@ -86,19 +84,4 @@ fn size_of(text: &Text) -> u32
     ensures short { result ≤ 1023 }
 {
     text.bytes().len() as u32
-}
-
-/// Whether a config string is a text already, as it is kept.
-pub fn is_kept(kept: &[u8], text: &[u8]) -> bool
-    ensures { result ≡ bytes_eq kept.now (map translated text.now) }
-{
-    if kept.len() != text.len() {
-        return false;
-    }
-    for (place, byte) in text.iter().enumerate() {
-        if kept[place] != translate(*byte) {
-            return false;
-        }
-    }
-    true
 }
