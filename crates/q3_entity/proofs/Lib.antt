@@ -1,3 +1,4 @@
+pub mod Below
 pub mod DeltaTexts
 pub mod Gone
 pub mod Risen
