@@ -65,7 +65,7 @@ impl<'a> Ahead<'a> {
         self.refill_last(room);
     }
 
-    /// The same, with as many bytes more gathered as there is room for, as `refill` does. It is inlined, and takes and gives
+    /// The same bits, with as many bytes more gathered as there is room for, as `refill` does. It is inlined, and takes and gives
     /// a value, so that a loop keeps it in registers.
     #[inline(always)]
     pub(crate) fn fuller(self) -> Ahead<'a>
@@ -77,7 +77,7 @@ impl<'a> Ahead<'a> {
         }
     }
 
-    /// The same of fewer than eight bytes, which `refill` gathers.
+    /// The same where fewer than eight bytes are left, which `refill` gathers.
     #[inline(always)]
     fn fuller_last(self) -> Ahead<'a>
         ensures { bits_ahead result ≡ bits_ahead self.entry }
@@ -87,7 +87,7 @@ impl<'a> Ahead<'a> {
         full
     }
 
-    /// The same of fewer than eight bytes.
+    /// Gathers what there is room for where fewer than eight bytes are left.
     #[cold]
     #[inline(never)]
     fn refill_last(&mut self, room: u32)
@@ -100,7 +100,7 @@ impl<'a> Ahead<'a> {
         *self = self.with(last_seven(self.rest), more);
     }
 
-    /// The same, with the next bytes gathered, so many: `word` is the number that the first eight spell.
+    /// The same bits, with the next bytes gathered, so many: `word` is the number that the first eight spell.
     #[inline(always)]
     fn with(self, word: u64, more: u32) -> Ahead<'a>
         requires word { word ≡ number_of (take 64 (bits_of self.rest.now)) }
