@@ -1,7 +1,7 @@
 //! Reads a list of entities against a base, or passes over one whose base isn't there. Keeps the rules "entity list"
 //! and "spellings that a reader accepts", the engine's `CL_ParsePacketEntities`. The refusals are this project's own.
 
-ghost use Rattle.std.specs.Prelude.{◌≡◌, ◌+◌, ◌^◌, ◌<◌, ◌≤◌, ◌++◌, List, Err, IfOk, IfErr, OnOk, length, take};
+ghost use Rattle.std.specs.Prelude.{◌≡◌, ◌+◌, ◌^◌, ◌<◌, ◌≤◌, ◌++◌, false, List, Err, IfOk, IfErr, OnOk, length, take};
 ghost use Rattle.q3_bits.specs.Words.{IsCode, field_at};
 ghost use Rattle.q3_bits.specs.Streams.{Reads, holding};
 ghost use Rattle.q3_fields.specs.Kinds.{end_mark};
