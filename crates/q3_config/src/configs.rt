@@ -3,8 +3,10 @@
 //! `SV_SetConfigstring` (sv_init.c), and `apply_command` is `CL_GetServerCommand` with `CL_ConfigstringModified`
 //! (cl_cgame.c).
 
-ghost use Rattle.std.specs.Prelude.{◌≡◌, ◌<◌, ◌≤◌, ◌==◌, not, if◌then◌else◌, length, find, option_map, All, Some, IsTrue, IfOk, OnOk};
+ghost use Rattle.std.specs.Prelude.{◌≡◌, ◌<◌, ◌≤◌, ◌==◌, not, if◌then◌else◌, length, map, find, option_map, All, Some, IsTrue, IfOk, OnOk};
 ghost use Rattle.q3_config.specs.Strings.{AreStrings, places, longest_string, no_strings, string_at, config_size, is_config_byte, set_fault, admit_fault, refused, after_set, server_id};
+ghost use Rattle.std.specs.Str.{bytes_eq};
+ghost use Rattle.q3_text.specs.Texts.{translated};
 ghost use Rattle.q3_config.specs.Commands as commands;
 ghost use Rattle.q3_config.specs.Changes.{unchanged, make_change, go_on, after_change, after_command};
 ghost use Rattle.q3_config.specs.Parts.{meant, finished};
@@ -58,6 +60,14 @@ impl Configs {
         ensures strings { AreStrings self.now }
     {
         self.table.string(index)
+    }
+
+    /// Whether the string at an index is this text already, as it is kept: each byte translated.
+    pub fn has(&self, index: u32, text: &[u8]) -> bool
+        ensures has { result ≡ bytes_eq (string_at self.now index) (map translated text.now) }
+        ensures strings { AreStrings self.now }
+    {
+        self.table.has(index, text)
     }
 
     /// One, and for each string that isn't empty its bytes and one more.

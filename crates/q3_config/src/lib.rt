@@ -12,5 +12,4 @@ mod writing;
 pub use configs::Configs;
 pub use error::ConfigError;
 pub use shapes::shape;
-pub use table::is_translated;
 pub use writing::{piece, pieces};

@@ -161,7 +161,7 @@ impl Table {
     }
 
     /// Whether the string at an index is this text, each byte translated.
-    fn has(&self, index: u32, text: &[u8]) -> bool
+    pub fn has(&self, index: u32, text: &[u8]) -> bool
         requires { length self.now ≡ places }
         ensures { result ≡ bytes_eq (slice_index_or self.now index []) (map translated text.now) }
     {
@@ -210,8 +210,8 @@ impl Table {
     }
 }
 
-/// Whether bytes are these others, each translated, as a string keeps them.
-pub fn is_translated(bytes: &[u8], text: &[u8]) -> bool
+/// Whether bytes are these others, each translated.
+fn is_translated(bytes: &[u8], text: &[u8]) -> bool
     ensures { result ≡ bytes_eq bytes.now (map translated text.now) }
 {
     if bytes.len() != text.len() {

@@ -147,7 +147,6 @@ fn print_baselines<O: Sink>(state: &ClState, out: &mut O) -> Result<(), Failed>
 
 /// Prints the line of a number's baseline, if it is set.
 fn print_baseline<O: Sink>(baselines: &Baselines, number: u16, out: &mut O) -> Result<(), Failed>
-    requires { number < most_lines }
     ensures adds { Adds (O.written out.old) (O.written out.new) (baseline_text (set_at baselines.now number)) result }
     ensures cause { HasCause (O.faults out.old) (O.faults out.new) result }
 {

@@ -35,8 +35,8 @@ count-none (suc n) = omega (arith, count-none n)
 
 -- ---- what stands for a number
 
-abbrev pub first : EntityState
-first = zero_entity 0
+abbrev pub no_state : EntityState
+no_state = zero_entity 0
 
 pub at : (places : List ℕ) (states : List EntityState) (number : ℕ) → number < length places → get_or (lines_in places states) number None ≡ slice_get states (get_or places number nowhere)
 at places states number within = get_or-map (slice_get states) places number nowhere None within
@@ -70,10 +70,10 @@ replaced places states number state kept low own some = elim (kept.placed number
         | inl none ↦ none_there (set states place state) (get_or places k nowhere) (omega (arith, long, few places states kept)) none ∙ sym (none_there states (get_or places k nowhere) (few places states kept) none)
         | inr its ↦
             let p = get_or places k nowhere in
-            let apart : p ≢ place = λ same. other (sym its.2 ∙ ap (λ (n : ℕ). (get_or states n first).number) same ∙ there.2) in
-            slice_get-get_or (set states place state) p first (omega (arith, its.1, long))
-            ∙ ap (λ (s : EntityState). Some s) (get_or-set_other states place p state first apart)
-            ∙ sym (slice_get-get_or states p first its.1)
+            let apart : p ≢ place = λ same. other (sym its.2 ∙ ap (λ (n : ℕ). (get_or states n no_state).number) same ∙ there.2) in
+            slice_get-get_or (set states place state) p no_state (omega (arith, its.1, long))
+            ∙ ap (λ (s : EntityState). Some s) (get_or-set_other states place p state no_state apart)
+            ∙ sym (slice_get-get_or states p no_state its.1)
       ] in
       record {
         lines = ext_get_or None (lines_in places (set states place state)) (set (lines_in places states) number (Some state))
@@ -84,8 +84,8 @@ replaced places states number state kept low own some = elim (kept.placed number
               | inl same ↦
                   at places (set states place state) k inside
                   ∙ ap (λ (n : ℕ). slice_get (set states place state) (get_or places n nowhere)) same
-                  ∙ slice_get-get_or (set states place state) place first (omega (arith, there.1, long))
-                  ∙ ap (λ (s : EntityState). Some s) (get_or-set_same states place state first there.1)
+                  ∙ slice_get-get_or (set states place state) place no_state (omega (arith, there.1, long))
+                  ∙ ap (λ (s : EntityState). Some s) (get_or-set_same states place state no_state there.1)
                   ∙ sym (ap (λ (n : ℕ). get_or (set (lines_in places states) number (Some state)) n None) same
                   ∙ get_or-set_same (lines_in places states) number (Some state) None (omega (arith, inside, same, length-map places (slice_get states))))
               | inr other ↦
@@ -104,11 +104,11 @@ replaced places states number state kept low own some = elim (kept.placed number
                   omega (arith, its.1, long),
                   elim (cases_eq p place) [
                     | inl same ↦
-                        let k_is : k ≡ number = sym its.2 ∙ ap (λ (n : ℕ). (get_or states n first).number) same ∙ there.2 in
-                        ap (λ (n : ℕ). (get_or (set states place state) n first).number) same
-                        ∙ ap (λ (s : EntityState). s.number) (get_or-set_same states place state first there.1)
+                        let k_is : k ≡ number = sym its.2 ∙ ap (λ (n : ℕ). (get_or states n no_state).number) same ∙ there.2 in
+                        ap (λ (n : ℕ). (get_or (set states place state) n no_state).number) same
+                        ∙ ap (λ (s : EntityState). s.number) (get_or-set_same states place state no_state there.1)
                         ∙ own ∙ sym k_is
-                    | inr apart ↦ ap (λ (s : EntityState). s.number) (get_or-set_other states place p state first apart) ∙ its.2
+                    | inr apart ↦ ap (λ (s : EntityState). s.number) (get_or-set_other states place p state no_state apart) ∙ its.2
                   ],
                 )
           ];
@@ -135,7 +135,7 @@ added places states number state kept low own none =
     omega (arith, kept.count, count-more places number 0 inside was refl, count-few (set places number 0), length-set places number 0, kept.all) in
     let is : (count == nowhere) ≡ false = ne_eqb count nowhere (λ same. omega (arith, room, same)) in
     let more : length (states ++ state ∷ []) ≡ count + 1 = length_push states state in
-    let stays : (p : ℕ) → p < count → get_or (states ++ state ∷ []) p first ≡ get_or states p first = λ p within. get_or_append_left states (state ∷ []) first p within in
+    let stays : (p : ℕ) → p < count → get_or (states ++ state ∷ []) p no_state ≡ get_or states p no_state = λ p within. get_or_append_left states (state ∷ []) no_state p within in
     record {
       lines = ext_get_or None (lines_in (set places number count) (states ++ state ∷ [])) (set (lines_in places states) number (Some state))
           (length-map (set places number count) (slice_get (states ++ state ∷ [])) ∙ length-set places number count ∙ sym (length-map places (slice_get states)) ∙ sym (length-set (lines_in places states) number (Some state)))
@@ -147,8 +147,8 @@ added places states number state kept low own none =
                 at (set places number count) (states ++ state ∷ []) k here
                 ∙ ap (λ (n : ℕ). slice_get (states ++ state ∷ []) (get_or (set places number count) n nowhere)) same
                 ∙ ap (slice_get (states ++ state ∷ [])) (get_or-set_same places number count nowhere inside)
-                ∙ slice_get-get_or (states ++ state ∷ []) count first (omega (arith, more))
-                ∙ ap (λ (s : EntityState). Some s) (get_or_push states state first count refl)
+                ∙ slice_get-get_or (states ++ state ∷ []) count no_state (omega (arith, more))
+                ∙ ap (λ (s : EntityState). Some s) (get_or_push states state no_state count refl)
                 ∙ sym (ap (λ (n : ℕ). get_or (set (lines_in places states) number (Some state)) n None) same
                 ∙ get_or-set_same (lines_in places states) number (Some state) None (omega (arith, inside, length-map places (slice_get states))))
             | inr other ↦
@@ -156,9 +156,9 @@ added places states number state kept low own none =
                 let shown : slice_get (states ++ state ∷ []) p ≡ slice_get states p = elim (kept.placed k (omega (arith, there, kept.all))) [
                   | inl gone ↦ none_there (states ++ state ∷ []) p (omega (arith, more, room)) gone ∙ sym (none_there states p (omega (arith, room)) gone)
                   | inr its ↦
-                      slice_get-get_or (states ++ state ∷ []) p first (omega (arith, its.1, more))
+                      slice_get-get_or (states ++ state ∷ []) p no_state (omega (arith, its.1, more))
                       ∙ ap (λ (s : EntityState). Some s) (stays p its.1)
-                      ∙ sym (slice_get-get_or states p first its.1)
+                      ∙ sym (slice_get-get_or states p no_state its.1)
                 ] in
                 at (set places number count) (states ++ state ∷ []) k here
                 ∙ ap (slice_get (states ++ state ∷ [])) (get_or-set_other places number k count nowhere other)
@@ -171,7 +171,7 @@ added places states number state kept low own none =
           | inl same ↦
               let here : get_or (set places number count) k nowhere ≡ count = ap (λ (n : ℕ). get_or (set places number count) n nowhere) same ∙ get_or-set_same places number count nowhere inside in
               subst (IsPlaced (states ++ state ∷ []) 0 k) (sym here)
-              (inr (omega arith, omega (arith, more), ap (λ (s : EntityState). s.number) (get_or_push states state first count refl) ∙ own ∙ sym same))
+              (inr (omega arith, omega (arith, more), ap (λ (s : EntityState). s.number) (get_or_push states state no_state count refl) ∙ own ∙ sym same))
           | inr other ↦
               let p = get_or places k nowhere in
               let stood : IsPlaced (states ++ state ∷ []) 0 k p = elim (kept.placed k small) [
@@ -190,10 +190,10 @@ added places states number state kept low own none =
 
 -- the place of the next state's number
 pub forgets : (places : List ℕ) (states : List EntityState) (k : ℕ) → length places ≡ most_lines → All (λ (s : EntityState). s.number < most_lines) states → k < length states
-    → ArePlaced places states k → ArePlaced (set places (get_or states k first).number nowhere) states (k + 1)
+    → ArePlaced places states k → ArePlaced (set places (get_or states k no_state).number nowhere) states (k + 1)
 forgets places states k all below more placed number low =
-    let i = (get_or states k first).number in
-    let inside : i < length places = omega (arith, All-get_or (λ (s : EntityState). s.number < most_lines) states k first more below, all) in
+    let i = (get_or states k no_state).number in
+    let inside : i < length places = omega (arith, All-get_or (λ (s : EntityState). s.number < most_lines) states k no_state more below, all) in
     elim (cases_eq number i) [
       | inl same ↦ inl (ap (λ (n : ℕ). get_or (set places i nowhere) n nowhere) same ∙ get_or-set_same places i nowhere nowhere inside)
       | inr other ↦
@@ -201,7 +201,7 @@ forgets places states k all below more placed number low =
           let stood : IsPlaced states (k + 1) number p = elim (placed number low) [
             | inl gone ↦ inl gone
             | inr its ↦
-                let apart : p ≢ k = λ same. other (sym its.2 ∙ ap (λ (n : ℕ). (get_or states n first).number) same) in
+                let apart : p ≢ k = λ same. other (sym its.2 ∙ ap (λ (n : ℕ). (get_or states n no_state).number) same) in
                 inr (omega (arith, its.0, apart), its.1, its.2)
           ] in
           subst (IsPlaced states (k + 1) number) (sym (get_or-set_other places i number nowhere nowhere other)) stood

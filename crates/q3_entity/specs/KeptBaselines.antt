@@ -16,7 +16,7 @@ unplaced count = replicate count nowhere
 abbrev pub lines_in : List ℕ → List EntityState → Lines
 lines_in places states = map (slice_get states) places
 
--- a number has no place, or that of its own state, which is one of those behind the first ones, so many
+-- a number has no place, or that of its own state, which isn't below `first`
 abbrev pub IsPlaced : List EntityState → ℕ → ℕ → ℕ → Type 0
 IsPlaced states first number place = (place ≡ nowhere) ⊎ ((first ≤ place) × (place < length states) × ((slice_index_or states place (zero_entity 0)).number ≡ number))
 

@@ -22,7 +22,7 @@ const NOWHERE: u16 = u16::MAX;
 /// for each number, and room for as many states, which is written as far as states are set.
 #[derive(Drop)]
 pub struct Baselines {
-    /// At which place the state of each number stands.
+    /// At which place the state of each number stands, or `NOWHERE`.
     places: Vec<u16>,
     /// The states that are set, in the order in which their numbers came.
     states: Vec<EntityState>,

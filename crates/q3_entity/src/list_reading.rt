@@ -2,12 +2,11 @@
 //! and "spellings that a reader accepts", the engine's `CL_ParsePacketEntities`. The refusals are this project's own.
 
 ghost use Rattle.std.specs.Prelude.{◌≡◌, ◌+◌, ◌^◌, ◌<◌, ◌≤◌, ◌++◌, false, List, Err, IfOk, IfErr, OnOk, length, take};
+ghost use Rattle.std.specs.Option.{is_some, option_copied};
 ghost use Rattle.q3_bits.specs.Words.{IsCode, field_at};
 ghost use Rattle.q3_bits.specs.Streams.{Reads, holding};
 ghost use Rattle.q3_fields.specs.Kinds.{end_mark};
 ghost use Rattle.q3_entity.specs.Entities.{IsList, Rises, run_of, most_entities};
-ghost use Rattle.q3_entity.specs.Baselines.{most_lines};
-ghost use Rattle.std.specs.Option.{is_some, option_copied};
 ghost use Rattle.q3_entity.specs.Lists.{number_at, words_from, entity_list_at, list_skipped};
 ghost use Rattle.q3_entity.specs.declared.state.EntityState.{EntityState};
 ghost use Rattle.q3_entity.specs.Walking.{kept_below, KeepsFront, next_at, entry_at, turn_at, skipped_at, with_kept, reached, first_of};
@@ -70,7 +69,7 @@ fn read_turn<'a>(
     cursor: Cursor<'a>,
     into: &mut List,
 ) -> Result<Cursor<'a>, EntityError>
-    requires line { cursor.next < most_lines }
+    requires number { cursor.next + 1 < 2 ^ 16 }
     requires within { cursor.count ≤ length into.old.items }
     ensures reads { Reads r.old r.new (turn_at r.old.words table.now baselines.now (record { next = cursor.entry.next; base = run_of cursor.entry.base; entities = take cursor.entry.count into.old.items }) r.old.left) (reached into.new.items result) }
     ensures within { IfOk result (λ now. now.count ≤ length into.new.items) }

@@ -1,10 +1,9 @@
 //! Writes a list of entities against a base. Keeps the rule "entity list", the engine's `SV_EmitPacketEntities`.
 
-ghost use Rattle.std.specs.Prelude.{◌≡◌, ◌<◌, Some, IfOk};
+ghost use Rattle.std.specs.Prelude.{◌≡◌, Some, IfOk};
 ghost use Rattle.std.specs.Option.{option_copied};
 ghost use Rattle.q3_bits.specs.Streams.{Writes};
 ghost use Rattle.q3_entity.specs.Entities.{IsList, run_of};
-ghost use Rattle.q3_entity.specs.Baselines.{most_lines};
 ghost use Rattle.q3_entity.specs.Lists.{piece, entity_list_bits};
 ghost use Rattle.q3_entity.specs.Runs.{from_number};
 ghost use Rattle.q3_entity.specs.Merging.{removals, end_bits, entry_bits, left_behind, done};
@@ -14,7 +13,7 @@ use crate::run::{skip_same, split_first, take_number};
 use crate::state::{EntityState, Run};
 use crate::writing::{write_entity, write_removal};
 use q3_bits::{Overflow, Writer, laws};
-use q3_fields::{MOST_END, Table, laws as fields};
+use q3_fields::{Table, laws as fields};
 
 /// Writes the entities that there are now against those of a base, by rising number: an entity that both have by what
 /// changed, a new one by force from its baseline, and a removal for one that is gone; and the end mark behind them.
@@ -46,9 +45,8 @@ pub fn write_run(
     ensures { Writes w.old w.new (entity_list_bits w.old.words table.now baselines.now (run_of base.entry) (run_of now.entry)) result }
 {
     laws::texts_are_written();
-    // what stands there fits the room, and each number may have a baseline
+    // what stands there fits the room
     prove!(w.length() > 0);
-    prove!(table.end() <= MOST_END);
     // an entity that both have as it was is passed over
     fields::last_changed_is_least();
     let (mut left, mut rest) = skip_same(base, now);
@@ -77,7 +75,6 @@ fn write_entry<'a>(
     base: Run<'a>,
     entity: &EntityState,
 ) -> Result<Run<'a>, Overflow>
-    requires { entity.now.number < most_lines }
     ensures writes { Writes w.old w.new (entry_bits w.old.words table.now baselines.now (run_of base.entry) entity.now) (done result) }
     ensures left { IfOk result (λ left. run_of left ≡ left_behind entity.now (run_of base.entry)) }
 {
@@ -97,7 +94,6 @@ fn write_behind<'a>(
     base: Run<'a>,
     entity: &EntityState,
 ) -> Result<Run<'a>, Overflow>
-    requires { entity.now.number < most_lines }
     ensures writes { Writes w.old w.new (entry_bits w.old.words table.now baselines.now (run_of base.entry) entity.now) (done result) }
     ensures left { IfOk result (λ left. run_of left ≡ left_behind entity.now (run_of base.entry)) }
 {
@@ -140,7 +136,6 @@ fn write_present(
     from: Option<&EntityState>,
     entity: &EntityState,
 ) -> Result<(), Overflow>
-    requires { entity.now.number < most_lines }
     ensures { Writes w.old w.new (piece w.old.words table.now baselines.now entity.now.number (option_copied from.entry) (Some entity.now)) result }
 {
     match from {

@@ -86,7 +86,6 @@ fn write_baseline(
     baselines: &Baselines,
     number: u16,
 ) -> Result<(), Overflow>
-    requires { number < most_lines }
     ensures { Writes w.old w.new (baseline_bits w.old.words table.now (set_at baselines.now number)) result }
 {
     laws::texts_are_written();

@@ -21,7 +21,7 @@ use crate::slots::{begin_map, first_without_room, tell_all};
 use q3_bits::NoMemory;
 use q3_chan::{Datagram, LONGEST_MESSAGE, NoQport, is_checked, qport_of};
 use q3_clmsg::ClientMessage;
-use q3_config::{ConfigError, Configs, is_translated};
+use q3_config::{ConfigError, Configs};
 use q3_entity::EntityState;
 use q3_fields::laws::are_words;
 use q3_frames::Frames;
@@ -213,7 +213,7 @@ impl Server {
         if let Err(error) = self.map.configs().admit(index, text) {
             return Err(refused_for(error));
         }
-        if is_translated(self.map.configs().get(index), text) {
+        if self.map.configs().has(index, text) {
             return Ok(());
         }
         if let Some(slot) = first_without_room(&self.slots, index, text) {
