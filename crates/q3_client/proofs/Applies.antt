@@ -9,7 +9,7 @@ use Rattle.q3_chan.specs.declared.gatherer.Gathered.TheVariants as gathered
 use Rattle.q3_chan.specs.Datagrams.{fragment_size, longest_message, is_fragment, number_in, length_of, has_bad_check, start_in, count_in, behind_header}
 use Rattle.q3_chan.specs.Gathering.{Gathering, Took, answers as gathers, arrives, emptied, gathering_of, take_whole, add_piece, take_piece, take_fragment, take_newer, is_connectionless, gathered as gathered_of}
 use Rattle.q3_svmsg.specs.declared.error.Illegible.{Illegible}
-use Rattle.q3_svmsg.specs.Reading.{message_at}
+use Rattle.q3_svmsg.specs.Reading.{server_message_in}
 use Rattle.q3_svmsg.specs.Values as told
 use Rattle.q3_svmsg.specs.Values.{Told, Message}
 use Rattle.q3_clstate.specs.declared.applied.Applied.{Applied}
@@ -94,7 +94,7 @@ are_same one other e = cc
 
 numbered : (state : AppliedState) (number : ℕ) (bytes : List ℕ) (application : Application) → apply_at state number bytes ≡ Ok application → application.answer.number ≡ number
 numbered state number bytes application e =
-    let read = bind_ok (message_at state.profile (context_of state.held state.lines) number (bits_of bytes)) (λ (read : Message). applied_as (apply_read state number read)) application e in
+    let read = bind_ok (server_message_in state.profile (context_of state.held state.lines) number (bits_of bytes)) (λ (read : Message). applied_as (apply_read state number read)) application e in
     let does = are_same (apply_read state number read.0) application read.2 in
     subst (λ (a : Application). a.answer.number ≡ number) does (section_numbered (hearing state read.0.commands) number read.0.section)
 

@@ -11,8 +11,8 @@ use Rattle.q3_strings.specs.Laws.{NopsAreNops, RowSpelledIsRead, EndingSpelledIs
 use Rattle.q3_clmsg.specs.declared.moves.Move.{Move}
 use Rattle.q3_clmsg.specs.Moves.{no_move}
 use Rattle.q3_clmsg.specs.Values.{Message}
-use Rattle.q3_clmsg.specs.Texts.{move_operation, section_bits, client_message_bits}
-use Rattle.q3_clmsg.specs.Reading.{heads_after, section_at, moved_at, rest_at, operations_at, client_message_at}
+use Rattle.q3_clmsg.specs.Texts.{move_operation, move_section_bits, client_message_bits}
+use Rattle.q3_clmsg.specs.Reading.{heads_at, section_at, moved_at, rest_at, operations_at, client_message_at}
 use Rattle.q3_clmsg.specs.Spelling.{SpellsMoves, SpellsSection}
 use Rattle.q3_clmsg.specs.Laws.{SpelledIsRead, HeadsAreRead}
 use Rattle.q3_clmsg.proofs.MovesSpelled.{moves_are_read}
@@ -102,9 +102,9 @@ module _ (put : PutIsRead) (row_law : RowSpelledIsRead) (ending_law : EndingSpel
 
 -- the three longs
 heads_are_read : PutIsRead → (words : List (List Bool)) → IsCode words → (id acknowledged command : ℕ) (rest : List Bool) → id < 2 ^ 32 → acknowledged < 2 ^ 32 → command < 2 ^ 32
-    → (bits : ℕ) × (heads_after words (row_bits words ((id, 32) ∷ (acknowledged, 32) ∷ (command, 32) ∷ []) ++ rest)
+    → (bits : ℕ) × (heads_at words (row_bits words ((id, 32) ∷ (acknowledged, 32) ∷ (command, 32) ∷ []) ++ rest)
     ≡ Ok (record { id = id; acknowledged = acknowledged; command = command; bits = bits }, rest))
-unfolding heads_after
+unfolding heads_at
 heads_are_read put words code id acknowledged command rest fits fits' fits'' = (
   length (row_bits words ((id, 32) ∷ (acknowledged, 32) ∷ (command, 32) ∷ []) ++ rest) - length rest,
   rw (
@@ -119,7 +119,7 @@ pub written_heads_are_read : PutIsRead → HeadsAreRead
 unfolding client_message_bits
 written_heads_are_read put words key message rest code is =
     let longs = row_bits words ((message.id, 32) ∷ (message.acknowledged, 32) ∷ (message.command, 32) ∷ []) in
-    let behind = commands_bits words 4 message.commands ++ section_bits words key message.delta message.moves ++ row_bits words ((5, 8) ∷ []) in
+    let behind = commands_bits words 4 message.commands ++ move_section_bits words key message.delta message.moves ++ row_bits words ((5, 8) ∷ []) in
     let same : client_message_bits words key message ++ rest ≡ longs ++ (behind ++ rest) = simp append_assoc in
     let heads = heads_are_read put words code message.id message.acknowledged message.command (behind ++ rest) is.id is.acknowledged is.command in
     (heads.0, rw (same, heads.1) refl)

@@ -18,8 +18,8 @@ use Rattle.q3_clmsg.specs.declared.heads.Heads.{Heads}
 use Rattle.q3_clmsg.specs.declared.error.ClientIllegible.TheVariants.{Bits, MoveCount}
 use Rattle.q3_clmsg.specs.Moves.{IsMove, no_move, moves_bits, moves_at}
 use Rattle.q3_clmsg.specs.Values.{Message, empty_message}
-use Rattle.q3_clmsg.specs.Texts.{move_operation, section_bits, client_message_bits}
-use Rattle.q3_clmsg.specs.Reading.{operation_error, field_read, heads_after, section_at, moved_at, rest_at, operations_at, client_message_at}
+use Rattle.q3_clmsg.specs.Texts.{move_operation, move_section_bits, client_message_bits}
+use Rattle.q3_clmsg.specs.Reading.{operation_error, field_read, heads_at, section_at, moved_at, rest_at, operations_at, client_message_at}
 use Rattle.q3_clmsg.specs.Spelling.{SpellsMoves, SpellsSection, SpellsMessage}
 use Rattle.q3_clmsg.specs.Laws.{IsMessage, WrittenIsSpelled, ReadIsSpelled}
 use Rattle.q3_clmsg.proofs.Steps.{none_is}
@@ -43,7 +43,7 @@ some_spelled words key delta (one ∷ moves) text some few s = (text, few, s, re
 -- ---- what is written
 
 section_is_spelled : (words : List (List Bool)) (key : ℕ) (delta : Bool) (moves : List Move) → length moves ≤ 32 → All IsMove moves → (moves ≡ [] → delta ≡ false)
-    → SpellsSection words key delta moves (section_bits words key delta moves)
+    → SpellsSection words key delta moves (move_section_bits words key delta moves)
 section_is_spelled words key delta [] few each whole = (whole refl, refl)
 section_is_spelled words key delta (one ∷ moves) few each whole =
     (moves_bits words key no_move (one ∷ moves), few, moves_are_spelled words key no_move (one ∷ moves) none_is each, refl)
@@ -52,7 +52,7 @@ pub message_is_spelled : CommandsAreSpelled → WrittenIsSpelled
 unfolding client_message_bits
 message_is_spelled commands_are words key message code fits is =
     let commands = commands_bits words 4 message.commands in
-    let section = section_bits words key message.delta message.moves in
+    let section = move_section_bits words key message.delta message.moves in
     record {
       id = is.id;
       acknowledged = is.acknowledged;
@@ -264,8 +264,8 @@ record ReadHeads (words : List (List Bool)) (bits : List Bool) (found : Heads ×
   command : found.0.command < 2 ^ 32
   parts : bits ≡ row_bits words ((found.0.id, 32) ∷ (found.0.acknowledged, 32) ∷ (found.0.command, 32) ∷ []) ++ found.1
 
-heads_were_spelled : ReadWasPut → (words : List (List Bool)) → IsCode words → (bits : List Bool) (found : Heads × List Bool) → heads_after words bits ≡ Ok found → ReadHeads words bits found
-unfolding heads_after
+heads_were_spelled : ReadWasPut → (words : List (List Bool)) → IsCode words → (bits : List Bool) (found : Heads × List Bool) → heads_at words bits ≡ Ok found → ReadHeads words bits found
+unfolding heads_at
 heads_were_spelled put words code bits found e =
     let made_of = λ (id acknowledged : ℕ) (command : ℕ × List Bool).
     let heads : Heads = record { id = id; acknowledged = acknowledged; command = command.0; bits = length bits - length command.1 } in heads in
@@ -345,7 +345,7 @@ message_behind words key message bits rest heads were read =
 pub message_was_spelled : ReadWasPut → RowReadIsSpelled → EndingReadIsSpelled → ReadIsSpelled
 unfolding client_message_at
 message_was_spelled put row_law ending_law words key message bits rest code fits e =
-    let heads = bind_ok (fault_as Bits (heads_after words bits)) (λ heads. operations_at words key (start_of heads.0) heads.1) (message, rest) e in
-    let were = heads_were_spelled put words code bits heads.0 (map_err_ok Bits (heads_after words bits) heads.0 heads.1) in
+    let heads = bind_ok (fault_as Bits (heads_at words bits)) (λ heads. operations_at words key (start_of heads.0) heads.1) (message, rest) e in
+    let were = heads_were_spelled put words code bits heads.0 (map_err_ok Bits (heads_at words bits) heads.0 heads.1) in
     let read = operations_were_spelled put row_law ending_law words code key (start_of heads.0.0) heads.0.1 (message, rest) (record { delta = refl; moves = refl }) (omega arith) heads.2 in
     message_behind words key message bits rest heads.0 were read

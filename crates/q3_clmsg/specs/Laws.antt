@@ -5,7 +5,7 @@ use Rattle.q3_strings.specs.Laws.{IsCommand}
 use Rattle.q3_clmsg.specs.Moves.{IsMove}
 use Rattle.q3_clmsg.specs.Values.{Message}
 use Rattle.q3_clmsg.specs.Texts.{client_message_bits}
-use Rattle.q3_clmsg.specs.Reading.{heads_at, client_message_at}
+use Rattle.q3_clmsg.specs.Reading.{heads_in, client_message_at}
 use Rattle.q3_clmsg.specs.Spelling.{SpellsMessage}
 
 -- a message as an end may send it
@@ -43,5 +43,5 @@ WrittenIsRead = (words : List (List Bool)) (key : ℕ) (message : Message) (rest
 -- the leading longs of what is written of a message are read back, with whatever follows it
 abbrev pub HeadsAreRead : Type 0
 HeadsAreRead = (words : List (List Bool)) (key : ℕ) (message : Message) (rest : List Bool) → IsCode words → IsMessage message
-    → (bits : ℕ) × (heads_at words (client_message_bits words key message ++ rest)
+    → (bits : ℕ) × (heads_in words (client_message_bits words key message ++ rest)
     ≡ Ok (record { id = message.id; acknowledged = message.acknowledged; command = message.command; bits = bits }))

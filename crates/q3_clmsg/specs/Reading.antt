@@ -25,16 +25,16 @@ abbrev pub field_read : List (List Bool) → ℕ → List Bool → Result (ℕ �
 field_read words width bits = fault_as Bits (field_at words width bits)
 
 -- the three leading longs, and how many bits they take
-unfoldable pub heads_after : List (List Bool) → List Bool → Result (Heads × List Bool) ReadError
-heads_after words bits = do
+unfoldable pub heads_at : List (List Bool) → List Bool → Result (Heads × List Bool) ReadError
+heads_at words bits = do
   id ← field_at words 32 bits
   acknowledged ← field_at words 32 id.1
   command ← field_at words 32 acknowledged.1
   Ok (record { id = id.0; acknowledged = acknowledged.0; command = command.0; bits = length bits - length command.1 }, command.1)
 
 -- these alone
-abbrev pub heads_at : List (List Bool) → List Bool → Result Heads ReadError
-heads_at words bits = heads_after words bits >>= λ read. Ok read.0
+abbrev pub heads_in : List (List Bool) → List Bool → Result Heads ReadError
+heads_in words bits = heads_at words bits >>= λ read. Ok read.0
 
 -- the moves behind their operation: 1 to 32
 unfoldable pub section_at : List (List Bool) → ℕ → List Bool → Result (List Move × List Bool) ClientIllegible
@@ -66,10 +66,10 @@ operations_at words key message bits = do
 -- a client's message by its key: its value, and what is behind its end
 unfoldable pub client_message_at : List (List Bool) → ℕ → List Bool → Result (Message × List Bool) ClientIllegible
 client_message_at words key bits = do
-  heads ← fault_as Bits (heads_after words bits)
+  heads ← fault_as Bits (heads_at words bits)
   operations_at words key
       (record empty_message { id = heads.0.id; acknowledged = heads.0.acknowledged; command = heads.0.command }) heads.1
 
 -- its value alone
-abbrev pub client_at : List (List Bool) → ℕ → List Bool → Result Message ClientIllegible
-client_at words key bits = client_message_at words key bits >>= λ read. Ok read.0
+abbrev pub client_message_in : List (List Bool) → ℕ → List Bool → Result Message ClientIllegible
+client_message_in words key bits = client_message_at words key bits >>= λ read. Ok read.0

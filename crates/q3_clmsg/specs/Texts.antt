@@ -12,9 +12,9 @@ move_operation true = 2
 move_operation false = 3
 
 -- the moves: the operation, how many, and each behind the one before, the first behind none; without moves there is nothing
-abbrev pub section_bits : List (List Bool) → ℕ → Bool → List Move → List Bool
-section_bits words key delta [] = []
-section_bits words key delta moves =
+abbrev pub move_section_bits : List (List Bool) → ℕ → Bool → List Move → List Bool
+move_section_bits words key delta [] = []
+move_section_bits words key delta moves =
     row_bits words ((move_operation delta, 8) ∷ (length moves, 8) ∷ []) ++ moves_bits words key no_move moves
 
 -- a message by its key: three longs, the commands with the operation 4, the moves, and the end
@@ -22,5 +22,5 @@ unfoldable pub client_message_bits : List (List Bool) → ℕ → Message → Li
 client_message_bits words key message =
     row_bits words ((message.id, 32) ∷ (message.acknowledged, 32) ∷ (message.command, 32) ∷ [])
     ++ commands_bits words 4 message.commands
-    ++ section_bits words key message.delta message.moves
+    ++ move_section_bits words key message.delta message.moves
     ++ row_bits words ((5, 8) ∷ [])

@@ -4,7 +4,7 @@
 ghost use Rattle.std.specs.Prelude.{◌≡◌};
 ghost use Rattle.q3_bits.specs.Bits.{bits_of};
 ghost use Rattle.q3_bits.specs.Streams.{Reads};
-ghost use Rattle.q3_clmsg.specs.Reading.{heads_after, heads_at};
+ghost use Rattle.q3_clmsg.specs.Reading.{heads_at, heads_in};
 
 use q3_bits::{Code, ReadError, Reader};
 
@@ -23,16 +23,16 @@ pub struct Heads {
 
 /// Reads the three leading longs. `End` and `NoWord` come as in `Reader::get`.
 pub fn read_heads(code: &Code, bytes: &[u8]) -> Result<Heads, ReadError>
-    ensures { result ≡ heads_at code.now (bits_of bytes.now) }
+    ensures { result ≡ heads_in code.now (bits_of bytes.now) }
 {
     heads_from(&mut Reader::new(code, bytes))
 }
 
 /// Reads the three longs from the first bit on.
-#[tactic(auto, unfolding(crate::specs::Reading::heads_after))]
+#[tactic(auto, unfolding(crate::specs::Reading::heads_at))]
 pub(crate) fn heads_from(r: &mut Reader) -> Result<Heads, ReadError>
     requires { r.old.place ≡ 0 }
-    ensures { Reads r.old r.new (heads_after r.old.words r.old.left) result }
+    ensures { Reads r.old r.new (heads_at r.old.words r.old.left) result }
 {
     let id = r.get(32)?;
     let acknowledged = r.get(32)?;

@@ -7,7 +7,7 @@ ghost use Rattle.q3_bits.specs.Bits.{bits_of};
 ghost use Rattle.q3_bits.specs.Words.{IsCode};
 ghost use Rattle.q3_bits.specs.Streams.{Reads, holding};
 ghost use Rattle.q3_clmsg.specs.Values.{said_of};
-ghost use Rattle.q3_clmsg.specs.Reading.{section_at, moved_at, operations_at, client_at};
+ghost use Rattle.q3_clmsg.specs.Reading.{section_at, moved_at, operations_at, client_message_in};
 
 use crate::error::ClientIllegible;
 use crate::heads::heads_from;
@@ -84,7 +84,7 @@ pub fn read_client_message(
     key: u32,
     into: &mut ClientMessage,
 ) -> Result<(), ClientIllegible>
-    ensures { holding (said_of into.new) result ≡ client_at code.now key (bits_of bytes.now) }
+    ensures { holding (said_of into.new) result ≡ client_message_in code.now key (bits_of bytes.now) }
 {
     let mut r = Reader::new(code, bytes);
     let heads = heads_from(&mut r)?;

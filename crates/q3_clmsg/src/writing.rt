@@ -4,7 +4,7 @@
 ghost use Rattle.std.specs.Prelude.{◌≡◌, ◌≤◌, length};
 ghost use Rattle.q3_bits.specs.Streams.{Writes, Fills};
 ghost use Rattle.q3_clmsg.specs.Values.{said_of, parts_said};
-ghost use Rattle.q3_clmsg.specs.Texts.{move_operation, section_bits, client_message_bits};
+ghost use Rattle.q3_clmsg.specs.Texts.{move_operation, move_section_bits, client_message_bits};
 
 use crate::message::{ClientMessage, SaidParts};
 use crate::moves::{Move, write_moves};
@@ -85,7 +85,7 @@ fn write_message(w: &mut Writer, parts: SaidParts, key: u32) -> Result<(), Overf
 /// Writes the moves, and before them their operation and how many they are; nothing where there are none.
 fn write_section(w: &mut Writer, key: u32, delta: bool, moves: &[Move]) -> Result<(), Overflow>
     requires few { length moves.now ≤ 32 }
-    ensures { Writes w.old w.new (section_bits w.old.words key delta moves.now) result }
+    ensures { Writes w.old w.new (move_section_bits w.old.words key delta moves.now) result }
 {
     laws::texts_are_written();
     // what stands there fits the room

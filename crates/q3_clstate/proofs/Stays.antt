@@ -16,7 +16,7 @@ use Rattle.q3_gamestate.specs.Laws.{IsGamestate}
 use Rattle.q3_svmsg.specs.declared.error.Illegible.{Illegible}
 use Rattle.q3_svmsg.specs.Values.{Context, Told, Nothing, Game, Snap, Skipped, HasNumber, Message}
 use Rattle.q3_svmsg.specs.Laws.{IsReadTold, IsRead}
-use Rattle.q3_svmsg.specs.Reading.{server_message_at, message_at}
+use Rattle.q3_svmsg.specs.Reading.{server_message_at, server_message_in}
 use Rattle.q3_entity_ring.specs.Snapshot.{Snapshot}
 use Rattle.q3_clstate.specs.declared.applied.SnapOutcome.{SnapOutcome}
 use Rattle.q3_clstate.specs.declared.applied.SnapOutcome.TheVariants.{NoSnap, Skipped as SkippedFor, Stale}
@@ -148,7 +148,7 @@ read_stays below state context number message fits read is =
 -- behind any bytes
 pub bytes_stay : Below → (state : AppliedState) (number : ℕ) (message : List ℕ) → number < 2 ^ 32 → IsApplied state
     → IsApplied (state_behind state (apply_at state number message))
-bytes_stay below state number message fits is = of_read (message_at state.profile context number (bits_of message)) refl
+bytes_stay below state number message fits is = of_read (server_message_in state.profile context number (bits_of message)) refl
   where
     context : Context
     context = context_of state.held state.lines
@@ -159,7 +159,7 @@ bytes_stay below state number message fits is = of_read (message_at state.profil
     same : (x y : Message) → one (Ok x) y → x ≡ y
     same x y e = cc
 
-    of_read : (r : Result Message Illegible) → message_at state.profile context number (bits_of message) ≡ r
+    of_read : (r : Result Message Illegible) → server_message_in state.profile context number (bits_of message) ≡ r
         → IsApplied (state_behind state (r >>= λ read. Ok (apply_read state number read)))
     of_read (Err e) answer = is
     of_read (Ok read) answer =

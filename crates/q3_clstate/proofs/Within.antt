@@ -11,7 +11,7 @@ use Rattle.q3_gamestate.specs.Values.{Gamestate}
 use Rattle.q3_svmsg.specs.declared.error.Illegible.{Illegible}
 use Rattle.q3_svmsg.specs.Values.{Context, Told, Nothing, Game, Snap, Skipped, HasNumber, Message}
 use Rattle.q3_svmsg.specs.Laws.{IsReadTold, IsRead, ReadIsSpelled}
-use Rattle.q3_svmsg.specs.Reading.{server_message_at, message_at}
+use Rattle.q3_svmsg.specs.Reading.{server_message_at, server_message_in}
 use Rattle.q3_entity_ring.specs.Snapshot.{Snapshot, without_entities}
 use Rattle.q3_entity_ring.specs.Places.{most_places, place_of, no_places}
 use Rattle.q3_rings.specs.Rings.{HeldSnapshot, HeldSnapshots, held_snapshot, held_remains, is_young, older, accept_at}
@@ -95,7 +95,7 @@ new_within profile = record { number = omega arith; newest = omega arith; ages =
 -- any bytes
 pub bytes_within : ReadIsSpelled → (state : AppliedState) (most number : ℕ) (message : List ℕ) → number < 2 ^ 31 → IsApplied state → IsWithin most state
     → IsWithin (most + most_entities) (state_behind state (apply_at state number message))
-bytes_within law state most number message fits is within = of_read (message_at state.profile context number (bits_of message)) refl
+bytes_within law state most number message fits is within = of_read (server_message_in state.profile context number (bits_of message)) refl
   where
     context : Context
     context = context_of state.held state.lines
@@ -106,7 +106,7 @@ bytes_within law state most number message fits is within = of_read (message_at 
     same : (x y : Message) → one (Ok x) y → x ≡ y
     same x y e = cc
 
-    of_read : (r : Result Message Illegible) → message_at state.profile context number (bits_of message) ≡ r
+    of_read : (r : Result Message Illegible) → server_message_in state.profile context number (bits_of message) ≡ r
         → IsWithin (most + most_entities) (state_behind state (r >>= λ read. Ok (apply_read state number read)))
     of_read (Err e) answer = record { number = within.number; newest = within.newest; ages = longer most most_entities state.held.places within.ages }
     of_read (Ok read) answer =

@@ -13,7 +13,7 @@ use Rattle.q3_gamestate.specs.Values.{Gamestate}
 use Rattle.q3_svmsg.specs.declared.error.Illegible.{Illegible}
 use Rattle.q3_svmsg.specs.Values as told
 use Rattle.q3_svmsg.specs.Values.{base_from, Context, Told, Message}
-use Rattle.q3_svmsg.specs.Reading.{message_at}
+use Rattle.q3_svmsg.specs.Reading.{server_message_in}
 use Rattle.q3_entity_ring.specs.Snapshot.{Snapshot}
 use Rattle.q3_rings.specs.declared.rings.NoBase.{NoBase}
 use Rattle.q3_rings.specs.declared.rings.NoBase.TheVariants.{NeverHeld}
@@ -178,7 +178,7 @@ apply_read state number message =
 -- what bytes do as a message of a number
 abbrev pub apply_at : AppliedState → ℕ → List ℕ → Result Application Illegible
 apply_at state number message = do
-  read ← message_at state.profile (context_of state.held state.lines) number (bits_of message)
+  read ← server_message_in state.profile (context_of state.held state.lines) number (bits_of message)
   Ok (apply_read state number read)
 
 -- the state behind bytes: what isn't legible changes nothing

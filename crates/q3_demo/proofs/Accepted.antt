@@ -16,7 +16,7 @@ use Rattle.q3_svmsg.specs.declared.error.Illegible.{Illegible}
 use Rattle.q3_svmsg.specs.declared.error.Illegible.TheVariants.{Bits}
 use Rattle.q3_svmsg.specs.Values as told
 use Rattle.q3_svmsg.specs.Values.{Context, Told, HasNumber, Message}
-use Rattle.q3_svmsg.specs.Reading.{field_read, operation_error, rest_at, operations_at, server_message_at, message_at}
+use Rattle.q3_svmsg.specs.Reading.{field_read, operation_error, rest_at, operations_at, server_message_at, server_message_in}
 use Rattle.q3_svmsg.specs.Laws.{IsReadTold, ReadIsSpelled}
 use Rattle.q3_entity_ring.specs.Snapshot.{Snapshot}
 use Rattle.q3_rings.specs.declared.rings.NoBase.{NoBase}
@@ -144,7 +144,7 @@ record WasRead (state : AppliedState) (number : ℕ) (message : List ℕ) (appli
 was_read : (state : AppliedState) (number : ℕ) (message : List ℕ) (applied : Application) → apply_at state number message ≡ Ok applied → WasRead state number message applied
 was_read state number message applied e =
     let context = context_of state.held state.lines in
-    let read = bind_ok (message_at state.profile context number (bits_of message)) (λ (read : Message). applied_as (apply_read state number read)) applied e in
+    let read = bind_ok (server_message_in state.profile context number (bits_of message)) (λ (read : Message). applied_as (apply_read state number read)) applied e in
     let behind = bind_ok (server_message_at state.profile context number (bits_of message)) (λ (read : Message × List Bool). read_as read.0) read.0 read.1 in
     record {
       read = behind.0.0;

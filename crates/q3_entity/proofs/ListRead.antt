@@ -10,7 +10,7 @@ use Rattle.q3_fields.specs.Laws.{WordsSpelledAreRead}
 use Rattle.q3_entity.specs.declared.state.EntityState.{EntityState}
 use Rattle.q3_entity.specs.Entities.{RiseFrom, AreStates, most_entities, with_number}
 use Rattle.q3_entity.specs.Baselines.{Lines, AreLines}
-use Rattle.q3_entity.specs.Lists.{words_from, numbers_after, entity_list_at}
+use Rattle.q3_entity.specs.Lists.{words_from, numbers_at, entity_list_at}
 use Rattle.q3_entity.specs.Laws.{ZeroIsNormal, ListSpelledIsRead}
 use Rattle.q3_entity.specs.Spelling.{Entered, EntriesRise, RemoveFrom, state_after, words_there}
 use Rattle.q3_entity.proofs.Results.{number_is_read}
@@ -57,13 +57,13 @@ cut_off table base number entities added entries o is risen few rise removes sta
 -- the entities behind a number are read
 abbrev AreRead : List (List Bool) → Layout → Lines → List EntityState → ℕ → ℕ → ℕ → List Entered → List Bool → List Bool → Type 0
 AreRead words table lines base left number next entries bits rest =
-    (entities added : List EntityState) → ToCome table base number entities added entries → numbers_after words table lines base left number next entities bits ≡ Ok (entities ++ added, rest)
+    (entities added : List EntityState) → ToCome table base number entities added entries → numbers_at words table lines base left number next entities bits ≡ Ok (entities ++ added, rest)
 
 -- where the number has no entry, its entity stays
 read_over : (words : List (List Bool)) (table : Layout) (lines : Lines) (base : List EntityState) (left number next : ℕ) (entries : List Entered) (bits rest : List Bool)
     → number ≢ next → entry_of number entries ≡ None → EntriesRise (end_mark table) (number + 1) entries
     → AreRead words table lines base left (number + 1) next entries bits rest → AreRead words table lines base (suc left) number next entries bits rest
-unfolding numbers_after
+unfolding numbers_at
 read_over words table lines base left number next entries bits rest other none rise others entities added come =
     let from = with_number number base in
     let is : with_number number added ≡ from = come.states number (omega arith) ∙ ap (λ (e : Option Entered). state_after from number e) none in
@@ -76,7 +76,7 @@ read_entry : PutIsRead → WordsSpelledAreRead → ZeroIsNormal → (words : Lis
     → entry.number ≡ number → number + 1 ≤ next → next ≤ end_mark table → text ≡ own ++ (field_bits words table.number_bits next ++ behind)
     → SpellsMarks words table (words_from lines entry.number (with_number entry.number base)) entry.words own
     → AreRead words table lines base left (number + 1) next entries (behind ++ rest) rest → AreRead words table lines base (suc left) number number (entry ∷ entries) (text ++ rest) rest
-unfolding numbers_after
+unfolding numbers_at
 read_entry put law law' words table lines base code is_table are states left number next entry entries text own behind rest same low high whole spelled others entities added come =
     let from = with_number number base in
     let changed = words_from lines number from in
@@ -105,7 +105,7 @@ read_entry put law law' words table lines base code is_table are states left num
 numbers_are_read : PutIsRead → WordsSpelledAreRead → ZeroIsNormal → (words : List (List Bool)) (table : Layout) (lines : Lines) (base : List EntityState) → IsCode words → IsTable table
     → AreLines table lines → AreStates base → (left number : ℕ) (entries : List Entered) (text rest : List Bool) → left + number ≡ end_mark table → EntriesRise (end_mark table) number entries
     → SpellsBehind words table lines base entries text → AreRead words table lines base left number (first_number table entries) entries (text ++ rest) rest
-unfolding numbers_after
+unfolding numbers_at
 numbers_are_read put law law' words table lines base code is_table are states zero number [] text rest sum rise s entities [] come = rw (s, append-nil) refl
 numbers_are_read put law law' words table lines base code is_table are states zero number [] text rest sum rise s entities (x ∷ added) come =
     let risen = come.risen in

@@ -11,7 +11,7 @@ use Rattle.q3_entity.specs.declared.reading.Entry.TheVariants.{Removed, Changed,
 use Rattle.q3_entity.specs.Entities.{AreStates, with_number}
 use Rattle.q3_entity.specs.Baselines.{Lines, AreLines}
 use Rattle.q3_entity.specs.Delta.{entity_error, bits_read, words_read, delta_at, present_at, entity_at}
-use Rattle.q3_entity.specs.Lists.{number_at, words_from, numbers_after, entity_list_at, numbers_skipped, list_skipped}
+use Rattle.q3_entity.specs.Lists.{number_at, words_from, numbers_at, entity_list_at, numbers_skipped, list_skipped}
 use Rattle.q3_entity.specs.Laws.{ZeroIsNormal, ReadIsSkipped}
 use Rattle.q3_entity.proofs.ListSpelled.{from_words}
 use Rattle.q3_entity.proofs.Steps.{number_step}
@@ -47,8 +47,8 @@ entity_alike law words table from other bits long =
 -- the numbers of a list that is read
 numbers_end : WordsEndAlike → ZeroIsNormal → (words : List (List Bool)) (table : Layout) (lines : Lines) (base : List EntityState) → IsTable table → AreLines table lines → AreStates base
     → (left number next : ℕ) (entities : List EntityState) (bits : List Bool) (found : List EntityState × List Bool)
-    → numbers_after words table lines base left number next entities bits ≡ Ok found → numbers_skipped words table left number next bits ≡ Ok (tt, found.1)
-unfolding numbers_after numbers_skipped
+    → numbers_at words table lines base left number next entities bits ≡ Ok found → numbers_skipped words table left number next bits ≡ Ok (tt, found.1)
+unfolding numbers_at numbers_skipped
 numbers_end alike law words table lines base is_table are states zero number next entities bits found e =
     let same : (entities, bits) ≡ found = cc in
     ap (λ (y : List EntityState × List Bool). Ok (tt, y.1)) same
@@ -66,5 +66,5 @@ numbers_end alike law words table lines base is_table are states (suc left) numb
 pub list_is_skipped : WordsEndAlike → ZeroIsNormal → ReadIsSkipped
 unfolding entity_list_at list_skipped
 list_is_skipped alike law words table lines base now bits rest is_table are states e =
-    let first = bind_ok (number_at words table 0 bits) (λ first. numbers_after words table lines base (end_mark table) 0 first.0 [] first.1) (now, rest) e in
+    let first = bind_ok (number_at words table 0 bits) (λ first. numbers_at words table lines base (end_mark table) 0 first.0 [] first.1) (now, rest) e in
     rw first.1 (numbers_end alike law words table lines base is_table are states (end_mark table) 0 first.0.0 [] first.0.1 (now, rest) first.2)

@@ -15,7 +15,7 @@ use Rattle.q3_entity.specs.declared.reading.Entry.{Entry}
 use Rattle.q3_entity.specs.declared.reading.Entry.TheVariants.{Removed, Changed, Same}
 use Rattle.q3_entity.specs.Entities.{IsNormal, RiseFrom, IsList, AreStates, AreNormal, with_number}
 use Rattle.q3_entity.specs.Baselines.{Lines, AreLines}
-use Rattle.q3_entity.specs.Lists.{number_at, words_from, numbers_after, entity_list_at}
+use Rattle.q3_entity.specs.Lists.{number_at, words_from, numbers_at, entity_list_at}
 use Rattle.q3_entity.specs.Laws.{ZeroIsNormal, ListReadIsSpelled}
 use Rattle.q3_entity.specs.Spelling.{Entered, SpellsEntries, EntriesRise, RemoveFrom, state_after, words_there}
 use Rattle.q3_entity.proofs.Results.{number_was_read}
@@ -186,8 +186,8 @@ behind_number words table lines base number next entities now bits left behind k
 numbers_were_spelled : ReadWasPut → WordsReadAreSpelled → ZeroIsNormal → (words : List (List Bool)) (table : Layout) (lines : Lines) (base : List EntityState) → IsCode words → IsTable table
     → AreLines table lines → IsList table base → AreStates base → (left number next : ℕ) (entities : List EntityState) (bits : List Bool) (found : List EntityState × List Bool)
     → left + number ≡ end_mark table → number ≤ next → next ≤ end_mark table
-    → numbers_after words table lines base left number next entities bits ≡ Ok found → ReadNumbers words table lines base number next entities bits found
-unfolding numbers_after
+    → numbers_at words table lines base left number next entities bits ≡ Ok found → ReadNumbers words table lines base number next entities bits found
+unfolding numbers_at
 numbers_were_spelled put law law' words table lines base code is_table are list states zero number next entities bits found sum low high e =
     let same : (entities, bits) ≡ found = cc in
     subst (ReadNumbers words table lines base number next entities bits) {x = (entities, bits)} same (at_end words table lines base number next entities bits list (omega arith) (omega arith))
@@ -210,16 +210,16 @@ numbers_were_spelled put law law' words table lines base code is_table are list 
     ]
 
 -- the same, folded
-list_after_is : (words : List (List Bool)) (table : Layout) (lines : Lines) (base : List EntityState) (bits : List Bool) (now : List EntityState) (rest : List Bool)
-    → (number_at words table 0 bits >>= λ first. numbers_after words table lines base (end_mark table) 0 first.0 [] first.1) ≡ Ok (now, rest) → entity_list_at words table lines base bits ≡ Ok (now, rest)
+entity_list_at_is : (words : List (List Bool)) (table : Layout) (lines : Lines) (base : List EntityState) (bits : List Bool) (now : List EntityState) (rest : List Bool)
+    → (number_at words table 0 bits >>= λ first. numbers_at words table lines base (end_mark table) 0 first.0 [] first.1) ≡ Ok (now, rest) → entity_list_at words table lines base bits ≡ Ok (now, rest)
 unfolding entity_list_at
-list_after_is words table lines base bits now rest e = e
+entity_list_at_is words table lines base bits now rest e = e
 
 -- a list that was read was spelled so
 pub list_was_spelled : ReadWasPut → WordsReadAreSpelled → ZeroIsNormal → ListReadIsSpelled
 unfolding entity_list_at
 list_was_spelled put law law' words table lines base now bits rest code is_table are list states e =
-    let first = bind_ok (number_at words table 0 bits) (λ first. numbers_after words table lines base (end_mark table) 0 first.0 [] first.1) (now, rest) e in
+    let first = bind_ok (number_at words table 0 bits) (λ first. numbers_at words table lines base (end_mark table) 0 first.0 [] first.1) (now, rest) e in
     let number = number_was_read put words table 0 bits first.0 code first.1 in
     let read = numbers_were_spelled put law law' words table lines base code is_table are list states (end_mark table) 0 first.0.0 [] first.0.1 (now, rest) (omega arith) (omega arith) number.1 first.2 in
     let field = field_bits words table.number_bits first.0.0 in
@@ -234,7 +234,7 @@ list_was_spelled put law law' words table lines base now bits rest code is_table
         removes = read.removes;
         spells = subst (λ (n : ℕ). SpellsEntries words table lines base read.entries (field_bits words table.number_bits n ++ read.text)) read.first
             (entries_of_behind words table lines base read.entries read.text read.spells);
-        list = list_is_listed words table lines base bits now rest (list_after_is words table lines base bits now rest e);
+        list = list_is_listed words table lines base bits now rest (entity_list_at_is words table lines base bits now rest e);
         states = λ n. ap (with_number n) (sym is) ∙ read.states n (omega arith);
       },
     )

@@ -14,7 +14,7 @@ use Rattle.q3_entity.specs.Baselines.{Lines}
 use Rattle.q3_entity.specs.Laws.{ListRises}
 use Rattle.q3_entity.proofs.ListWritten.{found-number}
 use Rattle.q3_entity.proofs.Steps.{number_step}
-use Rattle.q3_entity.specs.Lists.{number_at, one_more, stays, entered, numbers_after, entity_list_at}
+use Rattle.q3_entity.specs.Lists.{number_at, one_more, stays, entered, numbers_at, entity_list_at}
 
 -- numbers below a limit are below a larger one
 pub rise-more : (limit more least : ℕ) (xs : List EntityState) → limit ≤ more → RiseFrom limit least xs → RiseFrom more least xs
@@ -68,8 +68,8 @@ entered-below number xs in_base Changed words now below e = one_more-below numbe
 entered-below number xs in_base Same words now below e = one_more-below number xs _ now below refl e
 
 numbers_below : (words : List (List Bool)) (table : Layout) (lines : Lines) (base : List EntityState) (left number next : ℕ) (entities : List EntityState) (bits : List Bool)
-    (found : List EntityState × List Bool) → IsBelow number entities → numbers_after words table lines base left number next entities bits ≡ Ok found → IsBelow (number + left) found.0
-unfolding numbers_after
+    (found : List EntityState × List Bool) → IsBelow number entities → numbers_at words table lines base left number next entities bits ≡ Ok found → IsBelow (number + left) found.0
+unfolding numbers_at
 numbers_below words table lines base zero number next entities bits found below e =
     let same : (entities, bits) ≡ found = cc in
     let all : number + 0 ≡ number = omega arith in
@@ -88,7 +88,7 @@ pub list_is_listed : (words : List (List Bool)) (table : Layout) (lines : Lines)
     → entity_list_at words table lines base bits ≡ Ok (now, rest) → IsList table now
 unfolding entity_list_at
 list_is_listed words table lines base bits now rest e =
-    let first = bind_ok (number_at words table 0 bits) (λ first. numbers_after words table lines base (end_mark table) 0 first.0 [] first.1) (now, rest) e in
+    let first = bind_ok (number_at words table 0 bits) (λ first. numbers_at words table lines base (end_mark table) 0 first.0 [] first.1) (now, rest) e in
     let below = numbers_below words table lines base (end_mark table) 0 first.0.0 [] first.0.1 (now, rest) (record { rise = tt; few = omega arith }) first.2 in
     let all : 0 + end_mark table ≡ end_mark table = omega arith in
     record { rise = subst (λ (n : ℕ). RiseFrom n 0 now) all below.rise; few = below.few }

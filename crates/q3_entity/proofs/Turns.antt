@@ -10,7 +10,7 @@ use Rattle.q3_entity.specs.declared.error.EntityError.TheVariants.{Order, Many}
 use Rattle.q3_entity.specs.Entities.{RiseFrom, with_number, most_entities}
 use Rattle.q3_entity.specs.Baselines.{Lines}
 use Rattle.q3_entity.specs.Delta.{bits_read, entity_at}
-use Rattle.q3_entity.specs.Lists.{number_at, one_more, stays, entered, words_from, numbers_after, entity_list_at}
+use Rattle.q3_entity.specs.Lists.{number_at, one_more, stays, entered, words_from, numbers_at, entity_list_at}
 use Rattle.q3_entity.specs.Runs.{taken}
 use Rattle.q3_entity.specs.Walking.{kept_below, Reached, next_at, entry_at, turn_at, count_after, first_of}
 use Rattle.q3_entity.proofs.Results.{number_was_read}
@@ -57,13 +57,13 @@ behind_entry-same words table lines number from entities bits go go' same =
     (λ more is'. same now.1 now.0 more is'))
 
 -- at the number of the next entry
-numbers_after-here : (words : List (List Bool)) (table : Layout) (lines : Lines) (base : List EntityState) (left number : ℕ) (entities : List EntityState) (bits : List Bool)
-    → numbers_after words table lines base (suc left) number number entities bits
-    ≡ behind_entry words table lines number (with_number number base) entities bits (λ next now left'. numbers_after words table lines base left (number + 1) next now left')
-unfolding numbers_after entry_at
-numbers_after-here words table lines base left number entities bits =
+numbers_at-here : (words : List (List Bool)) (table : Layout) (lines : Lines) (base : List EntityState) (left number : ℕ) (entities : List EntityState) (bits : List Bool)
+    → numbers_at words table lines base (suc left) number number entities bits
+    ≡ behind_entry words table lines number (with_number number base) entities bits (λ next now left'. numbers_at words table lines base left (number + 1) next now left')
+unfolding numbers_at entry_at
+numbers_at-here words table lines base left number entities bits =
     let from = with_number number base in
-    let others = λ (now : List EntityState × List Bool). number_at words table (number + 1) now.1 >>= λ more. numbers_after words table lines base left (number + 1) more.0 now.0 more.1 in
+    let others = λ (now : List EntityState × List Bool). number_at words table (number + 1) now.1 >>= λ more. numbers_at words table lines base left (number + 1) more.0 now.0 more.1 in
     let read = entity_at words table (words_from lines number from) bits in
     rw (eq-eqb number number refl)
     (sym (bind_assoc read (λ entry. entered entities (is_some from) number entry.0.0 entry.0.1 >>= λ now. Ok (now, entry.1)) others
@@ -72,45 +72,45 @@ numbers_after-here words table lines base left number entities bits =
     (λ entry is. bind_assoc (entered entities (is_some from) number entry.0.0 entry.0.1) (λ now. Ok (now, entry.1)) others)))
 
 -- at a number that has no entry
-numbers_after-there : (words : List (List Bool)) (table : Layout) (lines : Lines) (base : List EntityState) (left number next : ℕ) (entities : List EntityState) (bits : List Bool) → number ≢ next
-    → numbers_after words table lines base (suc left) number next entities bits
-    ≡ (stays entities (with_number number base) >>= λ kept. numbers_after words table lines base left (number + 1) next kept bits)
-unfolding numbers_after
-numbers_after-there words table lines base left number next entities bits other = rw (ne_eqb number next other) refl
+numbers_at-there : (words : List (List Bool)) (table : Layout) (lines : Lines) (base : List EntityState) (left number next : ℕ) (entities : List EntityState) (bits : List Bool) → number ≢ next
+    → numbers_at words table lines base (suc left) number next entities bits
+    ≡ (stays entities (with_number number base) >>= λ kept. numbers_at words table lines base left (number + 1) next kept bits)
+unfolding numbers_at
+numbers_at-there words table lines base left number next entities bits other = rw (ne_eqb number next other) refl
 
 -- an entity below the number says nothing more
 forget : (words : List (List Bool)) (table : Layout) (lines : Lines) (x : EntityState) (base : List EntityState) (left number next : ℕ) (entities : List EntityState) (bits : List Bool)
     → x.number < number
-    → numbers_after words table lines (x ∷ base) left number next entities bits ≡ numbers_after words table lines base left number next entities bits
-unfolding numbers_after
+    → numbers_at words table lines (x ∷ base) left number next entities bits ≡ numbers_at words table lines base left number next entities bits
+unfolding numbers_at
 forget words table lines x base zero number next entities bits below = refl
 forget words table lines x base (suc left) number next entities bits below =
     let gone = with_number-behind number x base (λ same. omega arith) in
     elim (cases_eq number next) [
       | inl same ↦
           rw (← same)
-          (numbers_after-here words table lines (x ∷ base) left number entities bits
-          ∙ ap (λ (from : Option EntityState). behind_entry words table lines number from entities bits (λ next now left'. numbers_after words table lines (x ∷ base) left (number + 1) next now left')) gone
+          (numbers_at-here words table lines (x ∷ base) left number entities bits
+          ∙ ap (λ (from : Option EntityState). behind_entry words table lines number from entities bits (λ next now left'. numbers_at words table lines (x ∷ base) left (number + 1) next now left')) gone
           ∙ behind_entry-same words table lines number (with_number number base) entities bits _ _
           (λ left' now more is. forget words table lines x base left (number + 1) more.0 now more.1 (omega arith))
-          ∙ sym (numbers_after-here words table lines base left number entities bits))
+          ∙ sym (numbers_at-here words table lines base left number entities bits))
       | inr other ↦
-          numbers_after-there words table lines (x ∷ base) left number next entities bits other
-          ∙ ap (λ (from : Option EntityState). stays entities from >>= λ kept. numbers_after words table lines (x ∷ base) left (number + 1) next kept bits) gone
-          ∙ bind_same (stays entities (with_number number base)) (λ kept. numbers_after words table lines (x ∷ base) left (number + 1) next kept bits)
-          (λ kept. numbers_after words table lines base left (number + 1) next kept bits)
+          numbers_at-there words table lines (x ∷ base) left number next entities bits other
+          ∙ ap (λ (from : Option EntityState). stays entities from >>= λ kept. numbers_at words table lines (x ∷ base) left (number + 1) next kept bits) gone
+          ∙ bind_same (stays entities (with_number number base)) (λ kept. numbers_at words table lines (x ∷ base) left (number + 1) next kept bits)
+          (λ kept. numbers_at words table lines base left (number + 1) next kept bits)
           (λ kept is. forget words table lines x base left (number + 1) next kept bits (omega arith))
-          ∙ sym (numbers_after-there words table lines base left number next entities bits other)
+          ∙ sym (numbers_at-there words table lines base left number next entities bits other)
     ]
 
 -- from a number on that the next entry has
 abbrev pub from_next : List (List Bool) → Layout → Lines → ℕ → List EntityState → List EntityState → List Bool → Answer
-from_next words table lines next base entities bits = numbers_after words table lines base (end_mark table - next) next next entities bits
+from_next words table lines next base entities bits = numbers_at words table lines base (end_mark table - next) next next entities bits
 
 -- at the next entry's number no entity of the base is passed over
 jump-here : (words : List (List Bool)) (table : Layout) (lines : Lines) (base : List EntityState) (limit left number next : ℕ) (entities : List EntityState) (bits : List Bool)
     → RiseFrom limit number base → left + number ≡ end_mark table → number ≡ next
-    → numbers_after words table lines base left number next entities bits
+    → numbers_at words table lines base left number next entities bits
     ≡ (kept_below next entities base >>= λ kept. from_next words table lines next kept.1 kept.0 bits)
 jump-here words table lines base limit left number next entities bits rise sum same =
     let all : end_mark table - number ≡ left = omega arith in
@@ -119,9 +119,9 @@ jump-here words table lines base limit left number next entities bits rise sum s
 -- up to the next entry the base's entities stay
 jump : (words : List (List Bool)) (table : Layout) (lines : Lines) (base : List EntityState) (limit left number next : ℕ) (entities : List EntityState) (bits : List Bool)
     → RiseFrom limit number base → left + number ≡ end_mark table → number ≤ next → next ≤ end_mark table
-    → numbers_after words table lines base left number next entities bits
+    → numbers_at words table lines base left number next entities bits
     ≡ (kept_below next entities base >>= λ kept. from_next words table lines next kept.1 kept.0 bits)
-unfolding numbers_after kept_below
+unfolding numbers_at kept_below
 jump words table lines [] limit zero number next entities bits rise sum below within =
     let none : end_mark table - next ≡ 0 = omega arith in
     rw none refl
@@ -130,7 +130,7 @@ jump words table lines [] limit (suc left) number next entities bits rise sum be
     elim (cases_eq number next) [
       | inl same ↦ jump-here words table lines [] limit (suc left) number next entities bits rise sum same
       | inr other ↦
-          numbers_after-there words table lines [] left number next entities bits other
+          numbers_at-there words table lines [] left number next entities bits other
           ∙ jump words table lines [] limit left (number + 1) next entities bits tt (omega arith) (omega arith) within
     ]
 jump words table lines (x ∷ xs) limit (suc left) number next entities bits rise sum below within =
@@ -141,9 +141,9 @@ jump words table lines (x ∷ xs) limit (suc left) number next entities bits ris
           elim (cases_eq x.number number) [
             | inl here ↦
                 let risen : RiseFrom limit (number + 1) xs = rw here at rise.2 in
-                numbers_after-there words table lines base left number next entities bits other
-                ∙ ap (λ (from : Option EntityState). stays entities from >>= λ kept. numbers_after words table lines base left (number + 1) next kept bits) (with_number-named x xs number here)
-                ∙ bind_same (one_more entities x) (λ kept. numbers_after words table lines base left (number + 1) next kept bits)
+                numbers_at-there words table lines base left number next entities bits other
+                ∙ ap (λ (from : Option EntityState). stays entities from >>= λ kept. numbers_at words table lines base left (number + 1) next kept bits) (with_number-named x xs number here)
+                ∙ bind_same (one_more entities x) (λ kept. numbers_at words table lines base left (number + 1) next kept bits)
                 (λ kept. kept_below next kept xs >>= λ kept'. from_next words table lines next kept'.1 kept'.0 bits)
                 (λ kept is.
                 forget words table lines x xs left (number + 1) next kept bits (omega arith)
@@ -153,8 +153,8 @@ jump words table lines (x ∷ xs) limit (suc left) number next entities bits ris
                 (sym (kept_below-more next entities x xs (omega arith)))
             | inr later ↦
                 let risen : RiseFrom limit (number + 1) base = (omega (arith, rise.0, later), rise.1, rise.2) in
-                numbers_after-there words table lines base left number next entities bits other
-                ∙ ap (λ (from : Option EntityState). stays entities from >>= λ kept. numbers_after words table lines base left (number + 1) next kept bits)
+                numbers_at-there words table lines base left number next entities bits other
+                ∙ ap (λ (from : Option EntityState). stays entities from >>= λ kept. numbers_at words table lines base left (number + 1) next kept bits)
                 (with_number-below limit (number + 1) number base risen (omega arith))
                 ∙ jump words table lines base limit left (number + 1) next entities bits risen (omega arith) (omega arith) within
           ]
@@ -183,7 +183,7 @@ pub list_begins : ReadWasPut → (words : List (List Bool)) (table : Layout) (li
     → entity_list_at words table lines base bits ≡ (next_at words table 0 base [] bits >>= from_reached words table lines)
 unfolding entity_list_at
 list_begins put words table lines base limit bits code rise =
-    bind_same (number_at words table 0 bits) (λ first. numbers_after words table lines base (end_mark table) 0 first.0 [] first.1)
+    bind_same (number_at words table 0 bits) (λ first. numbers_at words table lines base (end_mark table) 0 first.0 [] first.1)
     (λ first. kept_below first.0 [] base >>= λ kept. from_next words table lines first.0 kept.1 kept.0 first.1)
     (λ first is.
     jump words table lines base limit (end_mark table) 0 first.0 [] first.1 rise (omega arith) (omega arith) (number_was_read put words table 0 bits first code is).1)
@@ -191,7 +191,7 @@ list_begins put words table lines base limit bits code rise =
 
 -- those behind a number say all that comes
 behind_taken : (words : List (List Bool)) (table : Layout) (lines : Lines) (base : List EntityState) (left number next : ℕ) (entities : List EntityState) (bits : List Bool)
-    → numbers_after words table lines base left (number + 1) next entities bits ≡ numbers_after words table lines (taken number base).1 left (number + 1) next entities bits
+    → numbers_at words table lines base left (number + 1) next entities bits ≡ numbers_at words table lines (taken number base).1 left (number + 1) next entities bits
 behind_taken words table lines [] left number next entities bits = refl
 behind_taken words table lines (x ∷ xs) left number next entities bits =
     elim (cases_eq x.number number) [
@@ -210,12 +210,12 @@ list_turns put words table lines at limit bits code below rise =
     let all : end_mark table - at.next ≡ suc rest = omega arith in
     let read = entry_at words table (words_from lines at.next found.0) (is_some found.0) at.next at.entities bits in
     let behind = λ (now : List EntityState × List Bool). next_at words table (at.next + 1) found.1 now.0 now.1 in
-    ap (λ (left : ℕ). numbers_after words table lines at.base left at.next at.next at.entities bits) all
-    ∙ numbers_after-here words table lines at.base rest at.next at.entities bits
-    ∙ ap (λ (from : Option EntityState). behind_entry words table lines at.next from at.entities bits (λ next now left. numbers_after words table lines at.base rest (at.next + 1) next now left))
+    ap (λ (left : ℕ). numbers_at words table lines at.base left at.next at.next at.entities bits) all
+    ∙ numbers_at-here words table lines at.base rest at.next at.entities bits
+    ∙ ap (λ (from : Option EntityState). behind_entry words table lines at.next from at.entities bits (λ next now left. numbers_at words table lines at.base rest (at.next + 1) next now left))
     (sym (is_taken limit at.next at.base rise).found)
     ∙ behind_entry-same words table lines at.next found.0 at.entities bits
-    (λ next now left. numbers_after words table lines at.base rest (at.next + 1) next now left)
+    (λ next now left. numbers_at words table lines at.base rest (at.next + 1) next now left)
     (λ next now left. kept_below next now found.1 >>= λ kept. from_next words table lines next kept.1 kept.0 left)
     (λ left now more is.
     let number = number_was_read put words table (at.next + 1) left more code is in
@@ -270,7 +270,7 @@ list_stops put words same table lines at limit bits e is code below rise stop = 
 -- and its end
 pub list_ends : (words : List (List Bool)) (table : Layout) (lines : Lines) (at : Reached) (bits : List Bool) → end_mark table ≤ at.next
     → from_reached words table lines (at, bits) ≡ Ok (at.entities, bits)
-unfolding numbers_after
+unfolding numbers_at
 list_ends words table lines at bits past =
     let none : end_mark table - at.next ≡ 0 = omega arith in
     rw none refl

@@ -54,24 +54,24 @@ words_from lines number from = (unwrap_or from (line_of lines number)).words
 
 -- the entities of the result from a number on, so many numbers, where the next entry has the number `next`: it is read
 -- when its number comes, and of the numbers before it the base's entities stay
-unfoldable pub numbers_after : List (List Bool) → Layout → Lines → List EntityState → ℕ → ℕ → ℕ → List EntityState → List Bool
+unfoldable pub numbers_at : List (List Bool) → Layout → Lines → List EntityState → ℕ → ℕ → ℕ → List EntityState → List Bool
     → Result (List EntityState × List Bool) EntityError
-numbers_after words table lines base zero number next entities bits = Ok (entities, bits)
-numbers_after words table lines base (suc left) number next entities bits =
+numbers_at words table lines base zero number next entities bits = Ok (entities, bits)
+numbers_at words table lines base (suc left) number next entities bits =
     if number == next then (do
       entry ← entity_at words table (words_from lines number (with_number number base)) bits
       now ← entered entities (is_some (with_number number base)) number entry.0.0 entry.0.1
       more ← number_at words table (number + 1) entry.1
-      numbers_after words table lines base left (number + 1) more.0 now more.1)
+      numbers_at words table lines base left (number + 1) more.0 now more.1)
     else (do
       kept ← stays entities (with_number number base)
-      numbers_after words table lines base left (number + 1) next kept bits)
+      numbers_at words table lines base left (number + 1) next kept bits)
 
 -- the entities after a list against a base, and what is behind it, or the first fault in reading order
 unfoldable pub entity_list_at : List (List Bool) → Layout → Lines → List EntityState → List Bool → Result (List EntityState × List Bool) EntityError
 entity_list_at words table lines base bits = do
   first ← number_at words table 0 bits
-  numbers_after words table lines base (end_mark table) 0 first.0 [] first.1
+  numbers_at words table lines base (end_mark table) 0 first.0 [] first.1
 
 -- what is behind a list whose base isn't there: its bits, counts and rising numbers are looked at alone
 unfoldable pub numbers_skipped : List (List Bool) → Layout → ℕ → ℕ → ℕ → List Bool → Result (Unit {0} × List Bool) EntityError

@@ -8,7 +8,7 @@ use Rattle.q3_bits.specs.ResultBind.{◌>>=◌, fault_as, bind_ok, map_err_ok}
 use Rattle.q3_bits.specs.Words.{IsCode, row_bits, field_at, field_bits}
 use Rattle.q3_bits.specs.Laws.{ReadWasPut}
 use Rattle.q3_text.specs.Texts.{IsTextByte}
-use Rattle.q3_strings.specs.Reading.{string_after}
+use Rattle.q3_strings.specs.Reading.{bounded_string_at}
 use Rattle.q3_strings.specs.Spelling.{SpellsString}
 use Rattle.q3_strings.specs.Rows.{row-none, row-behind}
 use Rattle.q3_strings.specs.Laws.{StringReadIsSpelled}
@@ -117,14 +117,14 @@ unfolding config_at
 config_was put law words code strings bits found e =
     let on_text : ℕ → List ℕ × List Bool → Result (Strings × List Bool) GamestateError = λ index text. config_set strings index text.0 (set_fault strings index text.0) >>= λ set. Ok (set, text.1) in
     let on_index : ℕ × List Bool → Result (Strings × List Bool) GamestateError =
-    λ index. cond (ltb index.0 places) (fault_as string_error (string_after words longest_string index.1) >>= λ text. on_text index.0 text) (Err (Config Index)) in
+    λ index. cond (ltb index.0 places) (fault_as string_error (bounded_string_at words longest_string index.1) >>= λ text. on_text index.0 text) (Err (Config Index)) in
     let index = bind_ok (field_read words 16 bits) on_index found e in
     let was = field_was put words 16 bits index.0 code index.1 in
     elim (cases_Bool (ltb index.0.0 places)) [
       | inr past ↦ absurd (let wrong = rw past at index.2 in cc)
       | inl low ↦
-          let text = bind_ok (fault_as string_error (string_after words longest_string index.0.1)) (λ text. on_text index.0.0 text) found (rw low at index.2) in
-          let were = law words longest_string text.0.0 index.0.1 text.0.1 code (map_err_ok string_error (string_after words longest_string index.0.1) text.0 text.1) in
+          let text = bind_ok (fault_as string_error (bounded_string_at words longest_string index.0.1)) (λ text. on_text index.0.0 text) found (rw low at index.2) in
+          let were = law words longest_string text.0.0 index.0.1 text.0.1 code (map_err_ok string_error (bounded_string_at words longest_string index.0.1) text.0 text.1) in
           let set = bind_ok (config_set strings index.0.0 text.0.0 (set_fault strings index.0.0 text.0.0)) (λ set. Ok (set, text.0.1)) found text.2 in
           let is = was_set strings index.0.0 text.0.0 (set_fault strings index.0.0 text.0.0) set.0 set.1 in
           let made = set.2 in

@@ -6,7 +6,7 @@ use Rattle.q3_bits.specs.Words.{field_at}
 use Rattle.q3_bits.specs.declared.reader.ReadError.TheVariants.{End}
 use Rattle.q3_strings.specs.declared.error.StringError.{StringError}
 use Rattle.q3_strings.specs.declared.error.StringError.TheVariants as strings
-use Rattle.q3_strings.specs.Reading.{string_after}
+use Rattle.q3_strings.specs.Reading.{bounded_string_at}
 use Rattle.q3_fields.specs.Kinds.{end_mark}
 use Rattle.q3_entity.specs.declared.error.EntityError.TheVariants.{Order, Removes}
 use Rattle.q3_entity.specs.declared.reading.Entry.{Entry}
@@ -40,7 +40,7 @@ unfoldable pub config_at : List (List Bool) → Strings → List Bool → Result
 config_at words strings bits = do
   index ← field_read words 16 bits
   if nat_lt index.0 places then (do
-    text ← fault_as string_error (string_after words longest_string index.1)
+    text ← fault_as string_error (bounded_string_at words longest_string index.1)
     set ← config_set strings index.0 text.0 (set_fault strings index.0 text.0)
     Ok (set, text.1))
       else Err (Config Index)

@@ -11,7 +11,7 @@ use Rattle.q3_profile.specs.Profile.{IsCodec}
 use Rattle.q3_svmsg.specs.Values.{Told, Message}
 use Rattle.q3_svmsg.specs.Values.Told.{Nothing, Game, Snap, Skipped}
 use Rattle.q3_svmsg.specs.declared.error.Illegible.{Illegible}
-use Rattle.q3_svmsg.specs.Reading.{message_at}
+use Rattle.q3_svmsg.specs.Reading.{server_message_in}
 use Rattle.q3_rings.specs.Rings.{held_snapshot}
 use Rattle.q3_clstate.specs.declared.applied.SnapOutcome.TheVariants.{Stale, Skipped as SkippedFor}
 use Rattle.q3_clstate.specs.State.{AppliedState, Application, context_of, passes, accepts, is_stale, skipped_for, apply_section, hearing, apply_read, apply_at, state_behind}
@@ -59,7 +59,7 @@ section_leaves state number (Skipped base) =
 pub message_leaves : (state : AppliedState) (number : ℕ) (message : List ℕ) (applied : Application) → apply_at state number message ≡ Ok applied
     → (applied.state.profile ≡ state.profile) × (applied.state.number ≡ number)
 message_leaves state number message applied is =
-    let read = bind_ok (message_at state.profile (context_of state.held state.lines) number (bits_of message)) (λ (read : Message). Ok (apply_read state number read)) applied is in
+    let read = bind_ok (server_message_in state.profile (context_of state.held state.lines) number (bits_of message)) (λ (read : Message). Ok (apply_read state number read)) applied is in
     let same : apply_read state number read.0 ≡ applied = let e = read.2 in cc in
     subst (λ (applied : Application). (applied.state.profile ≡ state.profile) × (applied.state.number ≡ number)) same
     (section_leaves (hearing state read.0.commands) number read.0.section)

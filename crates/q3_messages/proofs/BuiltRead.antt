@@ -21,7 +21,7 @@ use Rattle.q3_svmsg.specs.declared.error.Illegible.{Illegible}
 use Rattle.q3_svmsg.specs.Values.{Base, base_from, Message}
 use Rattle.q3_svmsg.specs.Texts.{section_bits, server_message_bits}
 use Rattle.q3_svmsg.specs.declared.error.Illegible.TheVariants.{Bits}
-use Rattle.q3_svmsg.specs.Reading.{ack_at, server_message_at, message_at}
+use Rattle.q3_svmsg.specs.Reading.{ack_at, server_message_at, server_message_in}
 use Rattle.q3_svmsg.specs.Laws.{IsContext, WrittenIsRead, ReadIsSkipped}
 use Rattle.q3_clstate.specs.State.{Application, context_of, received, apply_read, apply_at}
 use Rattle.q3_clstate.specs.Laws.{AppliedIsContext}
@@ -75,7 +75,7 @@ by_read client n ack plain read = with_application client ack plain (read >>= λ
 -- a message whose leading long is read is received as what is read of the rest
 received_by : (client : ClientState) (n bits : ℕ) (bytes plain : List ℕ) (message : Message) → cleared_at client n message.ack bytes ≡ plain → ack_at client.state.profile.code (bits_of bytes) ≡ Ok (message.ack, bits)
     → (acknowledge_at client.issued message.ack).answer ≡ Ok tt
-    → message_at client.state.profile (context_of client.state.held client.state.lines) n (bits_of (cleared_at client n message.ack bytes))
+    → server_message_in client.state.profile (context_of client.state.held client.state.lines) n (bits_of (cleared_at client n message.ack bytes))
     ≡ Ok (record message { section = received client.state.held message.section })
     → receive_bytes client n bytes ≡ Ok (receive_message client n message plain)
 received_by client n bits bytes plain message clear found taken is =
@@ -85,7 +85,7 @@ received_by client n bits bytes plain message clear found taken is =
 
 -- what is read of bytes by a profile
 abbrev read_with : ClientState → ℕ → List ℕ → Profile → Result Message Illegible
-read_with client n bytes profile = message_at profile (context_of client.state.held client.state.lines) n (bits_of bytes)
+read_with client n bytes profile = server_message_in profile (context_of client.state.held client.state.lines) n (bits_of bytes)
 
 -- ---- a message that was built
 
@@ -154,7 +154,7 @@ module _ (put : PutIsRead) (holds : MessageHoldsBits) (twice : SideTwiceIsNone) 
       received_by client n found.0 bytes plain message clear (ap (λ (p : Profile). ack_at p.code (bits_of bytes)) of_profile ∙ (ap (ack_at words) left ∙ found.1)) taken
       (ap (read_with client n (cleared_at client n message.ack bytes)) of_profile
       ∙ (ap (λ (l : List ℕ). read_with client n l profile) clear
-      ∙ (ap (message_at profile (context_of client.state.held client.state.lines) n) (holds bits)
+      ∙ (ap (server_message_in profile (context_of client.state.held client.state.lines) n) (holds bits)
       ∙ ap value_of (are_read rest))))
 
   pub built_is_read : AppliedIsContext → WrittenIsRead → ReadIsSkipped → BuiltIsRead

@@ -18,9 +18,9 @@ use Rattle.q3_clmsg.specs.declared.error.ClientIllegible.{ClientIllegible}
 use Rattle.q3_clmsg.specs.declared.heads.Heads.{Heads}
 use Rattle.q3_clmsg.specs.Moves.{message_key}
 use Rattle.q3_clmsg.specs.Values.{Message}
-use Rattle.q3_clmsg.specs.Texts.{section_bits, client_message_bits}
+use Rattle.q3_clmsg.specs.Texts.{move_section_bits, client_message_bits}
 use Rattle.q3_clmsg.specs.declared.error.ClientIllegible.TheVariants.{Bits}
-use Rattle.q3_clmsg.specs.Reading.{heads_after, heads_at, client_at}
+use Rattle.q3_clmsg.specs.Reading.{heads_at, heads_in, client_message_in}
 use Rattle.q3_clmsg.specs.Laws.{WrittenIsRead}
 use Rattle.q3_slot.specs.Slot.{SlotState}
 use Rattle.q3_map.specs.Map.{MapState, is_other}
@@ -40,13 +40,13 @@ begins_with_longs : (words : List (List Bool)) (key : ℕ) (message : Message) (
     → (left : List Bool) × (client_message_bits words key message ++ rest ≡ longs words message ++ left)
 unfolding client_message_bits
 begins_with_longs words key message rest =
-    ((commands_bits words 4 message.commands ++ section_bits words key message.delta message.moves ++ row_bits words ((5, 8) ∷ [])) ++ rest, simp append_assoc)
+    ((commands_bits words 4 message.commands ++ move_section_bits words key message.delta message.moves ++ row_bits words ((5, 8) ∷ [])) ++ rest, simp append_assoc)
 
 -- they are read, whatever follows them
 longs_are_read : PutIsRead → (words : List (List Bool)) → IsCode words → (id acknowledged command : ℕ) (rest : List Bool) → id < 2 ^ 32 → acknowledged < 2 ^ 32 → command < 2 ^ 32
-    → (bits : ℕ) × (heads_at words (row_bits words ((id, 32) ∷ (acknowledged, 32) ∷ (command, 32) ∷ []) ++ rest)
+    → (bits : ℕ) × (heads_in words (row_bits words ((id, 32) ∷ (acknowledged, 32) ∷ (command, 32) ∷ []) ++ rest)
     ≡ Ok (record { id = id; acknowledged = acknowledged; command = command; bits = bits }))
-unfolding heads_after
+unfolding heads_at
 longs_are_read put words code id acknowledged command rest fits fits' fits'' = (
   length (row_bits words ((id, 32) ∷ (acknowledged, 32) ∷ (command, 32) ∷ []) ++ rest) - length rest,
   rw (
@@ -69,7 +69,7 @@ by_ack profile map slot bytes heads answer = ack_taken heads.command answer >>= 
     came_under profile map slot.challenge heads (text_at slot.issued heads.command) bytes
 
 -- with these heads, it came as what it is by its text
-came_by : (profile : Profile) (map : MapState) (slot : SlotState) (bytes text : List ℕ) (heads : Heads) (came : Came) → heads_at profile.code (bits_of bytes) ≡ Ok heads
+came_by : (profile : Profile) (map : MapState) (slot : SlotState) (bytes text : List ℕ) (heads : Heads) (came : Came) → heads_in profile.code (bits_of bytes) ≡ Ok heads
     → (acknowledge_at slot.issued heads.command).answer ≡ Ok tt → text_at slot.issued heads.command ≡ text
     → came_under profile map slot.challenge heads text bytes ≡ Ok came → said_by profile map slot bytes ≡ Ok came
 came_by profile map slot bytes text heads came found taken known is =
@@ -93,7 +93,7 @@ came_is profile map challenge bits text bytes message is =
 
 -- what is read of the bits that a message has once it is cleared
 abbrev by_bits : List (List Bool) → ℕ → Heads → List Bool → Result Message ClientIllegible
-by_bits words key heads bits = client_at words key bits >>= λ message. Ok (with_heads heads message)
+by_bits words key heads bits = client_message_in words key bits >>= λ message. Ok (with_heads heads message)
 
 abbrev by_rest : Heads → Result (Message × List Bool) ClientIllegible → Result Message ClientIllegible
 by_rest heads read = (read >>= λ one. Ok one.0) >>= λ message. Ok (with_heads heads message)
@@ -119,6 +119,6 @@ said_is_read put holds twice front written profile codec map slot said is taken 
     ap (λ (l : List ℕ). by_bits words key heads (bits_of l)) clear
     ∙ (ap (by_bits words key heads) (holds text)
     ∙ ap (by_rest heads) (written words key message rest codec.code fits is.message)) in
-    came_by profile map slot bytes said.key.text heads (came_as map message) (ap (heads_at words) left ∙ found.1) taken known
+    came_by profile map slot bytes said.key.text heads (came_as map message) (ap (heads_in words) left ∙ found.1) taken known
     (came_is profile map slot.challenge found.0 said.key.text bytes message
     (λ own. subst (λ (feed : ℕ). said_under profile feed slot.challenge heads said.key.text bytes ≡ Ok message) (feeds own) by_feed))

@@ -17,7 +17,7 @@ use Rattle.q3_gamestate.specs.Laws.{IsGamestate}
 use Rattle.q3_svmsg.specs.declared.error.Illegible.{Illegible}
 use Rattle.q3_svmsg.specs.Values.{Context, Game, Message}
 use Rattle.q3_svmsg.specs.Texts.{section_bits, server_message_bits}
-use Rattle.q3_svmsg.specs.Reading.{server_message_at, message_at}
+use Rattle.q3_svmsg.specs.Reading.{server_message_at, server_message_in}
 use Rattle.q3_svmsg.specs.Laws.{IsContext, WrittenIsRead}
 use Rattle.q3_clstate.specs.State.{AppliedState, Application, new_state, context_of, apply_read, apply_at}
 use Rattle.q3_clstate.specs.Standing.{IsApplied}
@@ -60,7 +60,7 @@ value_of read = read >>= λ one. Ok one.0
 -- what is read of bits, whatever is behind them, is read of their bytes
 pub bytes_read : MessageHoldsBits → (profile : Profile) (context : Context) (number : ℕ) (bits : List Bool) (bytes : List ℕ) (message : Message) → composed bits ≡ Some bytes
     → ((rest : List Bool) → server_message_at profile context number (bits ++ rest) ≡ Ok (message, rest))
-    → message_at profile context number (bits_of bytes) ≡ Ok message
+    → server_message_in profile context number (bits_of bytes) ≡ Ok message
 bytes_read holds profile context number bits bytes message e read =
     let zeros = replicate (8 * message_length (length bits) - length bits) false in
     let is = is_composed bits bytes e in
@@ -117,7 +117,7 @@ told_applies read holds stays contexts state issued number bytes is id fits e =
     ap (λ (bits : List Bool). server_message_at profile context number (bits ++ rest)) (pending_untold profile no_lines issued state)
     ∙ read profile context number message rest is.profile (new_context stays contexts state is)
     (record { ack = fits; few = omega arith; commands = All-nil IsCommand; section = told_is_gamestate state is id; number_is = tt }) in
-    let at : message_at profile context number (bits_of bytes) ≡ Ok message = bytes_read holds profile context number text bytes message e again in
+    let at : server_message_in profile context number (bits_of bytes) ≡ Ok message = bytes_read holds profile context number text bytes message e again in
     ap (λ (r : Result Message Illegible). r >>= (λ (m : Message). applied_as (apply_read new number m))) at
   where
     applied_as : Application → Result Application Illegible

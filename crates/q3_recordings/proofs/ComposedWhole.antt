@@ -26,7 +26,7 @@ use Rattle.q3_svmsg.specs.declared.error.Illegible.TheVariants.{Bits, BadOp}
 use Rattle.q3_svmsg.specs.Values as told
 use Rattle.q3_svmsg.specs.Values.{Context, Told, Snap, Message}
 use Rattle.q3_svmsg.specs.Texts.{server_message_bits}
-use Rattle.q3_svmsg.specs.Reading.{field_read, operation_error, game_at, section_at, ended_at, rest_at, operations_at, server_message_at, message_at}
+use Rattle.q3_svmsg.specs.Reading.{field_read, operation_error, game_at, section_at, ended_at, rest_at, operations_at, server_message_at, server_message_in}
 use Rattle.q3_svmsg.specs.Laws.{IsContext, IsRead, IsReadTold, IsMessage, WrittenIsRead, ReadIsSpelled, normal_told}
 use Rattle.q3_entity_ring.specs.Snapshot.{Snapshot}
 use Rattle.q3_rings.specs.declared.rings.NoBase.{NoBase}
@@ -189,13 +189,13 @@ same_message : (one other : Message) → message_as one ≡ message_as other →
 same_message one other e = cc
 
 read_does : (state : AppliedState) (number : ℕ) (message : List ℕ) (applied : Application) (read : Message) → apply_at state number message ≡ Ok applied
-    → message_at state.profile (context_of state.held state.lines) number (bits_of message) ≡ Ok read → apply_read state number read ≡ applied
+    → server_message_in state.profile (context_of state.held state.lines) number (bits_of message) ≡ Ok read → apply_read state number read ≡ applied
 read_does state number message applied read e by =
     same_applied (apply_read state number read) applied
     (sym (ap (λ (r : Result Message Illegible). r >>= (λ (m : Message). applied_as (apply_read state number m))) by) ∙ e)
 
 -- what is left of a message that was read
-behind_read : (profile : Profile) (context : Context) (number : ℕ) (bits : List Bool) (read : Message) → message_at profile context number bits ≡ Ok read
+behind_read : (profile : Profile) (context : Context) (number : ℕ) (bits : List Bool) (read : Message) → server_message_in profile context number bits ≡ Ok read
     → (rest : List Bool) × (server_message_at profile context number bits ≡ Ok (read, rest))
 behind_read profile context number bits read e =
     let found = bind_ok (server_message_at profile context number bits) (λ (one : Message × List Bool). message_as one.0) read e in
@@ -214,7 +214,7 @@ record IsWhole (noted : Noted) (snapshot : Snapshot) (read message : Message) : 
 
 module _ (spelled : ReadIsSpelled) (accepted : AcceptedIsHeld) (contexts : AppliedIsContext) where
   is_whole_message : (noted : Noted) → IsNoted noted → (read : Message)
-      → message_at noted.before.profile (context_of noted.before.held noted.before.lines) noted.applied.answer.number (bits_of noted.message) ≡ Ok read
+      → server_message_in noted.before.profile (context_of noted.before.held noted.before.lines) noted.applied.answer.number (bits_of noted.message) ≡ Ok read
       → (base : ℕ) (snapshot : Snapshot) → read.section ≡ Snap base snapshot.head snapshot.entities → noted.applied.accepted ≡ Some snapshot
       → (message : Message) → whole_of noted.applied.state noted.message ≡ Some message → IsWhole noted snapshot read message
   is_whole_message noted is read by base snapshot section took message whole =
@@ -285,7 +285,7 @@ whole_is_normal profile context base snapshot is =
 whole_is_read : WrittenIsRead → MessageHoldsBits → (profile : Profile) (context other : Context) (number base : ℕ) (snapshot : Snapshot) (read : Message) (bytes : List ℕ) → IsCodec profile
     → IsContext profile other → IsRead profile context number read → read.section ≡ Snap base snapshot.head snapshot.entities
     → composed (server_message_bits profile other.lines None (whole_message (front_of read) snapshot)) ≡ Some bytes
-    → message_at profile other number (bits_of bytes) ≡ Ok (whole_message (front_of read) snapshot)
+    → server_message_in profile other number (bits_of bytes) ≡ Ok (whole_message (front_of read) snapshot)
 whole_is_read written holds profile context other number base snapshot read bytes codec is_context is section e =
     let whole = whole_message (front_of read) snapshot in
     let as_snap = subst (λ (s : Told). IsReadTold profile context s) section is.section in
@@ -297,11 +297,11 @@ whole_is_read written holds profile context other number base snapshot read byte
     with_rest message rest = Ok (message, rest)
 
 pub whole_applies : WrittenIsRead → ReadIsSpelled → MessageHoldsBits → AcceptedIsHeld → AppliedIsContext → (noted : Noted) → IsNoted noted → (read : Message)
-    → message_at noted.before.profile (context_of noted.before.held noted.before.lines) noted.applied.answer.number (bits_of noted.message) ≡ Ok read
+    → server_message_in noted.before.profile (context_of noted.before.held noted.before.lines) noted.applied.answer.number (bits_of noted.message) ≡ Ok read
     → (base : ℕ) (head : SnapHead) (entities : List EntityState) → read.section ≡ Snap base head entities → noted.applied.accepted ≡ Some (record { head = head; entities = entities })
     → (message : Message) → whole_of noted.applied.state noted.message ≡ Some message → (bytes : List ℕ) → composed (whole_bits noted.applied.state message) ≡ Some bytes
     → (play : AppliedState) → play.profile ≡ noted.before.profile → play.lines ≡ noted.before.lines → IsContext play.profile (context_of play.held play.lines)
-    → message_at play.profile (context_of play.held play.lines) noted.applied.answer.number (bits_of bytes) ≡ Ok (record { ack = read.ack; commands = read.commands; section = Snap 0 head entities })
+    → server_message_in play.profile (context_of play.held play.lines) noted.applied.answer.number (bits_of bytes) ≡ Ok (record { ack = read.ack; commands = read.commands; section = Snap 0 head entities })
 whole_applies written spelled holds accepted contexts noted is read by base head entities section took message whole bytes e play same_profile same_lines is_context =
     let snapshot : Snapshot = record { head = head; entities = entities } in
     let number = noted.applied.answer.number in

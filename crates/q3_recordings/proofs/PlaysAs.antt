@@ -16,7 +16,7 @@ use Rattle.q3_profile.specs.declared.profile.Profile.{Profile}
 use Rattle.q3_gamestate.specs.Values.{Gamestate}
 use Rattle.q3_svmsg.specs.Values.{Context, Told, Nothing, Game, Snap, Skipped, HasNumber, Message}
 use Rattle.q3_svmsg.specs.declared.error.Illegible.{Illegible}
-use Rattle.q3_svmsg.specs.Reading.{message_at}
+use Rattle.q3_svmsg.specs.Reading.{server_message_in}
 use Rattle.q3_svmsg.specs.Laws.{IsReadTold, IsRead, ReadIsSpelled, SpelledIsRead}
 use Rattle.q3_entity_ring.specs.Snapshot.{Snapshot}
 use Rattle.q3_rings.specs.declared.rings.NoBase.{NoBase}
@@ -210,7 +210,7 @@ heard_does {when} first client play number message other same like does =
 -- what was read of a message that the client applied
 pub record HasRead (noted : Noted) : Type 0 where
   pub read : Message
-  pub reads : message_at noted.before.profile (context_of noted.before.held noted.before.lines) noted.applied.answer.number (bits_of noted.message) ≡ Ok read
+  pub reads : server_message_in noted.before.profile (context_of noted.before.held noted.before.lines) noted.applied.answer.number (bits_of noted.message) ≡ Ok read
   pub does : noted.applied ≡ apply_read noted.before noted.applied.answer.number read
   pub is : IsRead noted.before.profile (context_of noted.before.held noted.before.lines) noted.applied.answer.number read
 
@@ -218,7 +218,7 @@ pub has_read : ReadIsSpelled → AppliedIsContext → (noted : Noted) → IsNote
 has_read spelled context noted is =
     let number = noted.applied.answer.number in
     let before = noted.before in
-    let found = bind_ok (message_at before.profile (context_of before.held before.lines) number (bits_of noted.message)) (λ (read : Message). Ok (apply_read before number read)) noted.applied is.applies in
+    let found = bind_ok (server_message_in before.profile (context_of before.held before.lines) number (bits_of noted.message)) (λ (read : Message). Ok (apply_read before number read)) noted.applied is.applies in
     let fits : number < 2 ^ 32 = let below = is.number in omega arith in
     let does : apply_read before number found.0 ≡ noted.applied = cc in
     record {
@@ -241,7 +241,7 @@ section_answers state number (Skipped base) =
 
 -- what is read while it plays does as the client's did
 plays_read : {when : Type 0} → (first : ℕ) (noted : Noted) (play : AppliedState) (message : List ℕ) (read : Message)
-    → message_at play.profile (context_of play.held play.lines) noted.applied.answer.number (bits_of message) ≡ Ok read
+    → server_message_in play.profile (context_of play.held play.lines) noted.applied.answer.number (bits_of message) ≡ Ok read
     → DoesAs when first noted.applied (apply_read play noted.applied.answer.number read) → Plays when first noted play message
 plays_read {when} first noted play message read reads does = record {
   applied = apply_read play noted.applied.answer.number read;
@@ -254,7 +254,7 @@ plays_read {when} first noted play message read reads does = record {
 
 -- and so of any reading of it
 pub has_read_of : ReadIsSpelled → AppliedIsContext → (noted : Noted) → IsNoted noted → (read : Message)
-    → message_at noted.before.profile (context_of noted.before.held noted.before.lines) noted.applied.answer.number (bits_of noted.message) ≡ Ok read
+    → server_message_in noted.before.profile (context_of noted.before.held noted.before.lines) noted.applied.answer.number (bits_of noted.message) ≡ Ok read
     → (has : HasRead noted) × (has.read ≡ read)
 has_read_of spelled context noted is read reads =
     let has = has_read spelled context noted is in
@@ -285,11 +285,11 @@ section_names first state number section newer e = tt
 
 -- what plays reads what its client would, if it held only those
 read_by : {when : Type 0} → (first : ℕ) (client play : AppliedState) (number : ℕ) (bits : List Bool) (read : Message) → PlaysAs when first client play
-    → message_at client.profile (context_of (held_since first client.held) client.lines) number bits ≡ Ok read → message_at play.profile (context_of play.held play.lines) number bits ≡ Ok read
+    → server_message_in client.profile (context_of (held_since first client.held) client.lines) number bits ≡ Ok read → server_message_in play.profile (context_of play.held play.lines) number bits ≡ Ok read
 read_by {when} first client play number bits read like e =
-    ap (λ (profile : Profile). message_at profile (context_of play.held play.lines) number bits) like.profile
-    ∙ ap (λ (held : HeldSnapshots). message_at client.profile (context_of held play.lines) number bits) like.held
-    ∙ ap (λ (lines : Lines). message_at client.profile (context_of (held_since first client.held) lines) number bits) like.lines
+    ap (λ (profile : Profile). server_message_in profile (context_of play.held play.lines) number bits) like.profile
+    ∙ ap (λ (held : HeldSnapshots). server_message_in client.profile (context_of held play.lines) number bits) like.held
+    ∙ ap (λ (lines : Lines). server_message_in client.profile (context_of (held_since first client.held) lines) number bits) like.lines
     ∙ e
 
 -- it plays by its own bytes
@@ -425,9 +425,9 @@ whole_does {when} first client play number base head entities read section like 
 -- it plays by the bytes of a message that has it whole
 pub plays_whole : {when : Type 0} → ReadIsSpelled → AppliedIsContext → (first : ℕ) (noted : Noted) (play : AppliedState) (bytes : List ℕ) (read : Message) (base : ℕ) (head : SnapHead) (entities : List EntityState)
     → PlaysAs when first noted.before play → IsNoted noted → first ≤ noted.applied.answer.number
-    → message_at noted.before.profile (context_of noted.before.held noted.before.lines) noted.applied.answer.number (bits_of noted.message) ≡ Ok read
+    → server_message_in noted.before.profile (context_of noted.before.held noted.before.lines) noted.applied.answer.number (bits_of noted.message) ≡ Ok read
     → read.section ≡ Snap base head entities
-    → message_at play.profile (context_of play.held play.lines) noted.applied.answer.number (bits_of bytes)
+    → server_message_in play.profile (context_of play.held play.lines) noted.applied.answer.number (bits_of bytes)
     ≡ Ok (record { ack = read.ack; commands = read.commands; section = Snap 0 head entities })
     → Plays when first noted play bytes
 plays_whole {when} spelled context first noted play bytes read base head entities like is from reads section there =
@@ -494,8 +494,8 @@ begun_plays spelled is_read context noted is whole =
     let names : NamesSince first (Snap 0 snap.head snap.entities) = inl refl in
     let since = read_since spelled is_read before.profile first before.held before.lines first read (bits_of noted.message) is.stands.profile (context before is.stands) fits
     (subst (NamesSince first) (sym snap.section) names) has.reads in
-    let reads : message_at before.profile (context_of (no_snapshots before.profile.parse_ring) before.lines) first (bits_of noted.message) ≡ Ok read =
-    ap (λ (context : Context). message_at before.profile context first (bits_of noted.message)) (begun_context first before is.stands newer) ∙ since in
+    let reads : server_message_in before.profile (context_of (no_snapshots before.profile.parse_ring) before.lines) first (bits_of noted.message) ≡ Ok read =
+    ap (λ (context : Context). server_message_in before.profile context first (bits_of noted.message)) (begun_context first before is.stands newer) ∙ since in
     let does = heard_does first before play first read read refl (begun_says noted first)
     (subst (λ (told : Told). DoesAs (IsWhole noted) first (apply_section (hearing before read.commands) first told) (apply_section (hearing play read.commands) first told)) (sym snap.section)
     (snap_alike first (hearing before read.commands) (hearing play read.commands) first 0 0 snap.head snap.entities (hearing_says before play read.commands (begun_says noted first))

@@ -10,7 +10,7 @@ use Rattle.q3_entity.specs.Spelling.{SpellsList}
 use Rattle.q3_profile.specs.declared.profile.Profile.{Profile}
 use Rattle.q3_profile.specs.Profile.{IsCodec}
 use Rattle.q3_svmsg.specs.Values.{Base, base_from, base_player, base_entities, Context, Told, Nothing, Game, Snap, Skipped, Message}
-use Rattle.q3_svmsg.specs.Reading.{held_base, server_message_at, message_at}
+use Rattle.q3_svmsg.specs.Reading.{held_base, server_message_at, server_message_in}
 use Rattle.q3_svmsg.specs.Spelling.{SpellsSnapshot, SpellsSkippedSnapshot, SpellsSection, SpellsMessage}
 use Rattle.q3_svmsg.specs.Laws.{IsContext, IsReadTold, IsRead, ReadIsSpelled, SpelledIsRead}
 use Rattle.q3_entity_ring.specs.Snapshot.{Snapshot}
@@ -87,7 +87,7 @@ record WasRead (profile : Profile) (context : Context) (number : ℕ) (message :
   rest : List Bool
   read : server_message_at profile context number bits ≡ Ok (message, rest)
 
-was_read : (profile : Profile) (context : Context) (number : ℕ) (message : Message) (bits : List Bool) → message_at profile context number bits ≡ Ok message
+was_read : (profile : Profile) (context : Context) (number : ℕ) (message : Message) (bits : List Bool) → server_message_in profile context number bits ≡ Ok message
     → WasRead profile context number message bits
 was_read profile context number message bits e =
     let found = bind_ok (server_message_at profile context number bits) (λ read. Ok read.0) message e in
@@ -96,7 +96,7 @@ was_read profile context number message bits e =
 
 -- what is read is well formed
 pub read_is : ReadIsSpelled → (profile : Profile) (context : Context) (number : ℕ) (message : Message) (bits : List Bool) → IsCodec profile → IsContext profile context → number < 2 ^ 32
-    → message_at profile context number bits ≡ Ok message → IsRead profile context number message
+    → server_message_in profile context number bits ≡ Ok message → IsRead profile context number message
 read_is spelled profile context number message bits codec is fits e =
     let was = was_read profile context number message bits e in
     (spelled profile context number message bits was.rest codec is was.read).0 fits
@@ -104,7 +104,7 @@ read_is spelled profile context number message bits codec is fits e =
 -- the same is read where the base that it names is the same
 pub read_alike : ReadIsSpelled → SpelledIsRead → (profile : Profile) (context other : Context) (number : ℕ) (message : Message) (bits : List Bool) → IsCodec profile
     → IsContext profile context → IsContext profile other → other.lines ≡ context.lines → SameBase context other message.section
-    → message_at profile context number bits ≡ Ok message → message_at profile other number bits ≡ Ok message
+    → server_message_in profile context number bits ≡ Ok message → server_message_in profile other number bits ≡ Ok message
 read_alike spelled is_read profile context other number message bits codec is is' lines same e =
     let was = was_read profile context number message bits e in
     let found = spelled profile context number message bits was.rest codec is was.read in
@@ -155,7 +155,7 @@ same_since profile first held lines (Skipped base) named is = none_from first he
 -- a message is read as the client read it, where it names none below the first
 pub read_since : ReadIsSpelled → SpelledIsRead → (profile : Profile) (first : ℕ) (held : HeldSnapshots) (lines : Lines) (number : ℕ) (message : Message) (bits : List Bool)
     → IsCodec profile → IsContext profile (context_of held lines) → number < 2 ^ 32 → NamesSince first message.section
-    → message_at profile (context_of held lines) number bits ≡ Ok message → message_at profile (context_of (held_since first held) lines) number bits ≡ Ok message
+    → server_message_in profile (context_of held lines) number bits ≡ Ok message → server_message_in profile (context_of (held_since first held) lines) number bits ≡ Ok message
 read_since spelled is_read profile first held lines number message bits codec is fits named e =
     let context = context_of held lines in
     let other = context_of (held_since first held) lines in

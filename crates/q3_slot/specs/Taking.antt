@@ -18,7 +18,7 @@ use Rattle.q3_clmsg.specs.declared.error.ClientIllegible.{ClientIllegible}
 use Rattle.q3_clmsg.specs.declared.error.ClientIllegible.TheVariants as causes
 use Rattle.q3_clmsg.specs.Moves.{message_key}
 use Rattle.q3_clmsg.specs.Values.{Message}
-use Rattle.q3_clmsg.specs.Reading.{heads_at, client_at}
+use Rattle.q3_clmsg.specs.Reading.{heads_in, client_message_in}
 use Rattle.q3_slot.specs.declared.taking.ServerTook.{ServerTook}
 use Rattle.q3_slot.specs.declared.taking.ServerTook.TheVariants.{Runt, Connectionless, Old, OutOfOrder, BadCheck, BadFragment, Partial, Illegible, Ignored, Gap, Ran}
 use Rattle.q3_map.specs.Map.{MapState, is_other}
@@ -216,7 +216,7 @@ with_heads heads message = record message { id = heads.id; acknowledged = heads.
 -- acknowledges
 abbrev pub said_under : Profile → ℕ → ℕ → Heads → List ℕ → List ℕ → Result Message ClientIllegible
 said_under profile feed challenge heads text bytes = do
-  message ← client_at profile.code (message_key feed heads.acknowledged text) (bits_of (cleared profile.protocol challenge heads text bytes))
+  message ← client_message_in profile.code (message_key feed heads.acknowledged text) (bits_of (cleared profile.protocol challenge heads text bytes))
   Ok (with_heads heads message)
 
 -- a message of the map, or why it isn't legible
@@ -233,7 +233,7 @@ came_under profile map challenge heads text bytes =
 -- what bytes are as a message of the client in a slot: the leading longs count as they are read before it is cleared
 abbrev pub said_by : Profile → MapState → SlotState → List ℕ → Result Came ClientIllegible
 said_by profile map slot bytes = do
-  heads ← fault_as causes.Bits (heads_at profile.code (bits_of bytes))
+  heads ← fault_as causes.Bits (heads_in profile.code (bits_of bytes))
   taken ← ack_taken heads.command (acknowledge_at slot.issued heads.command).answer
   came_under profile map slot.challenge heads (text_at slot.issued heads.command) bytes
 

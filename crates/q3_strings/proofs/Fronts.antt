@@ -7,7 +7,7 @@ use Rattle.q3_bits.specs.Streams.{Reading}
 use Rattle.q3_bits.specs.declared.reader.ReadError.{ReadError}
 use Rattle.q3_text.specs.Texts.{translated, IsTextByte}
 use Rattle.q3_strings.specs.declared.error.StringError.TheVariants.{Bits, Long}
-use Rattle.q3_strings.specs.Reading.{bytes_after, string_after}
+use Rattle.q3_strings.specs.Reading.{string_bytes_at, bounded_string_at}
 
 -- bytes that are read, and what is behind them
 abbrev pub Read : Type 0 → Type 0
@@ -57,42 +57,42 @@ by_words words same bits answer is read = ap (λ (ws : List (List Bool)). field_
 
 -- ---- so many bytes
 
-pub bytes_none : (words : List (List Bool)) (bits : List Bool) → bytes_after words 0 bits ≡ Ok ([], bits)
-unfolding bytes_after
+pub bytes_none : (words : List (List Bool)) (bits : List Bool) → string_bytes_at words 0 bits ≡ Ok ([], bits)
+unfolding string_bytes_at
 bytes_none words bits = refl
 
 pub bytes_more : (words same : List (List Bool)) (count : ℕ) (bits : List Bool) (byte : ℕ) (rest : List Bool) → same ≡ words → Ok (byte, rest) ≡ field_at same 8 bits
-    → bytes_after words (suc count) bits ≡ with_front (byte ∷ []) (bytes_after words count rest)
-unfolding bytes_after
+    → string_bytes_at words (suc count) bits ≡ with_front (byte ∷ []) (string_bytes_at words count rest)
+unfolding string_bytes_at
 bytes_more words same count bits byte rest is read = rw (by_words words same bits _ is read) refl
 
 pub bytes_fault : (words same : List (List Bool)) (count : ℕ) (bits : List Bool) (e : ReadError) → same ≡ words → Err e ≡ field_at same 8 bits
-    → bytes_after words (suc count) bits ≡ Err e
-unfolding bytes_after
+    → string_bytes_at words (suc count) bits ≡ Err e
+unfolding string_bytes_at
 bytes_fault words same count bits e is read = rw (by_words words same bits _ is read) refl
 
 -- ---- a string
 
 pub string_end : (words same : List (List Bool)) (most : ℕ) (bits : List Bool) (byte : ℕ) (rest : List Bool) → same ≡ words → Ok (byte, rest) ≡ field_at same 8 bits
-    → (byte == 0) ≡ true → string_after words most bits ≡ Ok ([], rest)
-unfolding string_after
+    → (byte == 0) ≡ true → bounded_string_at words most bits ≡ Ok ([], rest)
+unfolding bounded_string_at
 string_end words same zero bits byte rest is read none = rw (by_words words same bits _ is read, none) refl
 string_end words same (suc most) bits byte rest is read none = rw (by_words words same bits _ is read, none) refl
 
 pub string_more : (words same : List (List Bool)) (most : ℕ) (bits : List Bool) (byte : ℕ) (rest : List Bool) → same ≡ words → Ok (byte, rest) ≡ field_at same 8 bits
-    → (byte == 0) ≡ false → string_after words (suc most) bits ≡ with_front (translated byte ∷ []) (string_after words most rest)
-unfolding string_after
+    → (byte == 0) ≡ false → bounded_string_at words (suc most) bits ≡ with_front (translated byte ∷ []) (bounded_string_at words most rest)
+unfolding bounded_string_at
 string_more words same most bits byte rest is read some = rw (by_words words same bits _ is read, some) refl
 
 pub string_fault : (words same : List (List Bool)) (most : ℕ) (bits : List Bool) (e : ReadError) → same ≡ words → Err e ≡ field_at same 8 bits
-    → string_after words most bits ≡ Err (Bits e)
-unfolding string_after
+    → bounded_string_at words most bits ≡ Err (Bits e)
+unfolding bounded_string_at
 string_fault words same zero bits e is read = rw (by_words words same bits _ is read) refl
 string_fault words same (suc most) bits e is read = rw (by_words words same bits _ is read) refl
 
 pub string_long : (words same : List (List Bool)) (bits : List Bool) (byte : ℕ) (rest : List Bool) → same ≡ words → Ok (byte, rest) ≡ field_at same 8 bits
-    → (byte == 0) ≡ false → string_after words 0 bits ≡ Err Long
-unfolding string_after
+    → (byte == 0) ≡ false → bounded_string_at words 0 bits ≡ Err Long
+unfolding bounded_string_at
 string_long words same bits byte rest is read some = rw (by_words words same bits _ is read, some) refl
 
 -- ---- bytes of a text

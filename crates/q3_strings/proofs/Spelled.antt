@@ -13,7 +13,7 @@ use Rattle.q3_text.specs.Texts.{most_bytes, translated, IsTextByte}
 use Rattle.q3_strings.specs.declared.error.StringError.{StringError}
 use Rattle.q3_strings.specs.declared.error.StringError.TheVariants.{Bits, Long}
 use Rattle.q3_strings.specs.Texts.{bytes_row, string_bits}
-use Rattle.q3_strings.specs.Reading.{bytes_after, string_after, command_at}
+use Rattle.q3_strings.specs.Reading.{string_bytes_at, bounded_string_at, command_at}
 use Rattle.q3_strings.specs.Spelling.{SpellsString, SpellsCommand}
 use Rattle.q3_strings.specs.Rows.{row-none, WasField, field_was_put, row-first, row-last}
 use Rattle.q3_strings.specs.Laws.{IsCommand, BytesWerePut, BytesAreRead, StringReadIsSpelled, StringSpelledIsRead, CommandReadIsSpelled, CommandSpelledIsRead}
@@ -27,15 +27,15 @@ record ReadBytes (words : List (List Bool)) (count : ℕ) (bits : List Bool) (fo
   each : All (λ byte. byte < 256) found.0
   parts : bits ≡ bytes_row words found.0 ++ found.1
 
-bytes_were : ReadWasPut → (words : List (List Bool)) → IsCode words → (count : ℕ) (bits : List Bool) (found : List ℕ × List Bool) → bytes_after words count bits ≡ Ok found
+bytes_were : ReadWasPut → (words : List (List Bool)) → IsCode words → (count : ℕ) (bits : List Bool) (found : List ℕ × List Bool) → string_bytes_at words count bits ≡ Ok found
     → ReadBytes words count bits found
-unfolding bytes_after
+unfolding string_bytes_at
 bytes_were put words code zero bits found e =
     let same : ([], bits) ≡ found = cc in
     subst (ReadBytes words 0 bits) {x = ([], bits)} same (record { long = refl; each = All-nil (λ (byte : ℕ). byte < 256); parts = row-none words bits })
 bytes_were put words code (suc count) bits found e =
-    let byte = bind_ok (field_at words 8 bits) (λ byte. bytes_after words count byte.1 >>= λ others. Ok (byte.0 ∷ others.0, others.1)) found e in
-    let others = bind_ok (bytes_after words count byte.0.1) (λ others. Ok (byte.0.0 ∷ others.0, others.1)) found byte.2 in
+    let byte = bind_ok (field_at words 8 bits) (λ byte. string_bytes_at words count byte.1 >>= λ others. Ok (byte.0 ∷ others.0, others.1)) found e in
+    let others = bind_ok (string_bytes_at words count byte.0.1) (λ others. Ok (byte.0.0 ∷ others.0, others.1)) found byte.2 in
     let made = others.2 in
     let same : (byte.0.0 ∷ others.0.0, others.0.1) ≡ found = cc in
     let was = field_was_put put words 8 bits byte.0 code byte.1 in
@@ -104,9 +104,9 @@ string_goes_on put words code most bits byte others e some read =
       parts = was.row (map (λ byte. (byte, 8)) (bytes ++ 0 ∷ [])) others.1 (read.parts ∙ ap (λ (text : List Bool). text ++ others.1) read.spells.4);
     }
 
-string_was : ReadWasPut → (words : List (List Bool)) → IsCode words → (most : ℕ) (bits : List Bool) (found : List ℕ × List Bool) → string_after words most bits ≡ Ok found
+string_was : ReadWasPut → (words : List (List Bool)) → IsCode words → (most : ℕ) (bits : List Bool) (found : List ℕ × List Bool) → bounded_string_at words most bits ≡ Ok found
     → ReadString words most bits found
-unfolding string_after
+unfolding bounded_string_at
 string_was put words code zero bits found e =
     let byte = bind_ok (fault_as Bits (field_at words 8 bits)) (λ byte. cond (eqb byte.0 0) (Ok ([], byte.1)) (Err Long)) found e in
     let read = map_err_ok Bits (field_at words 8 bits) byte.0 byte.1 in
@@ -119,7 +119,7 @@ string_was put words code zero bits found e =
     ]
 string_was put words code (suc most) bits found e =
     let byte = bind_ok (fault_as Bits (field_at words 8 bits))
-    (λ byte. cond (eqb byte.0 0) (Ok ([], byte.1)) (string_after words most byte.1 >>= λ others. Ok (translated byte.0 ∷ others.0, others.1))) found e in
+    (λ byte. cond (eqb byte.0 0) (Ok ([], byte.1)) (bounded_string_at words most byte.1 >>= λ others. Ok (translated byte.0 ∷ others.0, others.1))) found e in
     let read = map_err_ok Bits (field_at words 8 bits) byte.0 byte.1 in
     elim (cases_Bool (eqb byte.0.0 0)) [
       | inl none ↦
@@ -127,7 +127,7 @@ string_was put words code (suc most) bits found e =
           let same : ([], byte.0.1) ≡ found = cc in
           subst (ReadString words (suc most) bits) {x = ([], byte.0.1)} same (string_stops put words code (suc most) bits byte.0 read (eqb-true byte.0.0 0 none))
       | inr some ↦
-          let others = bind_ok (string_after words most byte.0.1) (λ others. Ok (translated byte.0.0 ∷ others.0, others.1)) found (rw some at byte.2) in
+          let others = bind_ok (bounded_string_at words most byte.0.1) (λ others. Ok (translated byte.0.0 ∷ others.0, others.1)) found (rw some at byte.2) in
           let made = others.2 in
           let same : (translated byte.0.0 ∷ others.0.0, others.0.1) ≡ found = cc in
           subst (ReadString words (suc most) bits) {x = (translated byte.0.0 ∷ others.0.0, others.0.1)} same
@@ -141,7 +141,7 @@ string_was_spelled put words most text bits rest code e =
 
 -- a string that is spelled so is read
 bytes_of_string : (words : List (List Bool)) → IsCode words → PutIsRead → (bytes : List ℕ) (most : ℕ) (rest : List Bool) → All IsByte bytes → length bytes ≤ most
-    → string_after words most (string_bits words bytes ++ rest) ≡ Ok (map translated bytes, rest)
+    → bounded_string_at words most (string_bits words bytes ++ rest) ≡ Ok (map translated bytes, rest)
 unfolding row_bits
 bytes_of_string words code put [] most rest each short =
     string_end words words most (string_bits words [] ++ rest) 0 rest refl (sym (row-last words code put 0 8 rest (omega arith))) refl
@@ -155,7 +155,7 @@ bytes_of_string words code put (byte ∷ bytes) (suc most) rest each short =
 
 pub string_is_read : PutIsRead → StringSpelledIsRead
 string_is_read put words most text spelling rest code (bytes, each, short, is, whole) =
-    ap (λ (bits : List Bool). string_after words most (bits ++ rest)) whole ∙ bytes_of_string words code put bytes most rest each short
+    ap (λ (bits : List Bool). bounded_string_at words most (bits ++ rest)) whole ∙ bytes_of_string words code put bytes most rest each short
     ∙ ap (λ (text : List ℕ). Ok (text, rest)) (sym is)
 
 -- ---- commands
@@ -183,8 +183,8 @@ command_was words bits number string was were =
 pub command_was_spelled : ReadWasPut → StringReadIsSpelled → CommandReadIsSpelled
 unfolding command_at
 command_was_spelled put law words command bits rest code e =
-    let number = bind_ok (fault_as Bits (field_at words 32 bits)) (λ number. string_after words most_bytes number.1 >>= λ text. Ok (record { number = number.0; text = text.0 }, text.1)) (command, rest) e in
-    let string = bind_ok (string_after words most_bytes number.0.1) (λ text. Ok (record { number = number.0.0; text = text.0 }, text.1)) (command, rest) number.2 in
+    let number = bind_ok (fault_as Bits (field_at words 32 bits)) (λ number. bounded_string_at words most_bytes number.1 >>= λ text. Ok (record { number = number.0; text = text.0 }, text.1)) (command, rest) e in
+    let string = bind_ok (bounded_string_at words most_bytes number.0.1) (λ text. Ok (record { number = number.0.0; text = text.0 }, text.1)) (command, rest) number.2 in
     let was = field_was_put put words 32 bits number.0 code (map_err_ok Bits (field_at words 32 bits) number.0 number.1) in
     let were = law words most_bytes string.0.0 number.0.1 string.0.1 code string.1 in
     let made = string.2 in

@@ -7,7 +7,7 @@ use Rattle.q3_text.specs.declared.text.Command.{Command}
 use Rattle.q3_text.specs.Commands.{numbered}
 use Rattle.q3_text.specs.Texts.{IsText, IsTextByte}
 use Rattle.q3_strings.specs.Texts.{bytes_row, string_bits, command_bits}
-use Rattle.q3_strings.specs.Reading.{bytes_after, string_after, command_at}
+use Rattle.q3_strings.specs.Reading.{string_bytes_at, bounded_string_at, command_at}
 use Rattle.q3_strings.specs.Spelling.{SpellsString, SpellsCommand}
 use Rattle.q3_strings.specs.Commands.{commands_bits, nops_bits, SpellsNops, SpellsCommands, SpellsRow, SpellsEnding}
 use Rattle.q3_strings.specs.Operations.{Row, row_at, ending_at}
@@ -20,12 +20,12 @@ pub record IsCommand (command : Command) : Type 0 where
 
 -- bytes that are read were put, and bytes that are put are read, with whatever follows them
 abbrev pub BytesWerePut : Type 0
-BytesWerePut = (words : List (List Bool)) (count : ℕ) (bytes : List ℕ) (bits rest : List Bool) → IsCode words → bytes_after words count bits ≡ Ok (bytes, rest)
+BytesWerePut = (words : List (List Bool)) (count : ℕ) (bytes : List ℕ) (bits rest : List Bool) → IsCode words → string_bytes_at words count bits ≡ Ok (bytes, rest)
     → (length bytes ≡ count) × All (λ byte. byte < 256) bytes × (bits ≡ bytes_row words bytes ++ rest)
 
 abbrev pub BytesAreRead : Type 0
 BytesAreRead = (words : List (List Bool)) (bytes : List ℕ) (rest : List Bool) → IsCode words → All (λ byte. byte < 256) bytes
-    → bytes_after words (length bytes) (bytes_row words bytes ++ rest) ≡ Ok (bytes, rest)
+    → string_bytes_at words (length bytes) (bytes_row words bytes ++ rest) ≡ Ok (bytes, rest)
 
 -- what is written of bytes that a text may hold spells them
 abbrev pub StringIsSpelled : Type 0
@@ -34,13 +34,13 @@ StringIsSpelled = (words : List (List Bool)) (most : ℕ) (text : List ℕ) → 
 
 -- what is read as a string was spelled so, and holds bytes that a text may hold
 abbrev pub StringReadIsSpelled : Type 0
-StringReadIsSpelled = (words : List (List Bool)) (most : ℕ) (text : List ℕ) (bits rest : List Bool) → IsCode words → string_after words most bits ≡ Ok (text, rest)
+StringReadIsSpelled = (words : List (List Bool)) (most : ℕ) (text : List ℕ) (bits rest : List Bool) → IsCode words → bounded_string_at words most bits ≡ Ok (text, rest)
     → All IsTextByte text × (spelling : List Bool) × (bits ≡ spelling ++ rest) × SpellsString words most text spelling
 
 -- what is spelled so is read, with whatever follows it
 abbrev pub StringSpelledIsRead : Type 0
 StringSpelledIsRead = (words : List (List Bool)) (most : ℕ) (text : List ℕ) (spelling rest : List Bool) → IsCode words → SpellsString words most text spelling
-    → string_after words most (spelling ++ rest) ≡ Ok (text, rest)
+    → bounded_string_at words most (spelling ++ rest) ≡ Ok (text, rest)
 
 -- what is written of a command spells it
 abbrev pub CommandIsSpelled : Type 0

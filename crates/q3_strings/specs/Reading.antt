@@ -9,27 +9,27 @@ use Rattle.q3_strings.specs.declared.error.StringError.{StringError}
 use Rattle.q3_strings.specs.declared.error.StringError.TheVariants.{Bits, Long}
 
 -- so many bytes
-unfoldable pub bytes_after : List (List Bool) → ℕ → List Bool → Result (List ℕ × List Bool) ReadError
-bytes_after words zero bits = Ok ([], bits)
-bytes_after words (suc count) bits = do
+unfoldable pub string_bytes_at : List (List Bool) → ℕ → List Bool → Result (List ℕ × List Bool) ReadError
+string_bytes_at words zero bits = Ok ([], bits)
+string_bytes_at words (suc count) bits = do
   byte ← field_at words 8 bits
-  others ← bytes_after words count byte.1
+  others ← string_bytes_at words count byte.1
   Ok (byte.0 ∷ others.0, others.1)
 
 -- a string: bytes, each translated, up to a 0 that comes after at most so many
-unfoldable pub string_after : List (List Bool) → ℕ → List Bool → Result (List ℕ × List Bool) StringError
-string_after words zero bits = do
+unfoldable pub bounded_string_at : List (List Bool) → ℕ → List Bool → Result (List ℕ × List Bool) StringError
+bounded_string_at words zero bits = do
   byte ← fault_as Bits (field_at words 8 bits)
   if byte.0 == 0 then Ok ([], byte.1) else Err Long
-string_after words (suc most) bits = do
+bounded_string_at words (suc most) bits = do
   byte ← fault_as Bits (field_at words 8 bits)
   if byte.0 == 0 then Ok ([], byte.1) else (do
-    others ← string_after words most byte.1
+    others ← bounded_string_at words most byte.1
     Ok (translated byte.0 ∷ others.0, others.1))
 
 -- a command behind its operation
 unfoldable pub command_at : List (List Bool) → List Bool → Result (Command × List Bool) StringError
 command_at words bits = do
   number ← fault_as Bits (field_at words 32 bits)
-  text ← string_after words most_bytes number.1
+  text ← bounded_string_at words most_bytes number.1
   Ok (record { number = number.0; text = text.0 }, text.1)

@@ -6,7 +6,7 @@ ghost use Rattle.std.specs.Prelude.{◌≡◌, ◌≤◌, All};
 ghost use Rattle.q3_bits.specs.Words.{field_at};
 ghost use Rattle.q3_bits.specs.Streams.{Reads, holding};
 ghost use Rattle.q3_text.specs.Texts.{IsTextByte, most_bytes};
-ghost use Rattle.q3_strings.specs.Reading.{bytes_after, string_after, command_at};
+ghost use Rattle.q3_strings.specs.Reading.{string_bytes_at, bounded_string_at, command_at};
 
 use crate::error::StringError;
 use arrayvec::ArrayVec;
@@ -24,7 +24,7 @@ pub fn read_bytes<const N: usize>(
     into: &mut ArrayVec<u8, N>,
 ) -> Result<(), ReadError>
     requires { count ≤ N }
-    ensures { Reads r.old r.new (bytes_after r.old.words count r.old.left) (holding into.new.items result) }
+    ensures { Reads r.old r.new (string_bytes_at r.old.words count r.old.left) (holding into.new.items result) }
 {
     into.clear();
     let mut own = r.copy();
@@ -42,7 +42,7 @@ pub fn read_string<const N: usize>(
     r: &mut Reader,
     into: &mut ArrayVec<u8, N>,
 ) -> Result<(), StringError>
-    ensures reads { Reads r.old r.new (string_after r.old.words N r.old.left) (holding into.new.items result) }
+    ensures reads { Reads r.old r.new (bounded_string_at r.old.words N r.old.left) (holding into.new.items result) }
     ensures each { All IsTextByte into.new.items }
 {
     into.clear();
@@ -66,7 +66,7 @@ pub fn read_string<const N: usize>(
 /// `read_string`.
 #[inline(always)]
 pub fn read_text(r: &mut Reader, into: &mut Text) -> Result<(), StringError>
-    ensures { Reads r.old r.new (string_after r.old.words most_bytes r.old.left) (holding into.new result) }
+    ensures { Reads r.old r.new (bounded_string_at r.old.words most_bytes r.old.left) (holding into.new result) }
 {
     into.clear();
     let mut own = r.copy();

@@ -7,7 +7,7 @@ use Rattle.q3_bits.specs.ResultBind.{fault_as, bind_ok, map_err_ok}
 use Rattle.q3_bits.specs.Words.{IsCode, row_bits}
 use Rattle.q3_bits.specs.Laws.{PutIsRead, ReadWasPut}
 use Rattle.q3_strings.specs.Texts.{bytes_row}
-use Rattle.q3_strings.specs.Reading.{bytes_after}
+use Rattle.q3_strings.specs.Reading.{string_bytes_at}
 use Rattle.q3_strings.specs.Rows.{row-none, row-last}
 use Rattle.q3_strings.specs.Laws.{BytesWerePut, BytesAreRead}
 use Rattle.q3_svmsg.specs.declared.error.Illegible.TheVariants.{Bits, Area}
@@ -23,12 +23,12 @@ pub record ReadArea (words : List (List Bool)) (bits : List Bool) (found : List 
 pub area_was_spelled : ReadWasPut → BytesWerePut → (words : List (List Bool)) → IsCode words → (bits : List Bool) (found : List ℕ × List Bool) → area_at words bits ≡ Ok found → ReadArea words bits found
 unfolding area_at
 area_was_spelled put bytes words code bits found e =
-    let count = bind_ok (field_read words 8 bits) (λ count. cond (ltb 32 count.0) (Err (Area count.0)) (fault_as Bits (bytes_after words count.0 count.1))) found e in
+    let count = bind_ok (field_read words 8 bits) (λ count. cond (ltb 32 count.0) (Err (Area count.0)) (fault_as Bits (string_bytes_at words count.0 count.1))) found e in
     elim (cases_Bool (ltb 32 count.0.0)) [
       | inl many ↦ absurd (let wrong = rw many at count.2 in cc)
       | inr few ↦
           let was = field_was put words 8 bits count.0 code count.1 in
-          let were = bytes words count.0.0 found.0 count.0.1 found.1 code (map_err_ok Bits (bytes_after words count.0.0 count.0.1) found (rw few at count.2)) in
+          let were = bytes words count.0.0 found.0 count.0.1 found.1 code (map_err_ok Bits (string_bytes_at words count.0.0 count.0.1) found (rw few at count.2)) in
           let short : count.0.0 ≤ 32 = grind (arith, nat_tests) in
           record {
             short = omega (arith, short, were.0);

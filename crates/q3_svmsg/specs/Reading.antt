@@ -5,7 +5,7 @@ use Rattle.q3_bits.specs.Words.{field_at}
 use Rattle.q3_bits.specs.declared.reader.ReadError.{ReadError}
 use Rattle.q3_strings.specs.declared.error.OperationError.{OperationError}
 use Rattle.q3_strings.specs.declared.error.OperationError.TheVariants as operations
-use Rattle.q3_strings.specs.Reading.{bytes_after}
+use Rattle.q3_strings.specs.Reading.{string_bytes_at}
 use Rattle.q3_strings.specs.Operations.{row_at, ending_at}
 use Rattle.q3_player.specs.declared.head.SnapHead.{SnapHead}
 use Rattle.q3_player.specs.State.{zero_player}
@@ -90,7 +90,7 @@ against_base profile context (suc distance) base None head bits = do
 unfoldable pub area_at : List (List Bool) → List Bool → Result (List ℕ × List Bool) Illegible
 area_at words bits = do
   count ← field_read words 8 bits
-  if nat_lt 32 count.0 then Err (Area count.0) else fault_as Bits (bytes_after words count.0 count.1)
+  if nat_lt 32 count.0 then Err (Area count.0) else fault_as Bits (string_bytes_at words count.0 count.1)
 
 -- a snapshot behind its operation
 unfoldable pub section_at : Profile → Context → ℕ → List Bool → Result (Told × List Bool) Illegible
@@ -133,5 +133,5 @@ server_message_at profile context number bits = do
   operations_at profile context number (record { ack = ack.0; commands = []; section = Nothing }) ack.1
 
 -- a server's message: its value alone
-abbrev pub message_at : Profile → Context → ℕ → List Bool → Result Message Illegible
-message_at profile context number bits = server_message_at profile context number bits >>= λ read. Ok read.0
+abbrev pub server_message_in : Profile → Context → ℕ → List Bool → Result Message Illegible
+server_message_in profile context number bits = server_message_at profile context number bits >>= λ read. Ok read.0

@@ -9,7 +9,7 @@ ghost use Rattle.q3_player.specs.State.{zero_player};
 ghost use Rattle.q3_entity.specs.Entities.{Rises};
 ghost use Rattle.q3_gamestate.specs.Values.{Gamestate};
 ghost use Rattle.q3_svmsg.specs.Values.{Base, Game, Message, base_viewed, base_player, base_entities, number_of_base, game_of, told_of, section_of, HasList, HasNumber};
-ghost use Rattle.q3_svmsg.specs.Reading.{ack_at, area_at, game_at, held_base, snapshot_at, snapshot_skipped, against_base, section_at, rest_at, operations_at, message_at, telling};
+ghost use Rattle.q3_svmsg.specs.Reading.{ack_at, area_at, game_at, held_base, snapshot_at, snapshot_skipped, against_base, section_at, rest_at, operations_at, server_message_in, telling};
 
 use crate::bases::{BaseView, Bases, base_or};
 use crate::error::Illegible;
@@ -253,7 +253,7 @@ pub fn read_server_message<B: Bases>(
     bases: &B,
     into: &mut ServerMessage,
 ) -> Result<(), Illegible>
-    ensures reads { holding (told_of into.new) result ≡ message_at profile.now (B.context bases.now) number (bits_of bytes.now) }
+    ensures reads { holding (told_of into.new) result ≡ server_message_in profile.now (B.context bases.now) number (bits_of bytes.now) }
     ensures list { OnOk result (HasList profile.now.entity (told_of into.new).section) }
     ensures number { OnOk result (HasNumber number (told_of into.new).section) }
 {

@@ -4,7 +4,7 @@ use Rattle.std.proofs.lemmas.List.{append-nil}
 use Rattle.std.proofs.lemmas.List.Elements.{All-push}
 use Rattle.q3_bits.specs.Streams.{Reading}
 use Rattle.q3_text.specs.Texts.{translated, IsTextByte}
-use Rattle.q3_strings.specs.Reading.{string_after}
+use Rattle.q3_strings.specs.Reading.{bounded_string_at}
 use Rattle.q3_strings.proofs.Fronts.{isnt_zero, translated_is_text, front_more, front_stops, front_ends, string_end, string_more, string_fault, string_long}
 use Rattle.q3_strings.proofs.reading.read_string.Goals as goal
 
@@ -39,7 +39,7 @@ loop-preserved g c =
     let byte = c.in_ok-byte.byte in
     let some : 0 < byte = omega (arith, c.if-byte-eq0.false) in
     let one : g.row.N - c.loop.counter ≡ suc (g.row.N - (c.loop.counter + 1)) = omega arith in
-    let more = ap (λ (n : ℕ). string_after words n c.loop.own.left) one
+    let more = ap (λ (n : ℕ). bounded_string_at words n c.loop.own.left) one
     ∙ string_more words c.loop.own.words (g.row.N - (c.loop.counter + 1)) c.loop.own.left byte c.get_byte.new.self.left h.words c.in_ok-byte.ensures.reads.value (isnt_zero byte some) in
     record {
       same = c.loop.invariant.same;
@@ -67,7 +67,7 @@ returns-then-branch-ne0-clause-reads g c =
     let byte = c.in_ok-get_byte.field-0 in
     let none : g.row.N - c.loop.counter ≡ 0 = omega arith in
     let some : 0 < byte = omega (arith, c.if-branch-ne0.true) in
-    let long = ap (λ (n : ℕ). string_after words n c.loop.own.left) none ∙ string_long words c.loop.own.words c.loop.own.left byte c.get_byte-2.new.self.left h.words c.in_ok-get_byte.ensures.reads.value (isnt_zero byte some) in
+    let long = ap (λ (n : ℕ). bounded_string_at words n c.loop.own.left) none ∙ string_long words c.loop.own.words c.loop.own.left byte c.get_byte-2.new.self.left h.words c.in_ok-get_byte.ensures.reads.value (isnt_zero byte some) in
     record {
       value = front_stops _ _ _ _ _ _ h long;
       words = ap (λ (reader : Reading). reader.words) c.loop.invariant.same;

@@ -1,6 +1,6 @@
 use Rattle.std.proofs.Common.{◌≡◌, ◌-◌, length}
 use Rattle.q3_text.specs.Texts.{most_bytes}
-use Rattle.q3_strings.specs.Reading.{string_after}
+use Rattle.q3_strings.specs.Reading.{bounded_string_at}
 use Rattle.q3_strings.proofs.Fronts.{HasFront}
 use Rattle.q3_strings.proofs.reading.read_text.Given as goal
 
@@ -9,5 +9,5 @@ abbrev pub invariant-loop : goal.invariant-loop
 invariant-loop l = record {
   same : l.r ≡ l.fn.r;
   count : length l.into ≡ l.counter;
-  reads : HasFront l.fn.r l.own l.into (string_after l.fn.r.words (most_bytes - l.counter) l.own.left) (string_after l.fn.r.words most_bytes l.fn.r.left);
+  reads : HasFront l.fn.r l.own l.into (bounded_string_at l.fn.r.words (most_bytes - l.counter) l.own.left) (bounded_string_at l.fn.r.words most_bytes l.fn.r.left);
 }
