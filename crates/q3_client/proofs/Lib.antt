@@ -1,3 +1,4 @@
 pub mod Applies
 pub mod Begins
 pub mod Stays
+pub mod Received

@@ -20,6 +20,9 @@ use std::alloc::Global;
 /// The latest time of a node's script, in milliseconds.
 const LAST_TIME: u32 = 3_600_000;
 
+/// The greatest number of a datagram that a line can name.
+const LAST_DATAGRAM: u32 = 65_536;
+
 /// The only word, a number from `low` to `high`.
 #[tactic(auto, using(crate::proofs::Steps::only_steps))]
 fn only_number(left: &[u8], low: u32, high: u32) -> Result<u32, LineCause>
@@ -224,7 +227,7 @@ fn deliver(left: &[u8]) -> Result<Event, LineCause>
     ensures { result ≡ deliver_line (words_left left.now) }
 {
     Ok(Event::Deliver {
-        datagram: only_number(left, 1, 65_536)?,
+        datagram: only_number(left, 1, LAST_DATAGRAM)?,
     })
 }
 
@@ -263,7 +266,7 @@ fn bytes(left: &[u8]) -> Result<Event, LineCause>
     ensures { result ≡ bytes_line (words_left left.now) }
 {
     Ok(Event::Bytes {
-        datagram: only_number(left, 1, 65_536)?,
+        datagram: only_number(left, 1, LAST_DATAGRAM)?,
     })
 }
 
