@@ -8,6 +8,7 @@ use Rattle.q3_slot.specs.Emitting.{SlotEmission, most_placed}
 use Rattle.q3_slot.specs.Slots.{emission_of, game_emission, snapshot_emission, slot_of, slot_after, map_after, frames_after, answer_of, piece_of}
 use Rattle.q3_slot.proofs.Begun.{emits_game, emits_snapshot}
 use Rattle.q3_slot.proofs.slot.Slot.emit.Goals as goal
+use Rattle.q3_slot.proofs.slot.Slot.emit.Goals.{After-begin_owed}
 
 pub returns : goal.returns
 returns c =
@@ -39,14 +40,14 @@ returns c =
     }
 
 -- the slot before a gamestate that is owed
-abbrev first : goal.After-begin_owed → SlotState
+abbrev first : After-begin_owed → SlotState
 first c = slot_of c.self.inside.sender c.self.inside.gatherer c.self.inside.issued c.in-Some.client
 
-is_first : (c : goal.After-begin_owed) → Some (first c) ≡ c.args.self.now
+is_first : (c : After-begin_owed) → Some (first c) ≡ c.args.self.now
 is_first c = search rules
 
 -- what it emits
-emits : (c : goal.After-begin_owed)
+emits : (c : After-begin_owed)
     → game_emission c.args.profile.now c.args.map.now c.args.frames.now c.args.slot (first c)
     ≡ emission_of c.args.profile.now c.args.map.now c.args.frames.now c.args.slot (first c)
 emits c =
