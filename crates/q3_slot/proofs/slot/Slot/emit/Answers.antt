@@ -5,10 +5,9 @@ use Rattle.q3_chan.specs.Sending.{Piece, HandsOut}
 use Rattle.q3_built.specs.Built.{is_unclear}
 use Rattle.q3_slot.specs.Slot.{SlotState}
 use Rattle.q3_slot.specs.Emitting.{SlotEmission, most_placed}
-use Rattle.q3_slot.specs.Slots.{emission_of, game_emission, snapshot_emission, slot_of, slot_after, map_after, frames_after, answer_of, piece_of}
+use Rattle.q3_slot.specs.Slots.{emission_of, snapshot_emission, slot_of, slot_after, map_after, frames_after, answer_of, piece_of}
 use Rattle.q3_slot.proofs.Begun.{emits_game, emits_snapshot}
 use Rattle.q3_slot.proofs.slot.Slot.emit.Goals as goal
-use Rattle.q3_slot.proofs.slot.Slot.emit.Goals.{After-begin_owed}
 
 pub returns : goal.returns
 returns c =
@@ -39,42 +38,60 @@ returns c =
       stands = c.stand.ensures;
     }
 
--- the slot before a gamestate that is owed
-abbrev first : After-begin_owed → SlotState
-first c = slot_of c.self.inside.sender c.self.inside.gatherer c.self.inside.issued c.in-Some.client
-
-is_first : (c : After-begin_owed) → Some (first c) ≡ c.args.self.now
-is_first c = search rules
-
--- what it emits
-emits : (c : After-begin_owed)
-    → game_emission c.args.profile.now c.args.map.now c.args.frames.now c.args.slot (first c)
-    ≡ emission_of c.args.profile.now c.args.map.now c.args.frames.now c.args.slot (first c)
-emits c =
+-- a gamestate that is owed
+pub returns-then-client-clause-slot : goal.returns-then-client-clause-slot
+returns-then-client-clause-slot c =
     let profile = c.args.profile.now in
+    let map = c.args.map.now in
     let frames = c.args.frames.now in
+    let slot = c.args.slot in
+    let first : SlotState = slot_of c.self.inside.sender c.self.inside.gatherer c.self.inside.issued c.in-Some.client in
+    let is_first : Some first ≡ c.args.self.now = search rules in
     let idle : c.self.inside.sender.under_way ≡ None = search rules in
     let open_ : (nat_le sequence_end (c.self.inside.sender.number + 1) || nat_lt most_placed frames.placed) ≡ false = search rules in
     let clear : is_unclear profile c.in-Some.client.executed.executed ≡ false = search rules in
-    sym (emits_game profile c.args.map.now frames c.args.slot (first c) idle open_ clear c.if-client.true)
-
-pub returns-then-client-clause-slot : goal.returns-then-client-clause-slot
-returns-then-client-clause-slot c =
-    c.begin_owed.ensures.slot (first c) c.args.frames.now (sym (is_first c)) ∙ ap (λ (e : SlotEmission). Some e.slot) (emits c)
-    ∙ ap (slot_after c.args.profile.now c.args.map.now c.args.frames.now c.args.slot) (is_first c)
+    let emits = sym (emits_game profile map frames slot first idle open_ clear c.if-client.true) in
+    c.begin_owed.ensures.slot first frames (sym is_first) ∙ ap (λ (e : SlotEmission). Some e.slot) emits ∙ ap (slot_after profile map frames slot) is_first
 
 pub returns-then-client-clause-map : goal.returns-then-client-clause-map
 returns-then-client-clause-map c =
-    c.begin_owed.ensures.map (first c) c.args.frames.now (sym (is_first c)) ∙ ap (λ (e : SlotEmission). e.map) (emits c)
-    ∙ ap (map_after c.args.profile.now c.args.map.now c.args.frames.now c.args.slot) (is_first c)
+    let profile = c.args.profile.now in
+    let map = c.args.map.now in
+    let frames = c.args.frames.now in
+    let slot = c.args.slot in
+    let first : SlotState = slot_of c.self.inside.sender c.self.inside.gatherer c.self.inside.issued c.in-Some.client in
+    let is_first : Some first ≡ c.args.self.now = search rules in
+    let idle : c.self.inside.sender.under_way ≡ None = search rules in
+    let open_ : (nat_le sequence_end (c.self.inside.sender.number + 1) || nat_lt most_placed frames.placed) ≡ false = search rules in
+    let clear : is_unclear profile c.in-Some.client.executed.executed ≡ false = search rules in
+    let emits = sym (emits_game profile map frames slot first idle open_ clear c.if-client.true) in
+    c.begin_owed.ensures.map first frames (sym is_first) ∙ ap (λ (e : SlotEmission). e.map) emits ∙ ap (map_after profile map frames slot) is_first
 
 pub returns-then-client-clause-answer : goal.returns-then-client-clause-answer
 returns-then-client-clause-answer c =
-    c.begin_owed.ensures.answer (first c) c.args.frames.now (sym (is_first c)) ∙ ap (λ (e : SlotEmission). e.answer) (emits c)
-    ∙ ap (answer_of c.args.profile.now c.args.map.now c.args.frames.now c.args.slot) (is_first c)
+    let profile = c.args.profile.now in
+    let map = c.args.map.now in
+    let frames = c.args.frames.now in
+    let slot = c.args.slot in
+    let first : SlotState = slot_of c.self.inside.sender c.self.inside.gatherer c.self.inside.issued c.in-Some.client in
+    let is_first : Some first ≡ c.args.self.now = search rules in
+    let idle : c.self.inside.sender.under_way ≡ None = search rules in
+    let open_ : (nat_le sequence_end (c.self.inside.sender.number + 1) || nat_lt most_placed frames.placed) ≡ false = search rules in
+    let clear : is_unclear profile c.in-Some.client.executed.executed ≡ false = search rules in
+    let emits = sym (emits_game profile map frames slot first idle open_ clear c.if-client.true) in
+    c.begin_owed.ensures.answer first frames (sym is_first) ∙ ap (λ (e : SlotEmission). e.answer) emits ∙ ap (answer_of profile map frames slot) is_first
 
 pub returns-then-client-clause-piece : goal.returns-then-client-clause-piece
 returns-then-client-clause-piece c =
+    let profile = c.args.profile.now in
+    let map = c.args.map.now in
+    let frames = c.args.frames.now in
+    let slot = c.args.slot in
+    let first : SlotState = slot_of c.self.inside.sender c.self.inside.gatherer c.self.inside.issued c.in-Some.client in
+    let is_first : Some first ≡ c.args.self.now = search rules in
+    let idle : c.self.inside.sender.under_way ≡ None = search rules in
+    let open_ : (nat_le sequence_end (c.self.inside.sender.number + 1) || nat_lt most_placed frames.placed) ≡ false = search rules in
+    let clear : is_unclear profile c.in-Some.client.executed.executed ≡ false = search rules in
+    let emits = sym (emits_game profile map frames slot first idle open_ clear c.if-client.true) in
     subst (λ (piece : Option Piece). HandsOut piece c.begin_owed.new.out.items)
-    (ap (λ (e : SlotEmission). e.piece) (emits c) ∙ ap (piece_of c.args.profile.now c.args.map.now c.args.frames.now c.args.slot) (is_first c))
-    (c.begin_owed.ensures.piece (first c) c.args.frames.now (sym (is_first c)))
+    (ap (λ (e : SlotEmission). e.piece) emits ∙ ap (piece_of profile map frames slot) is_first) (c.begin_owed.ensures.piece first frames (sym is_first))
