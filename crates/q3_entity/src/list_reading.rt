@@ -105,6 +105,7 @@ fn read_here(
 }
 
 /// The same of an entity that the base hasn't, by a reader apart, so that the list's own stays in registers.
+#[inline(always)]
 fn read_new(
     r: &mut Reader,
     table: &Table,
