@@ -50,7 +50,7 @@ impl<'a> Ahead<'a> {
         }
     }
 
-    /// Gathers as many bytes more as there is room for, also of the last seven. It isn't inlined: `fuller` is.
+    /// Gathers as many bytes more as there is room for, also of the last seven. It isn't inlined: `fuller` is the half that is.
     #[inline(never)]
     pub(crate) fn refill(&mut self)
         ensures bits { bits_ahead self.new ≡ bits_ahead self.old }
@@ -65,29 +65,19 @@ impl<'a> Ahead<'a> {
         self.refill_last(room);
     }
 
-    /// The same bits, with as many bytes more gathered as there is room for, as `refill` does. It is inlined, and takes and gives
-    /// a value, so that a loop keeps it in registers.
-    #[inline(always)]
+    /// The same, with as many bytes more gathered as there is room for, where eight are left: the half of `refill` that is
+    /// inlined, and takes and gives a value, so that a loop keeps it in registers.
+    #[inline]
     pub(crate) fn fuller(self) -> Ahead<'a>
         ensures { bits_ahead result ≡ bits_ahead self.entry }
     {
         match first_eight(self.rest) {
             Some(word) => self.with(word, (63 - self.count) / 8),
-            None => self.fuller_last(),
+            None => self,
         }
     }
 
-    /// The same where fewer than eight bytes are left, which `refill` gathers.
-    #[inline(always)]
-    fn fuller_last(self) -> Ahead<'a>
-        ensures { bits_ahead result ≡ bits_ahead self.entry }
-    {
-        let mut full = self;
-        full.refill();
-        full
-    }
-
-    /// Gathers what there is room for where fewer than eight bytes are left.
+    /// The same of fewer than eight bytes.
     #[cold]
     #[inline(never)]
     fn refill_last(&mut self, room: u32)
@@ -100,8 +90,7 @@ impl<'a> Ahead<'a> {
         *self = self.with(last_seven(self.rest), more);
     }
 
-    /// The same bits, with the next bytes gathered, so many: `word` is the number that the first eight spell.
-    #[inline(always)]
+    /// The same, with the next bytes gathered, so many: `word` is the number that the first eight spell.
     fn with(self, word: u64, more: u32) -> Ahead<'a>
         requires word { word ≡ number_of (take 64 (bits_of self.rest.now)) }
         requires room { self.count + 8 * more < 64 }
@@ -159,7 +148,6 @@ impl<'a> Ahead<'a> {
     }
 
     /// The run of marks that is next, up to a limit, where its bits were gathered.
-    #[inline(always)]
     pub(crate) fn run(self, limit: u32) -> Option<Marks>
         ensures found { IfSome result (λ run. run_at limit (bits_ahead self.entry) ≡ Ok (run.zeros, drop run.length (bits_ahead self.entry))) }
         ensures gathered { IfSome result (λ run. (run.zeros ≤ limit) × (run.length ≤ self.entry.count)) }
@@ -175,7 +163,6 @@ impl<'a> Ahead<'a> {
     }
 
     /// What is behind the next bits, so many.
-    #[inline(always)]
     pub(crate) fn skip(self, count: u32) -> Ahead<'a>
         requires { count ≤ self.count }
         ensures { bits_ahead result ≡ drop count (bits_ahead self.entry) }

@@ -78,7 +78,7 @@ impl<'a> Reader<'a> {
 
     /// Reads a field of 8 bits, as `get` does.
     /// A loop of its own reader, as `copy` makes one, keeps the gathered bits at hand.
-    #[inline(always)]
+    #[inline]
     pub fn get_byte(&mut self) -> Result<u8, ReadError>
         ensures reads { Reads self.old self.new (field_at self.old.words 8 self.old.left) result }
         ensures err { OnErr result (self.new ≡ self.old) }
@@ -90,11 +90,15 @@ impl<'a> Reader<'a> {
         if let Some(byte) = self.byte_gathered() {
             return Ok(byte);
         }
-        Ok(self.each_apart(8)? as u8)
+        // a reader apart, so that this one can stay in registers
+        let mut apart = self.copy();
+        let byte = apart.byte_apart()?;
+        *self = apart.copy();
+        Ok(byte)
     }
 
-    /// Reads a field as `get` does, all where this is called, so that a reader of a loop's own stays in registers. Where the
-    /// width is a literal or a constant, the loop over the words falls away.
+    /// Reads a field as `get` does, with one call exchanged: the words of the field are read where this is called. The caller
+    /// gives the width as a literal or a constant, and so the loop over them falls away.
     #[inline(always)]
     pub fn get_fixed(&mut self, width: u32) -> Result<u32, ReadError>
         requires some { 1 ≤ width }
@@ -106,12 +110,12 @@ impl<'a> Reader<'a> {
         ensures code { IsCode self.old.words }
     {
         if self.ahead.count < width % 8 + 12 * (width / 8) {
-            self.gather();
+            self.refill();
         }
         if let Some(value) = self.spelled_gathered(width % 8, width / 8) {
             return Ok(value);
         }
-        self.each_apart(width)
+        self.get_each(width)
     }
 
     /// Another reader that stands at the same place.
@@ -129,21 +133,18 @@ impl<'a> Reader<'a> {
     /// Passes over marks of 0, at most `limit` (up to 56), and, where there are fewer, over the mark of 1 behind them, as
     /// the marks of a delta's fields stand: how many were 0. `MSG_ReadDeltaEntity` reads them one by one.
     /// `End` comes exactly where the bits end before; the reader then stays as it was.
-    #[inline(always)]
+    #[inline]
     pub fn get_run(&mut self, limit: u32) -> Result<u32, ReadError>
         requires { limit ≤ 56 }
         ensures reads { Reads self.old self.new (run_at limit self.old.left) result }
         ensures most { IfOk result (λ count. count ≤ limit) }
         ensures err { OnErr result (self.new ≡ self.old) }
     {
-        if self.ahead.count < 12 {
-            self.gather();
-        }
         if let Some(run) = self.ahead.run(limit) {
             self.ahead = self.ahead.skip(run.length);
             return Ok(run.zeros);
         }
-        self.run_apart(limit)
+        self.run_behind(limit)
     }
 
     /// How many bits were read.
@@ -157,15 +158,16 @@ impl<'a> Reader<'a> {
             + (8 * gathered - ahead.count) as usize
     }
 
-    /// Gathers more. What it calls isn't inlined: `gather` is.
+    /// Gathers more. What it calls isn't inlined: `gather` is the half that is.
     fn refill(&mut self)
         ensures { self.new ≡ self.old }
     {
         self.ahead.refill();
     }
 
-    /// Gathers more, as `refill` does, all where this is called.
-    #[inline(always)]
+    /// Gathers more where eight bytes are left: the half of `refill` that is inlined, for `get_byte`. Fewer are left to
+    /// `byte_apart`.
+    #[inline]
     fn gather(&mut self)
         ensures { self.new ≡ self.old }
     {
@@ -173,7 +175,7 @@ impl<'a> Reader<'a> {
     }
 
     /// Reads a field of 8 bits whose word was gathered and is short; where it isn't, nothing.
-    #[inline(always)]
+    #[inline]
     fn byte_gathered(&mut self) -> Option<u8>
         ensures found { MatchOption result (self.new ≡ self.old) (λ byte. Reads self.old self.new (field_at self.old.words 8 self.old.left) (Ok byte)) }
     {
@@ -184,6 +186,16 @@ impl<'a> Reader<'a> {
         }
         self.ahead = self.ahead.skip(length);
         Some(entry.byte)
+    }
+
+    /// Reads a field of 8 bits in any case.
+    #[cold]
+    #[inline(never)]
+    fn byte_apart(&mut self) -> Result<u8, ReadError>
+        ensures reads { Reads self.old self.new (field_at self.old.words 8 self.old.left) result }
+        ensures err { OnErr result (self.new ≡ self.old) }
+    {
+        Ok(self.get_each(8)? as u8)
     }
 
     /// Reads a field whose bits were gathered and whose words are short; where they aren't, nothing.
@@ -228,8 +240,8 @@ impl<'a> Reader<'a> {
         self.spelled_gathered(raw, bytes)
     }
 
-    /// The same, inlined in `words_gathered` and in `get_fixed`.
-    #[inline(always)]
+    /// The same, inlined in `words_gathered` and in `get_fixed`, where the widths are known.
+    #[inline]
     fn spelled_gathered(&mut self, raw: u32, bytes: u32) -> Option<u32>
         requires raw { raw < 8 }
         requires most { raw + 8 * bytes ≤ 32 }
@@ -263,37 +275,7 @@ impl<'a> Reader<'a> {
         Ok(low + (high << raw))
     }
 
-    /// Reads any field as `get_each` does, by a reader apart, so that this one can stay in registers.
-    #[inline(always)]
-    fn each_apart(&mut self, width: u32) -> Result<u32, ReadError>
-        requires some { 1 ≤ width }
-        requires most { width ≤ 32 }
-        ensures reads { Reads self.old self.new (field_at self.old.words width self.old.left) result }
-        ensures fits { IfOk result (λ value. value < 2 ^ width) }
-        ensures err { OnErr result (self.new ≡ self.old) }
-        ensures near { OnOk result (self.new.place ≤ self.old.place + 96) }
-    {
-        let mut apart = self.copy();
-        let value = apart.get_each(width)?;
-        *self = apart.copy();
-        Ok(value)
-    }
-
-    /// Passes over a run of marks as `run_behind` does, by a reader apart.
-    #[inline(always)]
-    fn run_apart(&mut self, limit: u32) -> Result<u32, ReadError>
-        requires { limit ≤ 56 }
-        ensures reads { Reads self.old self.new (run_at limit self.old.left) result }
-        ensures most { IfOk result (λ count. count ≤ limit) }
-        ensures err { OnErr result (self.new ≡ self.old) }
-    {
-        let mut apart = self.copy();
-        let zeros = apart.run_behind(limit)?;
-        *self = apart.copy();
-        Ok(zeros)
-    }
-
-    /// Passes over a run of marks as `get_run` does, with more gathered.
+    /// The same, with more gathered.
     #[inline(never)]
     fn run_behind(&mut self, limit: u32) -> Result<u32, ReadError>
         requires { limit ≤ 56 }
@@ -318,7 +300,7 @@ struct Spelled {
 }
 
 /// The field that bits spell, by words of at most 12 bits; nothing where one of the words is longer or there is none.
-#[inline(always)]
+#[inline]
 fn field_in(code: &Code, bits: u64, raw: u32, bytes: u32) -> Option<Spelled>
     requires raw { raw < 8 }
     requires most { raw + 8 * bytes ≤ 32 }

@@ -1,4 +1,3 @@
-pub mod Below
 pub mod DeltaTexts
 pub mod Gone
 pub mod Risen

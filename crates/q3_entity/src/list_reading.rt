@@ -1,7 +1,7 @@
 //! Reads a list of entities against a base, or passes over one whose base isn't there. Keeps the rules "entity list"
 //! and "spellings that a reader accepts", the engine's `CL_ParsePacketEntities`. The refusals are this project's own.
 
-ghost use Rattle.std.specs.Prelude.{◌≡◌, ◌+◌, ◌^◌, ◌<◌, ◌≤◌, ◌++◌, false, List, Err, IfOk, IfErr, OnOk, length, take};
+ghost use Rattle.std.specs.Prelude.{◌≡◌, ◌+◌, ◌^◌, ◌<◌, ◌≤◌, ◌++◌, List, Err, IfOk, IfErr, OnOk, length, take};
 ghost use Rattle.std.specs.Option.{is_some, option_copied};
 ghost use Rattle.q3_bits.specs.Words.{IsCode, field_at};
 ghost use Rattle.q3_bits.specs.Streams.{Reads, holding};
@@ -47,21 +47,16 @@ pub fn read_list(
     ensures list { OnOk result (IsList table.now into.new.items) }
 {
     laws::read_was_put();
-    let end = table.end();
     let mut cursor = read_next(r, table, 0, base, 0, into)?;
-    // a reader of its own stays in registers
-    let mut own = r.copy();
-    while cursor.next < end {
-        cursor = read_turn(&mut own, table, baselines, cursor, into)?;
+    while cursor.next < table.end() {
+        cursor = read_turn(r, table, baselines, cursor, into)?;
     }
-    *r = own;
     into.truncate(cursor.count);
     Ok(())
 }
 
 /// Reads the entry of the next number, and the number behind it.
 #[tactic(auto, unfolding(crate::specs::Walking::turn_at))]
-#[inline(always)]
 fn read_turn<'a>(
     r: &mut Reader,
     table: &Table,
@@ -83,7 +78,6 @@ fn read_turn<'a>(
 }
 
 /// Reads the entry of a number, from the base's entity where it has one, else from the baseline.
-#[inline(always)]
 fn read_here(
     r: &mut Reader,
     table: &Table,
@@ -100,45 +94,16 @@ fn read_here(
 {
     match found {
         Some(from) => read_entry(r, table, from, true, number, count, into),
-        None => read_new(r, table, &baselines.state(number), number, count, into),
+        None => read_entry(
+            r,
+            table,
+            &baselines.state(number),
+            false,
+            number,
+            count,
+            into,
+        ),
     }
-}
-
-/// The same of an entity that the base hasn't, by a reader apart, so that the list's own stays in registers.
-#[inline(always)]
-fn read_new(
-    r: &mut Reader,
-    table: &Table,
-    baseline: &EntityState,
-    number: u16,
-    count: usize,
-    into: &mut List,
-) -> Result<usize, EntityError>
-    requires { count ≤ length into.old.items }
-    ensures reads { Reads r.old r.new (entry_at r.old.words table.now baseline.now.words false number (take count into.old.items) r.old.left) (first_of into.new.items result) }
-    ensures within { IfOk result (λ now. now ≤ length into.new.items) }
-{
-    let mut apart = r.copy();
-    let now = read_apart(&mut apart, table, baseline, number, count, into);
-    *r = apart;
-    now
-}
-
-/// The same, out of line.
-#[inline(never)]
-fn read_apart(
-    r: &mut Reader,
-    table: &Table,
-    baseline: &EntityState,
-    number: u16,
-    count: usize,
-    into: &mut List,
-) -> Result<usize, EntityError>
-    requires { count ≤ length into.old.items }
-    ensures reads { Reads r.old r.new (entry_at r.old.words table.now baseline.now.words false number (take count into.old.items) r.old.left) (first_of into.new.items result) }
-    ensures within { IfOk result (λ now. now ≤ length into.new.items) }
-{
-    read_entry(r, table, baseline, false, number, count, into)
 }
 
 /// Passes over a list whose base isn't there. Its bits, its counts of fields and that its numbers rise are looked at
@@ -198,7 +163,6 @@ fn read_next<'a>(
 /// Reads what stands behind a number, and puts the entity behind the first ones of `into`, so many, unless it is gone.
 /// Answers how many there are then.
 #[tactic(auto, unfolding(crate::specs::Walking::entry_at))]
-#[inline(always)]
 fn read_entry(
     r: &mut Reader,
     table: &Table,
@@ -222,7 +186,6 @@ fn read_entry(
 }
 
 /// The same over the entity that stands there.
-#[inline(always)]
 fn read_place(
     r: &mut Reader,
     table: &Table,
@@ -243,28 +206,10 @@ fn read_place(
     count_after(entry, in_base, number, count)
 }
 
-/// The same where there is no room for an entity more, by a reader apart, so that this one can stay in registers.
-#[inline(always)]
-fn read_beyond(
-    r: &mut Reader,
-    table: &Table,
-    from: &EntityState,
-    in_base: bool,
-    number: u16,
-) -> Result<usize, EntityError>
-    ensures reads { (entities : List EntityState) → length entities ≡ most_entities → Reads r.old r.new (entry_at r.old.words table.now from.now.words in_base number entities r.old.left) (first_of entities result) }
-    ensures same { IfOk result (λ now. now ≡ most_entities) }
-{
-    let mut apart = r.copy();
-    let count = read_uncounted(&mut apart, table, from, in_base, number)?;
-    *r = apart;
-    Ok(count)
-}
-
-/// The same, out of line.
+/// The same where there is no room for an entity more.
 #[cold]
 #[inline(never)]
-fn read_uncounted(
+fn read_beyond(
     r: &mut Reader,
     table: &Table,
     from: &EntityState,
@@ -312,7 +257,7 @@ fn get_number(r: &mut Reader, bits: u32) -> Result<u32, ReadError>
         10 => r.get_fixed(10),
         11 => r.get_fixed(11),
         12 => r.get_fixed(12),
-        _ => r.get_fixed(bits),
+        _ => r.get(bits),
     }
 }
 

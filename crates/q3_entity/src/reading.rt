@@ -24,7 +24,6 @@ pub enum Entry {
 /// Reads what stands behind an entity's number, which stands in `into` and stays there. The words are those of `from`,
 /// as far as the delta doesn't change them. After a refusal they may be any.
 #[tactic(auto, unfolding(crate::specs::Delta::entity_at))]
-#[inline(always)]
 pub fn read_entity(
     r: &mut Reader,
     table: &Table,
@@ -34,11 +33,11 @@ pub fn read_entity(
     ensures reads { Reads r.old r.new (entity_at r.old.words table.now from.now.words r.old.left) (with_words into.new.words result) }
     ensures number { into.new.number ≡ into.old.number }
 {
-    into.words.copy_from_slice(&from.words);
-    if r.get_fixed(1)? != 0 {
+    into.words = from.words;
+    if r.get(1)? != 0 {
         return Ok(Entry::Removed);
     }
-    if r.get_fixed(1)? == 0 {
+    if r.get(1)? == 0 {
         return Ok(Entry::Same);
     }
     read_counted(r, StateKind::Entity, table, &mut into.words)?;

@@ -100,24 +100,7 @@ pub(crate) fn count_below(part: &[EntityState], number: u16) -> usize
     ensures behind { IsFrom number (drop result part.now) }
     ensures most { result ≤ length part.now }
 {
-    // four at a time, as long as there are as many
-    let mut first = 0;
-    while first + 4 <= part.len() {
-        if part[first].number >= number {
-            return first;
-        }
-        if part[first + 1].number >= number {
-            return first + 1;
-        }
-        if part[first + 2].number >= number {
-            return first + 2;
-        }
-        if part[first + 3].number >= number {
-            return first + 3;
-        }
-        first += 4;
-    }
-    for k in first..part.len() {
+    for k in 0..part.len() {
         if part[k].number >= number {
             return k;
         }

@@ -218,7 +218,6 @@ fn write_changed(w: &mut Writer, state: StateKind, kind: Kind, word: u32) -> Res
 /// `Count` comes exactly where the count is above the table's, before any field is read; `Bits` where the bits don't
 /// read.
 #[tactic(auto, unfolding(crate::specs::Deltas::words_at))]
-#[inline(always)]
 pub fn read_counted(
     r: &mut Reader,
     state: StateKind,
@@ -237,7 +236,6 @@ pub fn read_counted(
 
 /// Reads the first fields, so many, over the words that stand there. The marks of fields that didn't change are taken
 /// in runs.
-#[inline(always)]
 fn read_fields(
     r: &mut Reader,
     state: StateKind,
@@ -266,7 +264,6 @@ fn read_fields(
 }
 
 /// Reads a changed field.
-#[inline(always)]
 fn read_changed(r: &mut Reader, state: StateKind, kind: Kind) -> Result<u32, ReadError>
     requires { IsKind kind }
     ensures { Reads r.old r.new (changed_at state r.old.words kind r.old.left) result }

@@ -19,7 +19,7 @@ returns-in_err-cursor-clause-reads c =
 pub loop-cursor-init : goal.loop-cursor-init
 loop-cursor-init c =
     let all = c.in_ok-cursor.ensures in
-    rw c.copy-own.ensures (record {
+    record {
       words = all.reads.words;
       place = all.reads.place;
       code = all.code;
@@ -27,7 +27,7 @@ loop-cursor-init c =
       within = all.within;
       rise = next_rises c.args.r.now.words c.args.table.now 0 (run_of c.args.base) [] c.args.r.now.left _ (2 ^ 16) 0 c.requires.rise (sym all.reads.value);
       reads = list_begun c.read_was_put.ensures c.args.r.now.words c.args.table.now c.args.baselines.now (run_of c.args.base) [] (2 ^ 16) c.args.r.now.left _ _ all.code c.requires.rise refl all.reads.value;
-    })
+    }
 
 pub returns-in_err-cursor-2-clause-reads : goal.returns-in_err-cursor-2-clause-reads
 returns-in_err-cursor-2-clause-reads c =
@@ -36,10 +36,10 @@ returns-in_err-cursor-2-clause-reads c =
     let before = c.loop-cursor.invariant in
     rw (p.1, p.2) (record {
       value =
-          list_stops c.read_was_put.ensures c.args.r.now.words c.loop-cursor.own.words c.args.table.now c.args.baselines.now _ (2 ^ 16) c.loop-cursor.own.left _ before.words before.code (omega arith) before.rise reads.value
+          list_stops c.read_was_put.ensures c.args.r.now.words c.loop-cursor.r.words c.args.table.now c.args.baselines.now _ (2 ^ 16) c.loop-cursor.r.left _ before.words before.code (omega arith) before.rise reads.value
           ∙ before.reads;
-      words = c.in_ok-cursor.ensures.reads.words;
-      place = c.in_ok-cursor.ensures.reads.place;
+      words = reads.words ∙ before.words;
+      place = reads.place ∙ before.place;
     })
 
 pub loop-cursor-preserved : goal.loop-cursor-preserved
@@ -52,9 +52,9 @@ loop-cursor-preserved c =
       code = before.code;
       most = all.most;
       within = all.within;
-      rise = turn_rises c.loop-cursor.own.words c.args.table.now c.args.baselines.now _ c.loop-cursor.own.left _ (2 ^ 16) before.rise (sym all.reads.value);
+      rise = turn_rises c.loop-cursor.r.words c.args.table.now c.args.baselines.now _ c.loop-cursor.r.left _ (2 ^ 16) before.rise (sym all.reads.value);
       reads =
-          list_goes_on c.read_was_put.ensures c.args.r.now.words c.loop-cursor.own.words c.args.table.now c.args.baselines.now _ (2 ^ 16) c.loop-cursor.own.left _ _ before.words before.code (omega arith) before.rise all.reads.value
+          list_goes_on c.read_was_put.ensures c.args.r.now.words c.loop-cursor.r.words c.args.table.now c.args.baselines.now _ (2 ^ 16) c.loop-cursor.r.left _ _ before.words before.code (omega arith) before.rise all.reads.value
           ∙ before.reads;
     }
 
@@ -62,7 +62,7 @@ pub returns-clause-reads : goal.returns-clause-reads
 returns-clause-reads c =
     let before = c.loop-cursor.invariant in
     rw c.truncate.ensures.items (record {
-      value = sym (list_ends c.args.r.now.words c.args.table.now c.args.baselines.now _ c.loop-cursor.own.left (omega arith)) ∙ before.reads;
+      value = sym (list_ends c.args.r.now.words c.args.table.now c.args.baselines.now _ c.loop-cursor.r.left (omega arith)) ∙ before.reads;
       words = before.words;
       place = before.place;
     })
@@ -71,5 +71,5 @@ pub returns-clause-list : goal.returns-clause-list
 returns-clause-list c =
     let before = c.loop-cursor.invariant in
     rw c.truncate.ensures.items
-    (list_is_listed c.args.r.now.words c.args.table.now c.args.baselines.now (run_of c.args.base) c.args.r.now.left (take c.loop-cursor.cursor.count c.loop-cursor.into.items) c.loop-cursor.own.left
-    (sym before.reads ∙ list_ends c.args.r.now.words c.args.table.now c.args.baselines.now _ c.loop-cursor.own.left (omega arith)))
+    (list_is_listed c.args.r.now.words c.args.table.now c.args.baselines.now (run_of c.args.base) c.args.r.now.left (take c.loop-cursor.cursor.count c.loop-cursor.into.items) c.loop-cursor.r.left
+    (sym before.reads ∙ list_ends c.args.r.now.words c.args.table.now c.args.baselines.now _ c.loop-cursor.r.left (omega arith)))

@@ -9,13 +9,13 @@ use Rattle.q3_entity.proofs.list_reading.read_list.Given as goal
 -- what is left is read as the whole list is
 abbrev pub invariant-loop-cursor : goal.invariant-loop-cursor
 invariant-loop-cursor l = record {
-  words : l.own.words ≡ l.fn.r.words;
-  place : l.own.place + length l.own.left ≡ l.fn.r.place + length l.fn.r.left;
+  words : l.r.words ≡ l.fn.r.words;
+  place : l.r.place + length l.r.left ≡ l.fn.r.place + length l.fn.r.left;
   code : IsCode l.fn.r.words;
   most : l.cursor.next ≤ end_mark l.table;
   within : l.cursor.count ≤ length l.into.items;
   rise : RiseFrom (2 ^ 16) l.cursor.next (run_of l.cursor.base);
-  reads : from_reached l.fn.r.words l.table l.baselines (record { next = l.cursor.next; base = run_of l.cursor.base; entities = take l.cursor.count l.into.items }, l.own.left)
+  reads : from_reached l.fn.r.words l.table l.baselines (record { next = l.cursor.next; base = run_of l.cursor.base; entities = take l.cursor.count l.into.items }, l.r.left)
       ≡ entity_list_at l.fn.r.words l.table l.baselines (run_of l.base) l.fn.r.left;
 }
 

@@ -2,7 +2,7 @@ use Rattle.std.proofs.Common.{arith}
 use Rattle.std.proofs.lemmas.List.{take_all}
 use Rattle.std.proofs.lemmas.Result.{err_from_is_err_and}
 use Rattle.q3_entity.proofs.Turns.{entry_counted, entry_refused}
-use Rattle.q3_entity.proofs.list_reading.read_uncounted.Goals as goal
+use Rattle.q3_entity.proofs.list_reading.read_beyond.Goals as goal
 
 pub returns-in_err-entry-clause-reads : goal.returns-in_err-entry-clause-reads
 returns-in_err-entry-clause-reads c = λ entities long.
