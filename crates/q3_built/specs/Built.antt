@@ -13,7 +13,7 @@ use Rattle.q3_chan.specs.Datagrams.{sequence_end}
 use Rattle.q3_chan.specs.declared.side.Side.TheVariants.{Server}
 use Rattle.q3_chan.specs.Keys.{Key, server_key, server_scrambled}
 use Rattle.q3_chan.specs.Keys as chan
-use Rattle.q3_entity.specs.Baselines.{Lines, AreLines}
+use Rattle.q3_entity.specs.Baselines.{Baselines, AreBaselines}
 use Rattle.q3_gamestate.specs.Values.{Gamestate}
 use Rattle.q3_gamestate.specs.Laws.{IsGamestate}
 use Rattle.q3_svmsg.specs.Values.{Snap, Game, Message, base_from}
@@ -29,7 +29,7 @@ pub record Built : Type 0 where
   pub last : ℕ
   pub under : Option ℕ
   pub base : Option Snapshot
-  pub lines : Lines
+  pub baselines : Baselines
   pub key : Key
 
 -- the number of a base, 0 for none
@@ -52,17 +52,17 @@ abbrev pub message_of : Telling → Option Snapshot → Snapshot → Message
 message_of telling base snapshot =
     record { ack = telling.ack; commands = telling.commands; section = Snap (number_of base) snapshot.head snapshot.entities }
 
-abbrev pub built_of : Telling → Lines → Option Snapshot → Snapshot → Built
-built_of telling lines base snapshot =
-    record { message = message_of telling base snapshot; last = telling.last; under = telling.under; base = base; lines = lines; key = telling.key }
+abbrev pub built_of : Telling → Baselines → Option Snapshot → Snapshot → Built
+built_of telling baselines base snapshot =
+    record { message = message_of telling base snapshot; last = telling.last; under = telling.under; base = base; baselines = baselines; key = telling.key }
 
 -- the message that carries a gamestate
 abbrev pub game_message_of : Telling → Gamestate → Message
 game_message_of telling game = record { ack = telling.ack; commands = telling.commands; section = Game game }
 
-abbrev pub game_built_of : Telling → Lines → Gamestate → Built
-game_built_of telling lines game =
-    record { message = game_message_of telling game; last = telling.last; under = telling.under; base = None; lines = lines; key = telling.key }
+abbrev pub game_built_of : Telling → Baselines → Gamestate → Built
+game_built_of telling baselines game =
+    record { message = game_message_of telling game; last = telling.last; under = telling.under; base = None; baselines = baselines; key = telling.key }
 
 -- whether the leading long of a message takes more bits than stay clear by protocol 68, so that scrambling would hide a part of it:
 -- never by protocol 71, which scrambles nothing
@@ -71,7 +71,7 @@ is_unclear profile ack = chan.is_unclear profile.protocol Server (length (row_bi
 
 -- the bits of a message
 abbrev pub built_bits : Profile → Built → List Bool
-built_bits profile built = server_message_bits profile built.lines (option_map base_from built.base) built.message
+built_bits profile built = server_message_bits profile built.baselines (option_map base_from built.base) built.message
 
 -- its bytes before they are scrambled, if they are
 abbrev pub plain_bytes : Profile → Built → List ℕ
@@ -119,7 +119,7 @@ pub record IsTelling (profile : Profile) (challenge n : ℕ) (telling : Telling)
 -- a message with a snapshot as it is built under a number
 pub record BuildsSnapshot (profile : Profile) (telling : Telling) (n : ℕ) (built : Built) : Type 0 where
   pub snapshot : Snapshot
-  pub is : built ≡ built_of telling built.lines built.base snapshot
+  pub is : built ≡ built_of telling built.baselines built.base snapshot
   pub number : snapshot.head.number ≡ n
   pub are : IsSnapshot profile snapshot
   pub waits : telling.under ≡ None → (snapshot.entities ≡ []) × (built.base ≡ None)
@@ -128,14 +128,14 @@ pub record BuildsSnapshot (profile : Profile) (telling : Telling) (n : ℕ) (bui
 -- and one with a gamestate
 pub record BuildsGame (profile : Profile) (telling : Telling) (built : Built) : Type 0 where
   pub game : Gamestate
-  pub is : built ≡ game_built_of telling built.lines game
+  pub is : built ≡ game_built_of telling built.baselines game
   pub last : game.command ≡ telling.last
-  pub lines : game.lines ≡ built.lines
+  pub baselines : game.baselines ≡ built.baselines
   pub are : IsGamestate profile game
 
 -- a message as it is built under a number, for a client that joined with a challenge
 pub record IsBuilt (profile : Profile) (challenge n : ℕ) (built : Built) : Type 0 where
   pub telling : Telling
   pub tells : IsTelling profile challenge n telling
-  pub lines : AreLines profile.entity built.lines
+  pub baselines : AreBaselines profile.entity built.baselines
   pub section : BuildsSnapshot profile telling n built ⊎ BuildsGame profile telling built

@@ -27,7 +27,7 @@ abbrev pub game_in : TellingParts → MapState → ℕ → Gamestate
 game_in telling map c = record {
   command = issued_of telling.issued.now;
   strings = map.strings;
-  lines = map.lines;
+  baselines = map.baselines;
   slot = c;
   feed = map.feed;
 }

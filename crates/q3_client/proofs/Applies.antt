@@ -94,7 +94,7 @@ are_same one other e = cc
 
 numbered : (state : AppliedState) (number : ℕ) (bytes : List ℕ) (application : Application) → apply_at state number bytes ≡ Ok application → application.answer.number ≡ number
 numbered state number bytes application e =
-    let read = bind_ok (server_message_in state.profile (context_of state.held state.lines) number (bits_of bytes)) (λ (read : Message). applied_as (apply_read state number read)) application e in
+    let read = bind_ok (server_message_in state.profile (context_of state.held state.baselines) number (bits_of bytes)) (λ (read : Message). applied_as (apply_read state number read)) application e in
     let does = are_same (apply_read state number read.0) application read.2 in
     subst (λ (a : Application). a.answer.number ≡ number) does (section_numbered (hearing state read.0.commands) number read.0.section)
 

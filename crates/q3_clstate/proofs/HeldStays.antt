@@ -55,10 +55,10 @@ based profile (Some snapshot) base is e = subst (IsBase profile) (one e) is
     one e = cc
 
 -- what a message is read against
-pub context_is : (state : AppliedState) → IsApplied state → IsContext state.profile (context_of state.held state.lines)
+pub context_is : (state : AppliedState) → IsApplied state → IsContext state.profile (context_of state.held state.baselines)
 context_is state is = record {
   bases = λ number base e. based state.profile (view_at state.held number) base (serves_number state number is) e;
-  lines = is.lines;
+  baselines = is.baselines;
 }
 
 -- ---- a snapshot is accepted

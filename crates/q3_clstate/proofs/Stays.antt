@@ -43,7 +43,7 @@ new_stays below profile codec room = record {
   feed = omega arith;
   strings = below.strings.none;
   texts = below.texts.none;
-  lines = below.lines profile.entity;
+  baselines = below.baselines profile.entity;
   room = refl;
   held = below.snapshots.none profile.parse_ring room;
   newest = inl refl;
@@ -62,7 +62,7 @@ passes_stays state number outcome fits is = record {
   feed = is.feed;
   strings = is.strings;
   texts = is.texts;
-  lines = is.lines;
+  baselines = is.baselines;
   room = is.room;
   held = is.held;
   newest = is.newest;
@@ -95,7 +95,7 @@ game_stays below state number game fits is_game is =
       feed = is_game.feed;
       strings = is_game.strings;
       texts = record { each = is_game.texts; pending = nothing_pending game.strings.pending is_game.pending };
-      lines = is_game.lines;
+      baselines = is_game.baselines;
       room = is.room;
       held = below.snapshots.none state.held.ring is.held.ring;
       newest = inl refl;
@@ -115,7 +115,7 @@ accepts_stays below state number base snapshot fits newer read is = record {
   feed = is.feed;
   strings = is.strings;
   texts = is.texts;
-  lines = is.lines;
+  baselines = is.baselines;
   room = is.room;
   held = below.snapshots.accept state.held snapshot is.held newer;
   newest = accepted_newest state.held snapshot is.held;
@@ -151,7 +151,7 @@ pub bytes_stay : Below → (state : AppliedState) (number : ℕ) (message : List
 bytes_stay below state number message fits is = of_read (server_message_in state.profile context number (bits_of message)) refl
   where
     context : Context
-    context = context_of state.held state.lines
+    context = context_of state.held state.baselines
 
     one : Result Message Illegible → Message → Type 0
     one r read = r ≡ Ok read

@@ -98,7 +98,7 @@ pub bytes_within : ReadIsSpelled → (state : AppliedState) (most number : ℕ) 
 bytes_within law state most number message fits is within = of_read (server_message_in state.profile context number (bits_of message)) refl
   where
     context : Context
-    context = context_of state.held state.lines
+    context = context_of state.held state.baselines
 
     one : Result Message Illegible → Message → Type 0
     one r read = r ≡ Ok read

@@ -18,7 +18,7 @@ state_in s = record {
   slot = s.slot;
   feed = s.feed;
   strings = s.settings.strings;
-  lines = s.holding.baselines;
+  baselines = s.holding.baselines;
   held = s.holding.rings.held;
 }
 

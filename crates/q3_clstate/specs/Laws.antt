@@ -19,7 +19,7 @@ pub record ApplyStays : Type 0 where
 
 -- and so is what a message is read against
 abbrev pub AppliedIsContext : Type 0
-AppliedIsContext = (state : AppliedState) → IsApplied state → IsContext state.profile (context_of state.held state.lines)
+AppliedIsContext = (state : AppliedState) → IsApplied state → IsContext state.profile (context_of state.held state.baselines)
 
 -- messages of numbers below 2^31 keep a state within its limits: each makes what is held older by as many entities as a snapshot may have
 pub record WithinStays : Type 0 where

@@ -16,7 +16,7 @@ saved_in state = record {
   slot = state.slot;
   feed = state.feed;
   strings = state.strings;
-  lines = state.lines;
+  baselines = state.baselines;
   held = state.held;
 }
 
@@ -31,7 +31,7 @@ applied_by profile saved = record {
   slot = saved.slot;
   feed = saved.feed;
   strings = saved.strings;
-  lines = saved.lines;
+  baselines = saved.baselines;
   held = saved.held;
 }
 

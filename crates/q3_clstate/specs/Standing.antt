@@ -5,7 +5,7 @@ use Rattle.q3_config.specs.Strings.{AreStrings}
 use Rattle.q3_config.specs.Laws.{HoldTexts}
 use Rattle.q3_player.specs.State.{IsNormal}
 use Rattle.q3_entity.specs.Entities.{AreNormal}
-use Rattle.q3_entity.specs.Baselines.{AreLines}
+use Rattle.q3_entity.specs.Baselines.{AreBaselines}
 use Rattle.q3_profile.specs.declared.profile.Profile.{Profile}
 use Rattle.q3_profile.specs.Profile.{IsCodec}
 use Rattle.q3_svmsg.specs.Laws.{IsHead, AreEntities}
@@ -34,7 +34,7 @@ pub record IsApplied (state : AppliedState) : Type 0 where
   pub feed : state.feed < 2 ^ 32
   pub strings : AreStrings state.strings
   pub texts : HoldTexts state.strings
-  pub lines : AreLines state.profile.entity state.lines
+  pub baselines : AreBaselines state.profile.entity state.baselines
   pub room : state.held.ring ≡ state.profile.parse_ring
   pub held : AreHeldSnapshots state.held
   pub newest : HoldsNewest state.held

@@ -8,7 +8,7 @@ use Rattle.q3_config.specs.Strings.{Strings, no_strings, server_id}
 use Rattle.q3_config.specs.Commands.{Change, change_in}
 use Rattle.q3_config.specs.Changes.{Applied as Changed, after_command}
 use Rattle.q3_profile.specs.declared.profile.Profile.{Profile}
-use Rattle.q3_entity.specs.Baselines.{Lines, no_lines}
+use Rattle.q3_entity.specs.Baselines.{Baselines, no_baselines}
 use Rattle.q3_gamestate.specs.Values.{Gamestate}
 use Rattle.q3_svmsg.specs.declared.error.Illegible.{Illegible}
 use Rattle.q3_svmsg.specs.Values as told
@@ -34,7 +34,7 @@ pub record AppliedState : Type 0 where
   pub slot : ℕ
   pub feed : ℕ
   pub strings : Strings
-  pub lines : Lines
+  pub baselines : Baselines
   pub held : HeldSnapshots
 
 -- no message was applied
@@ -48,15 +48,15 @@ new_state profile = record {
   slot = 0;
   feed = 0;
   strings = no_strings;
-  lines = no_lines;
+  baselines = no_baselines;
   held = no_snapshots profile.parse_ring;
 }
 
 -- ---- what a message is read against
 
 -- the snapshots that are held, by number, and the baselines
-abbrev pub context_of : HeldSnapshots → Lines → Context
-context_of held lines = record { base = λ number. option_map base_from (view_at held number); lines = lines }
+abbrev pub context_of : HeldSnapshots → Baselines → Context
+context_of held baselines = record { base = λ number. option_map base_from (view_at held number); baselines = baselines }
 
 -- ---- what a message does
 
@@ -99,7 +99,7 @@ after_gamestate state game = record state {
   slot = game.slot;
   feed = game.feed;
   strings = game.strings;
-  lines = game.lines;
+  baselines = game.baselines;
   held = no_snapshots state.held.ring;
 }
 
@@ -178,7 +178,7 @@ apply_read state number message =
 -- what bytes do as a message of a number
 abbrev pub apply_at : AppliedState → ℕ → List ℕ → Result Application Illegible
 apply_at state number message = do
-  read ← server_message_in state.profile (context_of state.held state.lines) number (bits_of message)
+  read ← server_message_in state.profile (context_of state.held state.baselines) number (bits_of message)
   Ok (apply_read state number read)
 
 -- the state behind bytes: what isn't legible changes nothing

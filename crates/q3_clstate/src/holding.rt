@@ -1,7 +1,7 @@
 //! What a message is read against.
 
 ghost use Rattle.std.specs.Prelude.{◌≡◌, ◌≤◌, None, IfOk};
-ghost use Rattle.q3_entity.specs.Baselines.{no_lines};
+ghost use Rattle.q3_entity.specs.Baselines.{no_baselines};
 ghost use Rattle.q3_entity.specs.Entities.{Rises};
 ghost use Rattle.q3_rings.specs.Rings.{no_snapshots, held_snapshot};
 ghost use Rattle.q3_clstate.specs.State.{is_stale, skipped_for};
@@ -30,7 +30,7 @@ impl Holding {
         requires least { 512 ≤ ring }
         requires most { ring ≤ 65536 }
         ensures held { IfOk result (λ holding. holding.rings.held ≡ no_snapshots ring) }
-        ensures lines { IfOk result (λ holding. holding.baselines ≡ no_lines) }
+        ensures baselines { IfOk result (λ holding. holding.baselines ≡ no_baselines) }
         ensures none { IfOk result (λ holding. holding.rings.begun ≡ None) }
     {
         Ok(Holding {
@@ -42,7 +42,7 @@ impl Holding {
     /// A gamestate was read: nothing of before is held any more, and its baselines take the place of the others.
     pub fn start(&mut self, message: &mut ServerMessage)
         ensures held { self.new.rings.held ≡ no_snapshots self.old.rings.held.ring }
-        ensures lines { self.new.baselines ≡ message.old.baselines }
+        ensures baselines { self.new.baselines ≡ message.old.baselines }
         ensures none { self.new.rings.begun ≡ None }
     {
         self.rings.wipe();
@@ -55,7 +55,7 @@ impl Holding {
         requires rises { Rises message.now.entities.value.items }
         requires none { self.old.rings.begun ≡ None }
         ensures held { self.new.rings.held ≡ held_behind self.old.rings.held number (record { head = message.now.head; entities = message.now.entities.value.items }) }
-        ensures lines { self.new.baselines ≡ self.old.baselines }
+        ensures baselines { self.new.baselines ≡ self.old.baselines }
         ensures none { self.new.rings.begun ≡ None }
         ensures outcome { result ≡ read_outcome self.old.rings.held number base }
     {

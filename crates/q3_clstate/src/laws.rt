@@ -15,7 +15,7 @@ pub fn apply_stays()
 {
     config::strings_stay();
     config::texts_stay();
-    entity::no_lines_are_lines();
+    entity::none_are_baselines();
     svmsg::read_is_spelled();
     rings::snapshots_stay();
 }

@@ -267,7 +267,7 @@ impl ClState {
 
     /// The baselines of the last gamestate.
     pub fn baselines(&self) -> &Baselines
-        ensures { result.now ≡ self.now.lines }
+        ensures { result.now ≡ self.now.baselines }
     {
         &self.holding.baselines
     }

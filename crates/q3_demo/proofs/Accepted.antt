@@ -138,12 +138,12 @@ same_read one other e = cc
 record WasRead (state : AppliedState) (number : ℕ) (message : List ℕ) (applied : Application) : Type 0 where
   read : Message
   left : List Bool
-  by : server_message_at state.profile (context_of state.held state.lines) number (bits_of message) ≡ Ok (read, left)
+  by : server_message_at state.profile (context_of state.held state.baselines) number (bits_of message) ≡ Ok (read, left)
   does : apply_read state number read ≡ applied
 
 was_read : (state : AppliedState) (number : ℕ) (message : List ℕ) (applied : Application) → apply_at state number message ≡ Ok applied → WasRead state number message applied
 was_read state number message applied e =
-    let context = context_of state.held state.lines in
+    let context = context_of state.held state.baselines in
     let read = bind_ok (server_message_in state.profile context number (bits_of message)) (λ (read : Message). applied_as (apply_read state number read)) applied e in
     let behind = bind_ok (server_message_at state.profile context number (bits_of message)) (λ (read : Message × List Bool). read_as read.0) read.0 read.1 in
     record {
@@ -157,7 +157,7 @@ accepted_last : ReadIsSpelled → AcceptedIsHeld → (state : AppliedState) (num
     → WasRead state number message applied → is_before first applied.answer.snap ≡ true → IsAcceptedLast applied.state applied.answer message
 accepted_last spelled law state number first message applied is fits was =
     let read = was.read in
-    let context = context_of state.held state.lines in
+    let context = context_of state.held state.baselines in
     let now = hearing state read.commands in
     let of_number = section_is_of now number read.section in
     let is_read = (spelled state.profile context number read (bits_of message) was.left is.profile (context_is state is) was.by).0 fits in

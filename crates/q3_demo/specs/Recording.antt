@@ -9,7 +9,7 @@ use Rattle.q3_text.specs.declared.text.Command.{Command}
 use Rattle.q3_strings.specs.declared.error.OperationError.{OperationError}
 use Rattle.q3_strings.specs.declared.error.OperationError.TheVariants.{Bits}
 use Rattle.q3_strings.specs.Operations.{row_at}
-use Rattle.q3_entity.specs.Baselines.{no_lines}
+use Rattle.q3_entity.specs.Baselines.{no_baselines}
 use Rattle.q3_gamestate.specs.Values.{Gamestate}
 use Rattle.q3_profile.specs.declared.profile.Profile.{Profile}
 use Rattle.q3_svmsg.specs.Values.{Message, Game, Snap}
@@ -39,11 +39,11 @@ composed bits = if nat_lt longest_record (message_length (length bits)) then Non
 
 -- the gamestate that a client has: its strings and baselines as they are now, up to the last command that it executed
 abbrev pub game_in : AppliedState → Gamestate
-game_in state = record { command = state.executed.executed; strings = state.strings; lines = state.lines; slot = state.slot; feed = state.feed }
+game_in state = record { command = state.executed.executed; strings = state.strings; baselines = state.baselines; slot = state.slot; feed = state.feed }
 
 -- a message with it, by the number of the last command that the client issued
 abbrev pub game_bits : AppliedState → ℕ → List Bool
-game_bits state issued = server_message_bits state.profile no_lines None (record { ack = issued; commands = []; section = Game (game_in state) })
+game_bits state issued = server_message_bits state.profile no_baselines None (record { ack = issued; commands = []; section = Game (game_in state) })
 
 -- what a message says before its section: its leading long, and its commands
 pub record Front : Type 0 where
@@ -74,7 +74,7 @@ abbrev pub whole_of : AppliedState → List ℕ → Option Message
 whole_of state message = whole_with (result_ok (front_at state.profile.code message)) (view_at state.held state.number)
 
 abbrev pub whole_bits : AppliedState → Message → List Bool
-whole_bits state message = server_message_bits state.profile state.lines None message
+whole_bits state message = server_message_bits state.profile state.baselines None message
 
 -- ---- a recording goes on
 

@@ -62,5 +62,5 @@ newest_text (Some held) = codes "+" ++ snapshot_text held.snapshot
 -- all that so many records left
 abbrev pub state_text : AppliedState → ℕ → List ℕ
 state_text state records =
-    concat (count_text records ∷ map_text state ∷ pending_text state.strings.pending ∷ configs_text 0 state.strings.texts ∷ flat_map baseline_text state.lines
+    concat (count_text records ∷ map_text state ∷ pending_text state.strings.pending ∷ configs_text 0 state.strings.texts ∷ flat_map baseline_text state.baselines
     ∷ held_texts state.held state.held.newest ∷ newest_text (held_under state.held state.held.newest) ∷ [])

@@ -5,7 +5,7 @@ ghost use Rattle.std.specs.List.{concat, flat_map};
 ghost use Rattle.q3_io.specs.Faults.{HasCause};
 ghost use Rattle.q3_io.specs.Written.{Adds};
 ghost use Rattle.q3_config.specs.Strings.{AreStrings};
-ghost use Rattle.q3_entity.specs.Baselines.{most_lines, set_at};
+ghost use Rattle.q3_entity.specs.Baselines.{most_baselines, set_at};
 ghost use Rattle.q3_entity.specs.Entities.{run_of};
 ghost use Rattle.q3_rings.specs.Loans.{snapshot_of};
 ghost use Rattle.q3_rings.specs.ByNumber.{held_under};
@@ -13,7 +13,7 @@ ghost use Rattle.q3_clstate.specs.Report.{snapshot_text};
 ghost use Rattle.q3_demo.specs.Report.{state_text, count_text, map_text, indexed_text, pending_text, config_text, configs_text, baseline_text, held_text, held_texts, newest_text};
 
 use q3_clstate::{ClState, print_snapshot};
-use q3_entity::{Baselines, EntityState, MOST_LINES, Run, print_fields};
+use q3_entity::{Baselines, EntityState, MOST_BASELINES, Run, print_fields};
 use q3_io::{Failed, Piece, Sink, laws, print_all};
 use q3_rings::{Held, SnapView};
 
@@ -134,12 +134,12 @@ fn print_indexed<'a, O: Sink>(
 
 /// Prints a line for each baseline that is set, by number.
 fn print_baselines<O: Sink>(state: &ClState, out: &mut O) -> Result<(), Failed>
-    requires { length state.now.lines ≡ most_lines }
-    ensures adds { Adds (O.written out.old) (O.written out.new) (flat_map baseline_text state.now.lines) result }
+    requires { length state.now.baselines ≡ most_baselines }
+    ensures adds { Adds (O.written out.old) (O.written out.new) (flat_map baseline_text state.now.baselines) result }
     ensures cause { HasCause (O.faults out.old) (O.faults out.new) result }
 {
     laws::items_follow::<Option<EntityState>>();
-    for number in 0..MOST_LINES {
+    for number in 0..MOST_BASELINES {
         print_baseline(state.baselines(), number, out)?;
     }
     Ok(())

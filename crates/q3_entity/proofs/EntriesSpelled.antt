@@ -5,7 +5,7 @@ use Rattle.q3_bits.specs.Words.{field_bits}
 use Rattle.q3_fields.specs.Kinds.{Layout, end_mark}
 use Rattle.q3_entity.specs.declared.state.EntityState.{EntityState}
 use Rattle.q3_entity.specs.Entities.{with_number}
-use Rattle.q3_entity.specs.Baselines.{Lines}
+use Rattle.q3_entity.specs.Baselines.{Baselines}
 use Rattle.q3_entity.specs.Lists.{words_from}
 use Rattle.q3_entity.specs.Spelling.{Entered, SpellsEntries, EntriesRise}
 use Rattle.q3_entity.proofs.EntrySpelled.{SpellsMarks, entry_of_marks, marks_of_entry}
@@ -22,34 +22,34 @@ first-least table least [] below rise = (below, omega arith)
 first-least table least (entry ∷ entries) below rise = (rise.0, omega (arith, rise.1))
 
 -- what stands behind it
-abbrev pub SpellsBehind : List (List Bool) → Layout → Lines → List EntityState → List Entered → List Bool → Type 0
-SpellsBehind words table lines base [] text = text ≡ []
-SpellsBehind words table lines base (entry ∷ entries) text =
+abbrev pub SpellsBehind : List (List Bool) → Layout → Baselines → List EntityState → List Entered → List Bool → Type 0
+SpellsBehind words table baselines base [] text = text ≡ []
+SpellsBehind words table baselines base (entry ∷ entries) text =
     (own : List Bool) × (rest : List Bool) × (text ≡ own ++ (field_bits words table.number_bits (first_number table entries) ++ rest))
-    × SpellsMarks words table (words_from lines entry.number (with_number entry.number base)) entry.words own
-    × SpellsBehind words table lines base entries rest
+    × SpellsMarks words table (words_from baselines entry.number (with_number entry.number base)) entry.words own
+    × SpellsBehind words table baselines base entries rest
 
 -- a number and what stands behind it spell the entries
-pub entries_of_behind : (words : List (List Bool)) (table : Layout) (lines : Lines) (base : List EntityState) (entries : List Entered) (text : List Bool) → SpellsBehind words table lines base entries text
-    → SpellsEntries words table lines base entries (field_bits words table.number_bits (first_number table entries) ++ text)
-entries_of_behind words table lines base [] text s = rw (s, append-nil) refl
-entries_of_behind words table lines base (entry ∷ entries) text (own, rest, whole, marks, behind) =
+pub entries_of_behind : (words : List (List Bool)) (table : Layout) (baselines : Baselines) (base : List EntityState) (entries : List Entered) (text : List Bool) → SpellsBehind words table baselines base entries text
+    → SpellsEntries words table baselines base entries (field_bits words table.number_bits (first_number table entries) ++ text)
+entries_of_behind words table baselines base [] text s = rw (s, append-nil) refl
+entries_of_behind words table baselines base (entry ∷ entries) text (own, rest, whole, marks, behind) =
     let number = field_bits words table.number_bits entry.number in
     let next = field_bits words table.number_bits (first_number table entries) in (
       number ++ own,
       next ++ rest,
       ap (λ (t : List Bool). number ++ t) whole ∙ sym (append_assoc number own (next ++ rest)),
-      entry_of_marks words table (words_from lines entry.number (with_number entry.number base)) entry own marks,
-      entries_of_behind words table lines base entries rest behind,
+      entry_of_marks words table (words_from baselines entry.number (with_number entry.number base)) entry own marks,
+      entries_of_behind words table baselines base entries rest behind,
     )
 
 -- and each spelling is made so
-pub behind_of_entries : (words : List (List Bool)) (table : Layout) (lines : Lines) (base : List EntityState) (entries : List Entered) (text : List Bool) → SpellsEntries words table lines base entries text
-    → (behind : List Bool) × SpellsBehind words table lines base entries behind × (text ≡ field_bits words table.number_bits (first_number table entries) ++ behind)
-behind_of_entries words table lines base [] text s = ([], refl, s ∙ sym (append-nil (field_bits words table.number_bits (end_mark table))))
-behind_of_entries words table lines base (entry ∷ entries) text (first, others, whole, spelled, more) =
-    let marks = marks_of_entry words table (words_from lines entry.number (with_number entry.number base)) entry first spelled in
-    let behind = behind_of_entries words table lines base entries others more in
+pub behind_of_entries : (words : List (List Bool)) (table : Layout) (baselines : Baselines) (base : List EntityState) (entries : List Entered) (text : List Bool) → SpellsEntries words table baselines base entries text
+    → (behind : List Bool) × SpellsBehind words table baselines base entries behind × (text ≡ field_bits words table.number_bits (first_number table entries) ++ behind)
+behind_of_entries words table baselines base [] text s = ([], refl, s ∙ sym (append-nil (field_bits words table.number_bits (end_mark table))))
+behind_of_entries words table baselines base (entry ∷ entries) text (first, others, whole, spelled, more) =
+    let marks = marks_of_entry words table (words_from baselines entry.number (with_number entry.number base)) entry first spelled in
+    let behind = behind_of_entries words table baselines base entries others more in
     let number = field_bits words table.number_bits entry.number in
     let next = field_bits words table.number_bits (first_number table entries) in (
       marks.0 ++ (next ++ behind.0),

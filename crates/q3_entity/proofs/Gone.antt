@@ -4,7 +4,7 @@ use Rattle.std.proofs.lemmas.Bool.{cases_Bool, eqb-true, lt-ltb, le-ltb}
 use Rattle.std.proofs.lemmas.Option.{none-some}
 use Rattle.q3_fields.specs.Kinds.{Layout}
 use Rattle.q3_entity.specs.declared.state.EntityState.{EntityState}
-use Rattle.q3_entity.specs.Baselines.{Lines}
+use Rattle.q3_entity.specs.Baselines.{Baselines}
 use Rattle.q3_entity.specs.Delta.{removal, entity_delta}
 use Rattle.q3_entity.specs.Lists.{piece}
 use Rattle.q3_entity.specs.Runs.{taken, from_number}
@@ -40,21 +40,21 @@ unfolding from_number
 from_number-none number = refl
 
 -- an entity with which the base begins
-pub record IsFirst (words : List (List Bool)) (table : Layout) (lines : Lines) (base : List EntityState) (to first : EntityState) (others : List EntityState) : Type 0 where
-  pub text : entry_bits words table lines base to ≡ entity_delta words table first to false
+pub record IsFirst (words : List (List Bool)) (table : Layout) (baselines : Baselines) (base : List EntityState) (to first : EntityState) (others : List EntityState) : Type 0 where
+  pub text : entry_bits words table baselines base to ≡ entity_delta words table first to false
   pub left : left_behind to base ≡ others
 
-pub is_first : (words : List (List Bool)) (table : Layout) (lines : Lines) (base : List EntityState) (to first : EntityState) (others : List EntityState)
-    → taken to.number base ≡ (Some first, others) → IsFirst words table lines base to first others
-is_first words table lines [] to first others found = absurd (none-some first (ap (λ p. p.0) found))
-is_first words table lines (entity ∷ base) to first others found =
+pub is_first : (words : List (List Bool)) (table : Layout) (baselines : Baselines) (base : List EntityState) (to first : EntityState) (others : List EntityState)
+    → taken to.number base ≡ (Some first, others) → IsFirst words table baselines base to first others
+is_first words table baselines [] to first others found = absurd (none-some first (ap (λ p. p.0) found))
+is_first words table baselines (entity ∷ base) to first others found =
     elim (cases_Bool (eqb entity.number to.number)) [
       | inl same ↦
           let number : entity.number ≡ to.number = eqb-true entity.number to.number same in
           let stay = removals-stay words table to.number entity base (omega arith) in
           let run = ap (taken to.number) (from_number-stay to.number entity base (omega arith)) ∙ found in
           record {
-            text = rw stay (ap (λ p. piece words table lines to.number p.0 (Some to)) run);
+            text = rw stay (ap (λ p. piece words table baselines to.number p.0 (Some to)) run);
             left = ap (λ p. p.1) run;
           }
       | inr other ↦ absurd (none-some first (ap (λ p. p.0) (rw other at found)))

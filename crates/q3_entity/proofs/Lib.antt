@@ -17,6 +17,6 @@ pub mod OneNumber
 pub mod ListSpelled
 pub mod ListRead
 pub mod ListSkipped
-pub mod SetLines
+pub mod SetBaselines
 pub mod SkippedSpelled
 pub mod Placed

@@ -9,7 +9,7 @@ use Rattle.q3_fields.specs.Kinds.{Layout, IsTable, end_mark}
 use Rattle.q3_fields.specs.Laws.{WordsSpelledAreRead}
 use Rattle.q3_entity.specs.declared.state.EntityState.{EntityState}
 use Rattle.q3_entity.specs.Entities.{RiseFrom, AreStates, most_entities, with_number}
-use Rattle.q3_entity.specs.Baselines.{Lines, AreLines}
+use Rattle.q3_entity.specs.Baselines.{Baselines, AreBaselines}
 use Rattle.q3_entity.specs.Lists.{words_from, numbers_at, entity_list_at}
 use Rattle.q3_entity.specs.Laws.{ZeroIsNormal, ListSpelledIsRead}
 use Rattle.q3_entity.specs.Spelling.{Entered, EntriesRise, RemoveFrom, state_after, words_there}
@@ -55,34 +55,34 @@ cut_off table base number entities added entries o is risen few rise removes sta
     }
 
 -- the entities behind a number are read
-abbrev AreRead : List (List Bool) → Layout → Lines → List EntityState → ℕ → ℕ → ℕ → List Entered → List Bool → List Bool → Type 0
-AreRead words table lines base left number next entries bits rest =
-    (entities added : List EntityState) → ToCome table base number entities added entries → numbers_at words table lines base left number next entities bits ≡ Ok (entities ++ added, rest)
+abbrev AreRead : List (List Bool) → Layout → Baselines → List EntityState → ℕ → ℕ → ℕ → List Entered → List Bool → List Bool → Type 0
+AreRead words table baselines base left number next entries bits rest =
+    (entities added : List EntityState) → ToCome table base number entities added entries → numbers_at words table baselines base left number next entities bits ≡ Ok (entities ++ added, rest)
 
 -- where the number has no entry, its entity stays
-read_over : (words : List (List Bool)) (table : Layout) (lines : Lines) (base : List EntityState) (left number next : ℕ) (entries : List Entered) (bits rest : List Bool)
+read_over : (words : List (List Bool)) (table : Layout) (baselines : Baselines) (base : List EntityState) (left number next : ℕ) (entries : List Entered) (bits rest : List Bool)
     → number ≢ next → entry_of number entries ≡ None → EntriesRise (end_mark table) (number + 1) entries
-    → AreRead words table lines base left (number + 1) next entries bits rest → AreRead words table lines base (suc left) number next entries bits rest
+    → AreRead words table baselines base left (number + 1) next entries bits rest → AreRead words table baselines base (suc left) number next entries bits rest
 unfolding numbers_at
-read_over words table lines base left number next entries bits rest other none rise others entities added come =
+read_over words table baselines base left number next entries bits rest other none rise others entities added come =
     let from = with_number number base in
     let is : with_number number added ≡ from = come.states number (omega arith) ∙ ap (λ (e : Option Entered). state_after from number e) none in
     let off = cut_off table base number entities added entries from is come.risen come.few rise come.removes (λ n more. come.states n (omega arith)) in
     rw (ne_eqb number next other, stays-is entities from off.others off.few) (others (pushed entities from) off.others off.come ∙ ap (λ (xs : List EntityState). Ok (xs, rest)) off.whole)
 
 -- an entry is read
-read_entry : PutIsRead → WordsSpelledAreRead → ZeroIsNormal → (words : List (List Bool)) (table : Layout) (lines : Lines) (base : List EntityState) → IsCode words → IsTable table
-    → AreLines table lines → AreStates base → (left number next : ℕ) (entry : Entered) (entries : List Entered) (text own behind rest : List Bool)
+read_entry : PutIsRead → WordsSpelledAreRead → ZeroIsNormal → (words : List (List Bool)) (table : Layout) (baselines : Baselines) (base : List EntityState) → IsCode words → IsTable table
+    → AreBaselines table baselines → AreStates base → (left number next : ℕ) (entry : Entered) (entries : List Entered) (text own behind rest : List Bool)
     → entry.number ≡ number → number + 1 ≤ next → next ≤ end_mark table → text ≡ own ++ (field_bits words table.number_bits next ++ behind)
-    → SpellsMarks words table (words_from lines entry.number (with_number entry.number base)) entry.words own
-    → AreRead words table lines base left (number + 1) next entries (behind ++ rest) rest → AreRead words table lines base (suc left) number number (entry ∷ entries) (text ++ rest) rest
+    → SpellsMarks words table (words_from baselines entry.number (with_number entry.number base)) entry.words own
+    → AreRead words table baselines base left (number + 1) next entries (behind ++ rest) rest → AreRead words table baselines base (suc left) number number (entry ∷ entries) (text ++ rest) rest
 unfolding numbers_at
-read_entry put law law' words table lines base code is_table are states left number next entry entries text own behind rest same low high whole spelled others entities added come =
+read_entry put law law' words table baselines base code is_table are states left number next entry entries text own behind rest same low high whole spelled others entities added come =
     let from = with_number number base in
-    let changed = words_from lines number from in
+    let changed = words_from baselines number from in
     let field = field_bits words table.number_bits next in
-    let spells = subst (λ (n : ℕ). SpellsMarks words table (words_from lines n (with_number n base)) entry.words own) same spelled in
-    let took = marks_are_read put law words table changed entry.words own (field ++ (behind ++ rest)) code is_table (from_words table lines base number law' is_table are states).are spells in
+    let spells = subst (λ (n : ℕ). SpellsMarks words table (words_from baselines n (with_number n base)) entry.words own) same spelled in
+    let took = marks_are_read put law words table changed entry.words own (field ++ (behind ++ rest)) code is_table (from_words table baselines base number law' is_table are states).are spells in
     let o = state_there number (words_there took.kind took.to) in
     let here : with_number number added ≡ o =
     come.states number (omega arith) ∙ ap (λ (e : Option Entered). state_after from number e) (entry_of-first entry entries number same) ∙ ap (state_there number) (sym took.is) in
@@ -102,43 +102,43 @@ read_entry put law law' words table lines base code is_table are states left num
     ) (others (pushed entities o) off.others off.come ∙ ap (λ (xs : List EntityState). Ok (xs, rest)) off.whole)
 
 -- the entities from a number on are read
-numbers_are_read : PutIsRead → WordsSpelledAreRead → ZeroIsNormal → (words : List (List Bool)) (table : Layout) (lines : Lines) (base : List EntityState) → IsCode words → IsTable table
-    → AreLines table lines → AreStates base → (left number : ℕ) (entries : List Entered) (text rest : List Bool) → left + number ≡ end_mark table → EntriesRise (end_mark table) number entries
-    → SpellsBehind words table lines base entries text → AreRead words table lines base left number (first_number table entries) entries (text ++ rest) rest
+numbers_are_read : PutIsRead → WordsSpelledAreRead → ZeroIsNormal → (words : List (List Bool)) (table : Layout) (baselines : Baselines) (base : List EntityState) → IsCode words → IsTable table
+    → AreBaselines table baselines → AreStates base → (left number : ℕ) (entries : List Entered) (text rest : List Bool) → left + number ≡ end_mark table → EntriesRise (end_mark table) number entries
+    → SpellsBehind words table baselines base entries text → AreRead words table baselines base left number (first_number table entries) entries (text ++ rest) rest
 unfolding numbers_at
-numbers_are_read put law law' words table lines base code is_table are states zero number [] text rest sum rise s entities [] come = rw (s, append-nil) refl
-numbers_are_read put law law' words table lines base code is_table are states zero number [] text rest sum rise s entities (x ∷ added) come =
+numbers_are_read put law law' words table baselines base code is_table are states zero number [] text rest sum rise s entities [] come = rw (s, append-nil) refl
+numbers_are_read put law law' words table baselines base code is_table are states zero number [] text rest sum rise s entities (x ∷ added) come =
     let risen = come.risen in
     absurd (omega (arith, risen.0, risen.1))
-numbers_are_read put law law' words table lines base code is_table are states zero number (entry ∷ entries) text rest sum rise s entities added come = absurd (omega (arith, rise.0, rise.1))
-numbers_are_read put law law' words table lines base code is_table are states (suc left) number [] text rest sum rise s entities added come =
-    read_over words table lines base left number (end_mark table) [] (text ++ rest) rest (λ same. omega arith) refl tt
-    (numbers_are_read put law law' words table lines base code is_table are states left (number + 1) [] text rest (omega arith) tt s) entities added come
-numbers_are_read put law law' words table lines base code is_table are states (suc left) number (entry ∷ entries) text rest sum rise s entities added come =
+numbers_are_read put law law' words table baselines base code is_table are states zero number (entry ∷ entries) text rest sum rise s entities added come = absurd (omega (arith, rise.0, rise.1))
+numbers_are_read put law law' words table baselines base code is_table are states (suc left) number [] text rest sum rise s entities added come =
+    read_over words table baselines base left number (end_mark table) [] (text ++ rest) rest (λ same. omega arith) refl tt
+    (numbers_are_read put law law' words table baselines base code is_table are states left (number + 1) [] text rest (omega arith) tt s) entities added come
+numbers_are_read put law law' words table baselines base code is_table are states (suc left) number (entry ∷ entries) text rest sum rise s entities added come =
     elim (cases_eq entry.number number) [
       | inl same ↦
           let next = first_number table entries in
           let risen : EntriesRise (end_mark table) (number + 1) entries = subst (λ (n : ℕ). EntriesRise (end_mark table) (n + 1) entries) same rise.2 in
           let least = first-least table (number + 1) entries (omega (arith, rise.1)) risen in
-          let all = read_entry put law law' words table lines base code is_table are states left number next entry entries text s.0 s.1 rest same least.0 least.1 s.2 s.3
-          (numbers_are_read put law law' words table lines base code is_table are states left (number + 1) entries s.1 rest (omega arith) risen s.4) in
-          subst (λ (n : ℕ). AreRead words table lines base (suc left) number n (entry ∷ entries) (text ++ rest) rest) (sym same) all entities added come
+          let all = read_entry put law law' words table baselines base code is_table are states left number next entry entries text s.0 s.1 rest same least.0 least.1 s.2 s.3
+          (numbers_are_read put law law' words table baselines base code is_table are states left (number + 1) entries s.1 rest (omega arith) risen s.4) in
+          subst (λ (n : ℕ). AreRead words table baselines base (suc left) number n (entry ∷ entries) (text ++ rest) rest) (sym same) all entities added come
       | inr later ↦
           let risen : EntriesRise (end_mark table) (number + 1) (entry ∷ entries) = (omega (arith, rise.0, later), rise.1, rise.2) in
-          read_over words table lines base left number entry.number (entry ∷ entries) (text ++ rest) rest (λ same. later (sym same))
+          read_over words table baselines base left number entry.number (entry ∷ entries) (text ++ rest) rest (λ same. later (sym same))
           (entry_of-below (end_mark table) (number + 1) number (entry ∷ entries) risen (omega arith)) risen
-          (numbers_are_read put law law' words table lines base code is_table are states left (number + 1) (entry ∷ entries) text rest (omega arith) risen s) entities added come
+          (numbers_are_read put law law' words table baselines base code is_table are states left (number + 1) (entry ∷ entries) text rest (omega arith) risen s) entities added come
     ]
 
 -- a list that is spelled so is read
 pub list_is_read : PutIsRead → WordsSpelledAreRead → ZeroIsNormal → ListSpelledIsRead
 unfolding entity_list_at
-list_is_read put law law' words table lines base now text rest code is_table are list states s =
-    let behind = behind_of_entries words table lines base s.entries text s.spells in
+list_is_read put law law' words table baselines base now text rest code is_table are list states s =
+    let behind = behind_of_entries words table baselines base s.entries text s.spells in
     let first = first_number table s.entries in
     let least = first-least table 0 s.entries (omega arith) s.rise in
     let field = field_bits words table.number_bits first in
     let regrouped : text ++ rest ≡ field ++ (behind.0 ++ rest) = ap (λ (t : List Bool). t ++ rest) behind.2 ∙ append_assoc field behind.0 rest in
     let come : ToCome table base 0 [] now s.entries = record { rise = s.rise; removes = s.removes; risen = s.list.rise; few = s.list.few; states = λ n more. s.states n } in
     rw (regrouped, number_is_read put words table 0 first (behind.0 ++ rest) code (omega arith) least.1)
-    (numbers_are_read put law law' words table lines base code is_table are states (end_mark table) 0 s.entries behind.0 rest (omega arith) s.rise behind.1 [] now come)
+    (numbers_are_read put law law' words table baselines base code is_table are states (end_mark table) 0 s.entries behind.0 rest (omega arith) s.rise behind.1 [] now come)

@@ -9,7 +9,7 @@ use Rattle.q3_fields.specs.Laws.{WordsEndAlike}
 use Rattle.q3_entity.specs.declared.state.EntityState.{EntityState}
 use Rattle.q3_entity.specs.declared.reading.Entry.TheVariants.{Removed, Changed, Same}
 use Rattle.q3_entity.specs.Entities.{AreStates, with_number}
-use Rattle.q3_entity.specs.Baselines.{Lines, AreLines}
+use Rattle.q3_entity.specs.Baselines.{Baselines, AreBaselines}
 use Rattle.q3_entity.specs.Delta.{entity_error, bits_read, words_read, delta_at, present_at, entity_at}
 use Rattle.q3_entity.specs.Lists.{number_at, words_from, numbers_at, entity_list_at, numbers_skipped, list_skipped}
 use Rattle.q3_entity.specs.Laws.{ZeroIsNormal, ReadIsSkipped}
@@ -45,26 +45,26 @@ entity_alike law words table from other bits long =
     (present_alike law words table from other removed.1 long) refl)
 
 -- the numbers of a list that is read
-numbers_end : WordsEndAlike → ZeroIsNormal → (words : List (List Bool)) (table : Layout) (lines : Lines) (base : List EntityState) → IsTable table → AreLines table lines → AreStates base
+numbers_end : WordsEndAlike → ZeroIsNormal → (words : List (List Bool)) (table : Layout) (baselines : Baselines) (base : List EntityState) → IsTable table → AreBaselines table baselines → AreStates base
     → (left number next : ℕ) (entities : List EntityState) (bits : List Bool) (found : List EntityState × List Bool)
-    → numbers_at words table lines base left number next entities bits ≡ Ok found → numbers_skipped words table left number next bits ≡ Ok (tt, found.1)
+    → numbers_at words table baselines base left number next entities bits ≡ Ok found → numbers_skipped words table left number next bits ≡ Ok (tt, found.1)
 unfolding numbers_at numbers_skipped
-numbers_end alike law words table lines base is_table are states zero number next entities bits found e =
+numbers_end alike law words table baselines base is_table are states zero number next entities bits found e =
     let same : (entities, bits) ≡ found = cc in
     ap (λ (y : List EntityState × List Bool). Ok (tt, y.1)) same
-numbers_end alike law words table lines base is_table are states (suc left) number next entities bits found e =
-    elim (number_step words table lines base left number next entities bits found e) [
+numbers_end alike law words table baselines base is_table are states (suc left) number next entities bits found e =
+    elim (number_step words table baselines base left number next entities bits found e) [
       | inl r ↦
-          let from = words_from lines number (with_number number base) in
-          let same = entity_alike alike words table from (replicate 64 0) bits (from_words table lines base number law is_table are states).are.count in
+          let from = words_from baselines number (with_number number base) in
+          let same = entity_alike alike words table from (replicate 64 0) bits (from_words table baselines base number law is_table are states).are.count in
           let end = left_ok (entity_at words table (replicate 64 0) bits) r.entry.1 (sym same ∙ ap left_of r.entry_is) in
-          rw (r.here, end.1, r.more_is) (numbers_end alike law words table lines base is_table are states left (number + 1) r.more.0 r.now r.more.1 found r.others)
-      | inr r ↦ rw r.there (numbers_end alike law words table lines base is_table are states left (number + 1) next r.kept bits found r.others)
+          rw (r.here, end.1, r.more_is) (numbers_end alike law words table baselines base is_table are states left (number + 1) r.more.0 r.now r.more.1 found r.others)
+      | inr r ↦ rw r.there (numbers_end alike law words table baselines base is_table are states left (number + 1) next r.kept bits found r.others)
     ]
 
 -- a list that is read is skipped to the same place
 pub list_is_skipped : WordsEndAlike → ZeroIsNormal → ReadIsSkipped
 unfolding entity_list_at list_skipped
-list_is_skipped alike law words table lines base now bits rest is_table are states e =
-    let first = bind_ok (number_at words table 0 bits) (λ first. numbers_at words table lines base (end_mark table) 0 first.0 [] first.1) (now, rest) e in
-    rw first.1 (numbers_end alike law words table lines base is_table are states (end_mark table) 0 first.0.0 [] first.0.1 (now, rest) first.2)
+list_is_skipped alike law words table baselines base now bits rest is_table are states e =
+    let first = bind_ok (number_at words table 0 bits) (λ first. numbers_at words table baselines base (end_mark table) 0 first.0 [] first.1) (now, rest) e in
+    rw first.1 (numbers_end alike law words table baselines base is_table are states (end_mark table) 0 first.0.0 [] first.0.1 (now, rest) first.2)

@@ -13,7 +13,7 @@ use Rattle.q3_fields.specs.Deltas.{changed_count}
 use Rattle.q3_fields.specs.Laws.{WordsAreSpelled, UnchangedIsNormal}
 use Rattle.q3_entity.specs.declared.state.EntityState.{EntityState}
 use Rattle.q3_entity.specs.Entities.{zero_entity, normal_entity, IsNormal, RiseFrom, AreStates, AreNormal, with_number}
-use Rattle.q3_entity.specs.Baselines.{Lines, AreLines, set_at, line_of}
+use Rattle.q3_entity.specs.Baselines.{Baselines, AreBaselines, set_at, baseline_of}
 use Rattle.q3_entity.specs.Delta.{removal, entity_delta}
 use Rattle.q3_entity.specs.Lists.{piece, entity_list_bits, words_from}
 use Rattle.q3_entity.specs.Spelling.{Entered, SpellsEntry, SpellsEntries, EntriesRise, RemoveFrom, state_after}
@@ -197,27 +197,27 @@ state-at law table n (Some x) (Some y) is_table from to =
 -- ---- the texts of the entries
 
 -- a baseline's words
-pub line-known : ZeroIsNormal → (table : Layout) (lines : Lines) (n : ℕ) → IsTable table → AreLines table lines → AreWords 64 (line_of lines n).words × IsNormal table (line_of lines n)
-line-known law table lines n is_table are = known (set_at lines n) (are.states n) (are.normal n)
+pub baseline-known : ZeroIsNormal → (table : Layout) (baselines : Baselines) (n : ℕ) → IsTable table → AreBaselines table baselines → AreWords 64 (baseline_of baselines n).words × IsNormal table (baseline_of baselines n)
+baseline-known law table baselines n is_table are = known (set_at baselines n) (are.states n) (are.normal n)
   where
     known : (o : Option EntityState) → IfSome o (λ state. AreWords 64 state.words) → IfSome o (IsNormal table) → AreWords 64 (unwrap_or o (zero_entity n)).words × IsNormal table (unwrap_or o (zero_entity n))
     known None words normal = law table n is_table
-    known (Some line) words normal = (words, normal)
+    known (Some baseline) words normal = (words, normal)
 
 -- an entry of a number in front of others
-module _ (law : WordsAreSpelled) (same : UnchangedIsNormal) (zeros : ZeroIsNormal) (words : List (List Bool)) (table : Layout) (lines : Lines) (base : List EntityState) (code : IsCode words) (is_table : IsTable table) (are : AreLines table lines) where
+module _ (law : WordsAreSpelled) (same : UnchangedIsNormal) (zeros : ZeroIsNormal) (words : List (List Bool)) (table : Layout) (baselines : Baselines) (base : List EntityState) (code : IsCode words) (is_table : IsTable table) (are : AreBaselines table baselines) where
   spells-at : (n : ℕ) (o t : Option EntityState) (entries : List Entered) (text : List Bool) → with_number n base ≡ o → IfSome o (KnownFrom table n) → IfSome t (KnownTo n)
-      → SpellsEntries words table lines base entries text → SpellsEntries words table lines base (entries_at table n o t ++ entries) (piece words table lines n o t ++ text)
+      → SpellsEntries words table baselines base entries text → SpellsEntries words table baselines base (entries_at table n o t ++ entries) (piece words table baselines n o t ++ text)
   spells-at n None None entries text is from to spells = spells
   spells-at n (Some x) None entries text is from to spells = (removal words table n, text, refl, inl (refl, refl), spells)
   spells-at n None (Some y) entries text is from to spells =
-      let line = line_of lines n in
-      let known = line-known zeros table lines n is_table are in
-      let spelled = forced_is_spelled law same words table n line y code is_table known.0 known.1 to.1 to.0 in (
-        entity_delta words table line y true,
+      let baseline = baseline_of baselines n in
+      let known = baseline-known zeros table baselines n is_table are in
+      let spelled = forced_is_spelled law same words table n baseline y code is_table known.0 known.1 to.1 to.0 in (
+        entity_delta words table baseline y true,
         text,
         refl,
-        subst (λ (o : Option EntityState). SpellsEntry words table (words_from lines n o) (present table n y) (entity_delta words table line y true)) (sym is) spelled,
+        subst (λ (o : Option EntityState). SpellsEntry words table (words_from baselines n o) (present table n y) (entity_delta words table baseline y true)) (sym is) spelled,
         spells,
       )
   spells-at n (Some x) (Some y) entries text is from to spells =
@@ -229,20 +229,20 @@ module _ (law : WordsAreSpelled) (same : UnchangedIsNormal) (zeros : ZeroIsNorma
               entity_delta words table x y false,
               text,
               refl,
-              subst (λ (o : Option EntityState). SpellsEntry words table (words_from lines n o) (present table n y) (entity_delta words table x y false)) (sym is) spelled,
+              subst (λ (o : Option EntityState). SpellsEntry words table (words_from baselines n o) (present table n y) (entity_delta words table x y false)) (sym is) spelled,
               spells,
             )
       ]
 
   -- those of so many numbers
   spells-from : (now : List EntityState) (end : List Bool) (a count : ℕ) → ((n : ℕ) → IfSome (with_number n base) (KnownFrom table n)) → ((n : ℕ) → IfSome (with_number n now) (KnownTo n))
-      → SpellsEntries words table lines base [] end
-      → SpellsEntries words table lines base (entries_from table base now a count) (flat_map (λ n. piece words table lines n (with_number n base) (with_number n now)) (range_with_len a count) ++ end)
+      → SpellsEntries words table baselines base [] end
+      → SpellsEntries words table baselines base (entries_from table base now a count) (flat_map (λ n. piece words table baselines n (with_number n base) (with_number n now)) (range_with_len a count) ++ end)
   spells-from now end a zero from to ends = ends
   spells-from now end a (suc count) from to ends =
-      let others = flat_map (λ n. piece words table lines n (with_number n base) (with_number n now)) (range_with_len (a + 1) count) in
-      let first = piece words table lines a (with_number a base) (with_number a now) in
-      subst (SpellsEntries words table lines base (entries_from table base now a (suc count))) (sym (append_assoc first others end))
+      let others = flat_map (λ n. piece words table baselines n (with_number n base) (with_number n now)) (range_with_len (a + 1) count) in
+      let first = piece words table baselines a (with_number a base) (with_number a now) in
+      subst (SpellsEntries words table baselines base (entries_from table base now a (suc count))) (sym (append_assoc first others end))
       (spells-at a (with_number a base) (with_number a now) (entries_from table base now (a + 1) count) (others ++ end) refl (from a) (to a) (spells-from now end (a + 1) count from to ends))
 
 -- ---- the whole list
@@ -265,7 +265,7 @@ known-to now n states = known (with_number n now) refl (found-all (λ entity. Ar
 
 pub list_is_spelled : ZeroIsNormal → WordsAreSpelled → UnchangedIsNormal → ListIsSpelled
 unfolding entity_list_bits
-list_is_spelled zeros law same words table lines base now code is_table are is_base states normal is_now states-now =
+list_is_spelled zeros law same words table baselines base now code is_table are is_base states normal is_now states-now =
     let end = end_mark table in
     let from : (n : ℕ) → IfSome (with_number n base) (KnownFrom table n) = λ n. known-from table base n states normal in
     let to : (n : ℕ) → IfSome (with_number n now) (KnownTo n) = λ n. known-to now n states-now in
@@ -273,7 +273,7 @@ list_is_spelled zeros law same words table lines base now code is_table are is_b
       entries = entries_from table base now 0 end;
       rise = entries-rise table base now end 0 end (omega arith);
       removes = entries-remove table base now 0 end;
-      spells = spells-from law same zeros words table lines base code is_table are now (field_bits words table.number_bits end) 0 end from to refl;
+      spells = spells-from law same zeros words table baselines base code is_table are now (field_bits words table.number_bits end) 0 end from to refl;
       list = record { rise = normal-rises table end 0 now is_now.rise; few = omega (arith, length-map now (normal_entity table), is_now.few) };
       states = λ n.
           found-normal table n now

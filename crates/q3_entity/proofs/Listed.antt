@@ -10,7 +10,7 @@ use Rattle.q3_entity.specs.declared.reading.Entry.{Entry}
 use Rattle.q3_entity.specs.declared.reading.Entry.TheVariants.{Removed, Changed, Same}
 use Rattle.q3_entity.specs.declared.error.EntityError.{EntityError}
 use Rattle.q3_entity.specs.Entities.{RiseFrom, IsList, most_entities, with_number}
-use Rattle.q3_entity.specs.Baselines.{Lines}
+use Rattle.q3_entity.specs.Baselines.{Baselines}
 use Rattle.q3_entity.specs.Laws.{ListRises}
 use Rattle.q3_entity.proofs.ListWritten.{found-number}
 use Rattle.q3_entity.proofs.Steps.{number_step}
@@ -67,28 +67,28 @@ entered-below number xs false Removed words now below e = absurd cc
 entered-below number xs in_base Changed words now below e = one_more-below number xs _ now below refl e
 entered-below number xs in_base Same words now below e = one_more-below number xs _ now below refl e
 
-numbers_below : (words : List (List Bool)) (table : Layout) (lines : Lines) (base : List EntityState) (left number next : ℕ) (entities : List EntityState) (bits : List Bool)
-    (found : List EntityState × List Bool) → IsBelow number entities → numbers_at words table lines base left number next entities bits ≡ Ok found → IsBelow (number + left) found.0
+numbers_below : (words : List (List Bool)) (table : Layout) (baselines : Baselines) (base : List EntityState) (left number next : ℕ) (entities : List EntityState) (bits : List Bool)
+    (found : List EntityState × List Bool) → IsBelow number entities → numbers_at words table baselines base left number next entities bits ≡ Ok found → IsBelow (number + left) found.0
 unfolding numbers_at
-numbers_below words table lines base zero number next entities bits found below e =
+numbers_below words table baselines base zero number next entities bits found below e =
     let same : (entities, bits) ≡ found = cc in
     let all : number + 0 ≡ number = omega arith in
     rw all (subst (λ (f : List EntityState × List Bool). IsBelow number f.0) same below)
-numbers_below words table lines base (suc left) number next entities bits found below e =
+numbers_below words table baselines base (suc left) number next entities bits found below e =
     let sum : number + 1 + left ≡ number + suc left = omega arith in
     subst (λ (n : ℕ). IsBelow n found.0) sum
-    (elim (number_step words table lines base left number next entities bits found e) [
+    (elim (number_step words table baselines base left number next entities bits found e) [
       | inl r ↦
-          numbers_below words table lines base left (number + 1) r.more.0 r.now r.more.1 found (entered-below number entities (is_some (with_number number base)) r.entry.0.0 r.entry.0.1 r.now below r.now_is) r.others
+          numbers_below words table baselines base left (number + 1) r.more.0 r.now r.more.1 found (entered-below number entities (is_some (with_number number base)) r.entry.0.0 r.entry.0.1 r.now below r.now_is) r.others
       | inr r ↦
-          numbers_below words table lines base left (number + 1) next r.kept bits found (stays-below number entities (with_number number base) r.kept below (found-number number base) r.kept_is) r.others
+          numbers_below words table baselines base left (number + 1) next r.kept bits found (stays-below number entities (with_number number base) r.kept below (found-number number base) r.kept_is) r.others
     ])
 
-pub list_is_listed : (words : List (List Bool)) (table : Layout) (lines : Lines) (base : List EntityState) (bits : List Bool) (now : List EntityState) (rest : List Bool)
-    → entity_list_at words table lines base bits ≡ Ok (now, rest) → IsList table now
+pub list_is_listed : (words : List (List Bool)) (table : Layout) (baselines : Baselines) (base : List EntityState) (bits : List Bool) (now : List EntityState) (rest : List Bool)
+    → entity_list_at words table baselines base bits ≡ Ok (now, rest) → IsList table now
 unfolding entity_list_at
-list_is_listed words table lines base bits now rest e =
-    let first = bind_ok (number_at words table 0 bits) (λ first. numbers_at words table lines base (end_mark table) 0 first.0 [] first.1) (now, rest) e in
-    let below = numbers_below words table lines base (end_mark table) 0 first.0.0 [] first.0.1 (now, rest) (record { rise = tt; few = omega arith }) first.2 in
+list_is_listed words table baselines base bits now rest e =
+    let first = bind_ok (number_at words table 0 bits) (λ first. numbers_at words table baselines base (end_mark table) 0 first.0 [] first.1) (now, rest) e in
+    let below = numbers_below words table baselines base (end_mark table) 0 first.0.0 [] first.0.1 (now, rest) (record { rise = tt; few = omega arith }) first.2 in
     let all : 0 + end_mark table ≡ end_mark table = omega arith in
     record { rise = subst (λ (n : ℕ). RiseFrom n 0 now) all below.rise; few = below.few }

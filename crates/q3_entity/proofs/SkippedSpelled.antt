@@ -8,7 +8,7 @@ use Rattle.q3_fields.specs.Kinds.{Layout, IsTable, end_mark}
 use Rattle.q3_fields.specs.States.{AreWords}
 use Rattle.q3_fields.specs.Laws.{WordsReadAreSpelled, WordsSpelledAreRead}
 use Rattle.q3_entity.specs.Entities.{zero_entity}
-use Rattle.q3_entity.specs.Baselines.{no_lines}
+use Rattle.q3_entity.specs.Baselines.{no_baselines}
 use Rattle.q3_entity.specs.Delta.{entity_at}
 use Rattle.q3_entity.specs.Lists.{number_at}
 use Rattle.q3_entity.specs.Walking.{skipped_at}
@@ -19,7 +19,7 @@ use Rattle.q3_entity.proofs.Skipping.{skipped_from, skip_begins, skip_turns, ski
 use Rattle.q3_entity.proofs.EntrySpelled.{SpellsMarks, marks_were_spelled, marks_are_read}
 use Rattle.q3_entity.proofs.EntriesSpelled.{first_number, SpellsBehind, entries_of_behind, behind_of_entries, first-least, behind_texts}
 use Rattle.q3_entity.proofs.ListWritten.{rise-weaker}
-use Rattle.q3_entity.proofs.SetLines.{zeros_there}
+use Rattle.q3_entity.proofs.SetBaselines.{zeros_there}
 
 -- the words of the zero state
 abbrev zeros : List ℕ
@@ -38,7 +38,7 @@ record PassedOver (words : List (List Bool)) (table : Layout) (next : ℕ) (bits
   parts : bits ≡ text ++ rest
   first : first_number table entries ≡ next
   rise : EntriesRise (end_mark table) next entries
-  spells : SpellsBehind words table no_lines [] entries text
+  spells : SpellsBehind words table no_baselines [] entries text
 
 -- at the end mark nothing is left
 passed_end : (words : List (List Bool)) (table : Layout) (next : ℕ) (bits rest : List Bool) → next ≡ end_mark table → skipped_from words table (next, bits) ≡ Ok (tt, rest)
@@ -92,15 +92,15 @@ skipped_was_spelled put law law' words table bits rest code is_table e =
       record {
         entries = passed.entries;
         rise = rise-weaker (end_mark table) first.0.0 0 passed.entries (omega arith) passed.rise;
-        spells = subst (λ (n : ℕ). SpellsEntries words table no_lines [] passed.entries (field_bits words table.number_bits n ++ passed.text)) passed.first
-            (entries_of_behind words table no_lines [] passed.entries passed.text passed.spells);
+        spells = subst (λ (n : ℕ). SpellsEntries words table no_baselines [] passed.entries (field_bits words table.number_bits n ++ passed.text)) passed.first
+            (entries_of_behind words table no_baselines [] passed.entries passed.text passed.spells);
       },
     )
 
 -- ---- what is spelled so is passed over
 
 entries_are_skipped : PutIsRead → WordsSpelledAreRead → (words : List (List Bool)) (table : Layout) → IsCode words → IsTable table → AreWords 64 zeros
-    → (least : ℕ) (entries : List Entered) (text rest : List Bool) → EntriesRise (end_mark table) least entries → SpellsBehind words table no_lines [] entries text
+    → (least : ℕ) (entries : List Entered) (text rest : List Bool) → EntriesRise (end_mark table) least entries → SpellsBehind words table no_baselines [] entries text
     → skipped_from words table (first_number table entries, text ++ rest) ≡ Ok (tt, rest)
 unfolding skipped_at
 entries_are_skipped put law words table code is_table are least [] text rest rise s =
@@ -120,7 +120,7 @@ entries_are_skipped put law words table code is_table are least (entry ∷ entri
 
 pub spelled_is_skipped : PutIsRead → WordsSpelledAreRead → ZeroIsNormal → SpelledIsSkipped
 spelled_is_skipped put law law' words table text rest code is_table s =
-    let behind = behind_of_entries words table no_lines [] s.entries text s.spells in
+    let behind = behind_of_entries words table no_baselines [] s.entries text s.spells in
     let first = first_number table s.entries in
     let from_here = first-least table 0 s.entries (omega arith) s.rise in
     let field = field_bits words table.number_bits first in

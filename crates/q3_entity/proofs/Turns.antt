@@ -8,7 +8,7 @@ use Rattle.q3_entity.specs.declared.state.EntityState.{EntityState}
 use Rattle.q3_entity.specs.declared.error.EntityError.{EntityError}
 use Rattle.q3_entity.specs.declared.error.EntityError.TheVariants.{Order, Many}
 use Rattle.q3_entity.specs.Entities.{RiseFrom, with_number, most_entities}
-use Rattle.q3_entity.specs.Baselines.{Lines}
+use Rattle.q3_entity.specs.Baselines.{Baselines}
 use Rattle.q3_entity.specs.Delta.{bits_read, entity_at}
 use Rattle.q3_entity.specs.Lists.{number_at, one_more, stays, entered, words_from, numbers_at, entity_list_at}
 use Rattle.q3_entity.specs.Runs.{taken}
@@ -39,17 +39,17 @@ number_at-least words table least bits found e =
     ]
 
 -- an entry, the number behind it, and what is read from there on
-abbrev behind_entry : List (List Bool) → Layout → Lines → ℕ → Option EntityState → List EntityState → List Bool → (ℕ → List EntityState → List Bool → Answer) → Answer
-behind_entry words table lines number from entities bits go =
-    entry_at words table (words_from lines number from) (is_some from) number entities bits
+abbrev behind_entry : List (List Bool) → Layout → Baselines → ℕ → Option EntityState → List EntityState → List Bool → (ℕ → List EntityState → List Bool → Answer) → Answer
+behind_entry words table baselines number from entities bits go =
+    entry_at words table (words_from baselines number from) (is_some from) number entities bits
     >>= λ now. (number_at words table (number + 1) now.1 >>= λ more. go more.0 now.0 more.1)
 
-behind_entry-same : (words : List (List Bool)) (table : Layout) (lines : Lines) (number : ℕ) (from : Option EntityState) (entities : List EntityState) (bits : List Bool)
+behind_entry-same : (words : List (List Bool)) (table : Layout) (baselines : Baselines) (number : ℕ) (from : Option EntityState) (entities : List EntityState) (bits : List Bool)
     (go go' : ℕ → List EntityState → List Bool → Answer)
     → ((left : List Bool) (now : List EntityState) (more : ℕ × List Bool) → number_at words table (number + 1) left ≡ Ok more → go more.0 now more.1 ≡ go' more.0 now more.1)
-    → behind_entry words table lines number from entities bits go ≡ behind_entry words table lines number from entities bits go'
-behind_entry-same words table lines number from entities bits go go' same =
-    bind_same (entry_at words table (words_from lines number from) (is_some from) number entities bits)
+    → behind_entry words table baselines number from entities bits go ≡ behind_entry words table baselines number from entities bits go'
+behind_entry-same words table baselines number from entities bits go go' same =
+    bind_same (entry_at words table (words_from baselines number from) (is_some from) number entities bits)
     (λ now. number_at words table (number + 1) now.1 >>= λ more. go more.0 now.0 more.1)
     (λ now. number_at words table (number + 1) now.1 >>= λ more. go' more.0 now.0 more.1)
     (λ now is.
@@ -57,14 +57,14 @@ behind_entry-same words table lines number from entities bits go go' same =
     (λ more is'. same now.1 now.0 more is'))
 
 -- at the number of the next entry
-numbers_at-here : (words : List (List Bool)) (table : Layout) (lines : Lines) (base : List EntityState) (left number : ℕ) (entities : List EntityState) (bits : List Bool)
-    → numbers_at words table lines base (suc left) number number entities bits
-    ≡ behind_entry words table lines number (with_number number base) entities bits (λ next now left'. numbers_at words table lines base left (number + 1) next now left')
+numbers_at-here : (words : List (List Bool)) (table : Layout) (baselines : Baselines) (base : List EntityState) (left number : ℕ) (entities : List EntityState) (bits : List Bool)
+    → numbers_at words table baselines base (suc left) number number entities bits
+    ≡ behind_entry words table baselines number (with_number number base) entities bits (λ next now left'. numbers_at words table baselines base left (number + 1) next now left')
 unfolding numbers_at entry_at
-numbers_at-here words table lines base left number entities bits =
+numbers_at-here words table baselines base left number entities bits =
     let from = with_number number base in
-    let others = λ (now : List EntityState × List Bool). number_at words table (number + 1) now.1 >>= λ more. numbers_at words table lines base left (number + 1) more.0 now.0 more.1 in
-    let read = entity_at words table (words_from lines number from) bits in
+    let others = λ (now : List EntityState × List Bool). number_at words table (number + 1) now.1 >>= λ more. numbers_at words table baselines base left (number + 1) more.0 now.0 more.1 in
+    let read = entity_at words table (words_from baselines number from) bits in
     rw (eq-eqb number number refl)
     (sym (bind_assoc read (λ entry. entered entities (is_some from) number entry.0.0 entry.0.1 >>= λ now. Ok (now, entry.1)) others
     ∙ bind_same read (λ entry. (entered entities (is_some from) number entry.0.0 entry.0.1 >>= λ now. Ok (now, entry.1)) >>= others)
@@ -72,159 +72,159 @@ numbers_at-here words table lines base left number entities bits =
     (λ entry is. bind_assoc (entered entities (is_some from) number entry.0.0 entry.0.1) (λ now. Ok (now, entry.1)) others)))
 
 -- at a number that has no entry
-numbers_at-there : (words : List (List Bool)) (table : Layout) (lines : Lines) (base : List EntityState) (left number next : ℕ) (entities : List EntityState) (bits : List Bool) → number ≢ next
-    → numbers_at words table lines base (suc left) number next entities bits
-    ≡ (stays entities (with_number number base) >>= λ kept. numbers_at words table lines base left (number + 1) next kept bits)
+numbers_at-there : (words : List (List Bool)) (table : Layout) (baselines : Baselines) (base : List EntityState) (left number next : ℕ) (entities : List EntityState) (bits : List Bool) → number ≢ next
+    → numbers_at words table baselines base (suc left) number next entities bits
+    ≡ (stays entities (with_number number base) >>= λ kept. numbers_at words table baselines base left (number + 1) next kept bits)
 unfolding numbers_at
-numbers_at-there words table lines base left number next entities bits other = rw (ne_eqb number next other) refl
+numbers_at-there words table baselines base left number next entities bits other = rw (ne_eqb number next other) refl
 
 -- an entity below the number says nothing more
-forget : (words : List (List Bool)) (table : Layout) (lines : Lines) (x : EntityState) (base : List EntityState) (left number next : ℕ) (entities : List EntityState) (bits : List Bool)
+forget : (words : List (List Bool)) (table : Layout) (baselines : Baselines) (x : EntityState) (base : List EntityState) (left number next : ℕ) (entities : List EntityState) (bits : List Bool)
     → x.number < number
-    → numbers_at words table lines (x ∷ base) left number next entities bits ≡ numbers_at words table lines base left number next entities bits
+    → numbers_at words table baselines (x ∷ base) left number next entities bits ≡ numbers_at words table baselines base left number next entities bits
 unfolding numbers_at
-forget words table lines x base zero number next entities bits below = refl
-forget words table lines x base (suc left) number next entities bits below =
+forget words table baselines x base zero number next entities bits below = refl
+forget words table baselines x base (suc left) number next entities bits below =
     let gone = with_number-behind number x base (λ same. omega arith) in
     elim (cases_eq number next) [
       | inl same ↦
           rw (← same)
-          (numbers_at-here words table lines (x ∷ base) left number entities bits
-          ∙ ap (λ (from : Option EntityState). behind_entry words table lines number from entities bits (λ next now left'. numbers_at words table lines (x ∷ base) left (number + 1) next now left')) gone
-          ∙ behind_entry-same words table lines number (with_number number base) entities bits _ _
-          (λ left' now more is. forget words table lines x base left (number + 1) more.0 now more.1 (omega arith))
-          ∙ sym (numbers_at-here words table lines base left number entities bits))
+          (numbers_at-here words table baselines (x ∷ base) left number entities bits
+          ∙ ap (λ (from : Option EntityState). behind_entry words table baselines number from entities bits (λ next now left'. numbers_at words table baselines (x ∷ base) left (number + 1) next now left')) gone
+          ∙ behind_entry-same words table baselines number (with_number number base) entities bits _ _
+          (λ left' now more is. forget words table baselines x base left (number + 1) more.0 now more.1 (omega arith))
+          ∙ sym (numbers_at-here words table baselines base left number entities bits))
       | inr other ↦
-          numbers_at-there words table lines (x ∷ base) left number next entities bits other
-          ∙ ap (λ (from : Option EntityState). stays entities from >>= λ kept. numbers_at words table lines (x ∷ base) left (number + 1) next kept bits) gone
-          ∙ bind_same (stays entities (with_number number base)) (λ kept. numbers_at words table lines (x ∷ base) left (number + 1) next kept bits)
-          (λ kept. numbers_at words table lines base left (number + 1) next kept bits)
-          (λ kept is. forget words table lines x base left (number + 1) next kept bits (omega arith))
-          ∙ sym (numbers_at-there words table lines base left number next entities bits other)
+          numbers_at-there words table baselines (x ∷ base) left number next entities bits other
+          ∙ ap (λ (from : Option EntityState). stays entities from >>= λ kept. numbers_at words table baselines (x ∷ base) left (number + 1) next kept bits) gone
+          ∙ bind_same (stays entities (with_number number base)) (λ kept. numbers_at words table baselines (x ∷ base) left (number + 1) next kept bits)
+          (λ kept. numbers_at words table baselines base left (number + 1) next kept bits)
+          (λ kept is. forget words table baselines x base left (number + 1) next kept bits (omega arith))
+          ∙ sym (numbers_at-there words table baselines base left number next entities bits other)
     ]
 
 -- from a number on that the next entry has
-abbrev pub from_next : List (List Bool) → Layout → Lines → ℕ → List EntityState → List EntityState → List Bool → Answer
-from_next words table lines next base entities bits = numbers_at words table lines base (end_mark table - next) next next entities bits
+abbrev pub from_next : List (List Bool) → Layout → Baselines → ℕ → List EntityState → List EntityState → List Bool → Answer
+from_next words table baselines next base entities bits = numbers_at words table baselines base (end_mark table - next) next next entities bits
 
 -- at the next entry's number no entity of the base is passed over
-jump-here : (words : List (List Bool)) (table : Layout) (lines : Lines) (base : List EntityState) (limit left number next : ℕ) (entities : List EntityState) (bits : List Bool)
+jump-here : (words : List (List Bool)) (table : Layout) (baselines : Baselines) (base : List EntityState) (limit left number next : ℕ) (entities : List EntityState) (bits : List Bool)
     → RiseFrom limit number base → left + number ≡ end_mark table → number ≡ next
-    → numbers_at words table lines base left number next entities bits
-    ≡ (kept_below next entities base >>= λ kept. from_next words table lines next kept.1 kept.0 bits)
-jump-here words table lines base limit left number next entities bits rise sum same =
+    → numbers_at words table baselines base left number next entities bits
+    ≡ (kept_below next entities base >>= λ kept. from_next words table baselines next kept.1 kept.0 bits)
+jump-here words table baselines base limit left number next entities bits rise sum same =
     let all : end_mark table - number ≡ left = omega arith in
     rw (← same, kept_below-none limit number entities base rise, all) refl
 
 -- up to the next entry the base's entities stay
-jump : (words : List (List Bool)) (table : Layout) (lines : Lines) (base : List EntityState) (limit left number next : ℕ) (entities : List EntityState) (bits : List Bool)
+jump : (words : List (List Bool)) (table : Layout) (baselines : Baselines) (base : List EntityState) (limit left number next : ℕ) (entities : List EntityState) (bits : List Bool)
     → RiseFrom limit number base → left + number ≡ end_mark table → number ≤ next → next ≤ end_mark table
-    → numbers_at words table lines base left number next entities bits
-    ≡ (kept_below next entities base >>= λ kept. from_next words table lines next kept.1 kept.0 bits)
+    → numbers_at words table baselines base left number next entities bits
+    ≡ (kept_below next entities base >>= λ kept. from_next words table baselines next kept.1 kept.0 bits)
 unfolding numbers_at kept_below
-jump words table lines [] limit zero number next entities bits rise sum below within =
+jump words table baselines [] limit zero number next entities bits rise sum below within =
     let none : end_mark table - next ≡ 0 = omega arith in
     rw none refl
-jump words table lines (x ∷ xs) limit zero number next entities bits rise sum below within = jump-here words table lines (x ∷ xs) limit zero number next entities bits rise sum (omega arith)
-jump words table lines [] limit (suc left) number next entities bits rise sum below within =
+jump words table baselines (x ∷ xs) limit zero number next entities bits rise sum below within = jump-here words table baselines (x ∷ xs) limit zero number next entities bits rise sum (omega arith)
+jump words table baselines [] limit (suc left) number next entities bits rise sum below within =
     elim (cases_eq number next) [
-      | inl same ↦ jump-here words table lines [] limit (suc left) number next entities bits rise sum same
+      | inl same ↦ jump-here words table baselines [] limit (suc left) number next entities bits rise sum same
       | inr other ↦
-          numbers_at-there words table lines [] left number next entities bits other
-          ∙ jump words table lines [] limit left (number + 1) next entities bits tt (omega arith) (omega arith) within
+          numbers_at-there words table baselines [] left number next entities bits other
+          ∙ jump words table baselines [] limit left (number + 1) next entities bits tt (omega arith) (omega arith) within
     ]
-jump words table lines (x ∷ xs) limit (suc left) number next entities bits rise sum below within =
+jump words table baselines (x ∷ xs) limit (suc left) number next entities bits rise sum below within =
     let base = x ∷ xs in
     elim (cases_eq number next) [
-      | inl same ↦ jump-here words table lines base limit (suc left) number next entities bits rise sum same
+      | inl same ↦ jump-here words table baselines base limit (suc left) number next entities bits rise sum same
       | inr other ↦
           elim (cases_eq x.number number) [
             | inl here ↦
                 let risen : RiseFrom limit (number + 1) xs = rw here at rise.2 in
-                numbers_at-there words table lines base left number next entities bits other
-                ∙ ap (λ (from : Option EntityState). stays entities from >>= λ kept. numbers_at words table lines base left (number + 1) next kept bits) (with_number-named x xs number here)
-                ∙ bind_same (one_more entities x) (λ kept. numbers_at words table lines base left (number + 1) next kept bits)
-                (λ kept. kept_below next kept xs >>= λ kept'. from_next words table lines next kept'.1 kept'.0 bits)
+                numbers_at-there words table baselines base left number next entities bits other
+                ∙ ap (λ (from : Option EntityState). stays entities from >>= λ kept. numbers_at words table baselines base left (number + 1) next kept bits) (with_number-named x xs number here)
+                ∙ bind_same (one_more entities x) (λ kept. numbers_at words table baselines base left (number + 1) next kept bits)
+                (λ kept. kept_below next kept xs >>= λ kept'. from_next words table baselines next kept'.1 kept'.0 bits)
                 (λ kept is.
-                forget words table lines x xs left (number + 1) next kept bits (omega arith)
-                ∙ jump words table lines xs limit left (number + 1) next kept bits risen (omega arith) (omega arith) within)
-                ∙ sym (bind_assoc (one_more entities x) (λ more. kept_below next more xs) (λ kept'. from_next words table lines next kept'.1 kept'.0 bits))
-                ∙ ap (λ (r : Result (List EntityState × List EntityState) EntityError). r >>= λ kept'. from_next words table lines next kept'.1 kept'.0 bits)
+                forget words table baselines x xs left (number + 1) next kept bits (omega arith)
+                ∙ jump words table baselines xs limit left (number + 1) next kept bits risen (omega arith) (omega arith) within)
+                ∙ sym (bind_assoc (one_more entities x) (λ more. kept_below next more xs) (λ kept'. from_next words table baselines next kept'.1 kept'.0 bits))
+                ∙ ap (λ (r : Result (List EntityState × List EntityState) EntityError). r >>= λ kept'. from_next words table baselines next kept'.1 kept'.0 bits)
                 (sym (kept_below-more next entities x xs (omega arith)))
             | inr later ↦
                 let risen : RiseFrom limit (number + 1) base = (omega (arith, rise.0, later), rise.1, rise.2) in
-                numbers_at-there words table lines base left number next entities bits other
-                ∙ ap (λ (from : Option EntityState). stays entities from >>= λ kept. numbers_at words table lines base left (number + 1) next kept bits)
+                numbers_at-there words table baselines base left number next entities bits other
+                ∙ ap (λ (from : Option EntityState). stays entities from >>= λ kept. numbers_at words table baselines base left (number + 1) next kept bits)
                 (with_number-below limit (number + 1) number base risen (omega arith))
-                ∙ jump words table lines base limit left (number + 1) next entities bits risen (omega arith) (omega arith) within
+                ∙ jump words table baselines base limit left (number + 1) next entities bits risen (omega arith) (omega arith) within
           ]
     ]
 
 -- from where a list stands
-abbrev pub from_reached : List (List Bool) → Layout → Lines → Reached × List Bool → Answer
-from_reached words table lines at = from_next words table lines at.0.next at.0.base at.0.entities at.1
+abbrev pub from_reached : List (List Bool) → Layout → Baselines → Reached × List Bool → Answer
+from_reached words table baselines at = from_next words table baselines at.0.next at.0.base at.0.entities at.1
 
 -- the number behind an entry, and what is read from there on
-next_goes_on : (words : List (List Bool)) (table : Layout) (lines : Lines) (least : ℕ) (base entities : List EntityState) (bits : List Bool)
-    → (next_at words table least base entities bits >>= from_reached words table lines)
-    ≡ (number_at words table least bits >>= λ number. (kept_below number.0 entities base >>= λ kept. from_next words table lines number.0 kept.1 kept.0 number.1))
+next_goes_on : (words : List (List Bool)) (table : Layout) (baselines : Baselines) (least : ℕ) (base entities : List EntityState) (bits : List Bool)
+    → (next_at words table least base entities bits >>= from_reached words table baselines)
+    ≡ (number_at words table least bits >>= λ number. (kept_below number.0 entities base >>= λ kept. from_next words table baselines number.0 kept.1 kept.0 number.1))
 unfolding next_at
-next_goes_on words table lines least base entities bits =
+next_goes_on words table baselines least base entities bits =
     let number = number_at words table least bits in
     let kept = λ (number : ℕ × List Bool). kept_below number.0 entities base in
     let made = λ (number : ℕ × List Bool) (kept : List EntityState × List EntityState). let at : Reached = record { next = number.0; base = kept.1; entities = kept.0 } in Ok (at, number.1) in
-    bind_assoc number (λ number. kept number >>= made number) (from_reached words table lines)
-    ∙ bind_same number (λ number. (kept number >>= made number) >>= from_reached words table lines)
-    (λ number. kept number >>= λ kept. from_next words table lines number.0 kept.1 kept.0 number.1)
-    (λ number is. bind_assoc (kept number) (made number) (from_reached words table lines))
+    bind_assoc number (λ number. kept number >>= made number) (from_reached words table baselines)
+    ∙ bind_same number (λ number. (kept number >>= made number) >>= from_reached words table baselines)
+    (λ number. kept number >>= λ kept. from_next words table baselines number.0 kept.1 kept.0 number.1)
+    (λ number is. bind_assoc (kept number) (made number) (from_reached words table baselines))
 
 -- a whole list is read from its first number on
-pub list_begins : ReadWasPut → (words : List (List Bool)) (table : Layout) (lines : Lines) (base : List EntityState) (limit : ℕ) (bits : List Bool) → IsCode words → RiseFrom limit 0 base
-    → entity_list_at words table lines base bits ≡ (next_at words table 0 base [] bits >>= from_reached words table lines)
+pub list_begins : ReadWasPut → (words : List (List Bool)) (table : Layout) (baselines : Baselines) (base : List EntityState) (limit : ℕ) (bits : List Bool) → IsCode words → RiseFrom limit 0 base
+    → entity_list_at words table baselines base bits ≡ (next_at words table 0 base [] bits >>= from_reached words table baselines)
 unfolding entity_list_at
-list_begins put words table lines base limit bits code rise =
-    bind_same (number_at words table 0 bits) (λ first. numbers_at words table lines base (end_mark table) 0 first.0 [] first.1)
-    (λ first. kept_below first.0 [] base >>= λ kept. from_next words table lines first.0 kept.1 kept.0 first.1)
+list_begins put words table baselines base limit bits code rise =
+    bind_same (number_at words table 0 bits) (λ first. numbers_at words table baselines base (end_mark table) 0 first.0 [] first.1)
+    (λ first. kept_below first.0 [] base >>= λ kept. from_next words table baselines first.0 kept.1 kept.0 first.1)
     (λ first is.
-    jump words table lines base limit (end_mark table) 0 first.0 [] first.1 rise (omega arith) (omega arith) (number_was_read put words table 0 bits first code is).1)
-    ∙ sym (next_goes_on words table lines 0 base [] bits)
+    jump words table baselines base limit (end_mark table) 0 first.0 [] first.1 rise (omega arith) (omega arith) (number_was_read put words table 0 bits first code is).1)
+    ∙ sym (next_goes_on words table baselines 0 base [] bits)
 
 -- those behind a number say all that comes
-behind_taken : (words : List (List Bool)) (table : Layout) (lines : Lines) (base : List EntityState) (left number next : ℕ) (entities : List EntityState) (bits : List Bool)
-    → numbers_at words table lines base left (number + 1) next entities bits ≡ numbers_at words table lines (taken number base).1 left (number + 1) next entities bits
-behind_taken words table lines [] left number next entities bits = refl
-behind_taken words table lines (x ∷ xs) left number next entities bits =
+behind_taken : (words : List (List Bool)) (table : Layout) (baselines : Baselines) (base : List EntityState) (left number next : ℕ) (entities : List EntityState) (bits : List Bool)
+    → numbers_at words table baselines base left (number + 1) next entities bits ≡ numbers_at words table baselines (taken number base).1 left (number + 1) next entities bits
+behind_taken words table baselines [] left number next entities bits = refl
+behind_taken words table baselines (x ∷ xs) left number next entities bits =
     elim (cases_eq x.number number) [
-      | inl same ↦ rw (eq-eqb x.number number same) (forget words table lines x xs left (number + 1) next entities bits (omega arith))
+      | inl same ↦ rw (eq-eqb x.number number same) (forget words table baselines x xs left (number + 1) next entities bits (omega arith))
       | inr other ↦ rw (ne_eqb x.number number other) refl
     ]
 
 -- a turn: the next entry, and the number behind it
-pub list_turns : ReadWasPut → (words : List (List Bool)) (table : Layout) (lines : Lines) (at : Reached) (limit : ℕ) (bits : List Bool) → IsCode words → at.next < end_mark table
+pub list_turns : ReadWasPut → (words : List (List Bool)) (table : Layout) (baselines : Baselines) (at : Reached) (limit : ℕ) (bits : List Bool) → IsCode words → at.next < end_mark table
     → RiseFrom limit at.next at.base
-    → from_next words table lines at.next at.base at.entities bits ≡ (turn_at words table lines at bits >>= from_reached words table lines)
+    → from_next words table baselines at.next at.base at.entities bits ≡ (turn_at words table baselines at bits >>= from_reached words table baselines)
 unfolding turn_at
-list_turns put words table lines at limit bits code below rise =
+list_turns put words table baselines at limit bits code below rise =
     let found = taken at.next at.base in
     let rest = end_mark table - (at.next + 1) in
     let all : end_mark table - at.next ≡ suc rest = omega arith in
-    let read = entry_at words table (words_from lines at.next found.0) (is_some found.0) at.next at.entities bits in
+    let read = entry_at words table (words_from baselines at.next found.0) (is_some found.0) at.next at.entities bits in
     let behind = λ (now : List EntityState × List Bool). next_at words table (at.next + 1) found.1 now.0 now.1 in
-    ap (λ (left : ℕ). numbers_at words table lines at.base left at.next at.next at.entities bits) all
-    ∙ numbers_at-here words table lines at.base rest at.next at.entities bits
-    ∙ ap (λ (from : Option EntityState). behind_entry words table lines at.next from at.entities bits (λ next now left. numbers_at words table lines at.base rest (at.next + 1) next now left))
+    ap (λ (left : ℕ). numbers_at words table baselines at.base left at.next at.next at.entities bits) all
+    ∙ numbers_at-here words table baselines at.base rest at.next at.entities bits
+    ∙ ap (λ (from : Option EntityState). behind_entry words table baselines at.next from at.entities bits (λ next now left. numbers_at words table baselines at.base rest (at.next + 1) next now left))
     (sym (is_taken limit at.next at.base rise).found)
-    ∙ behind_entry-same words table lines at.next found.0 at.entities bits
-    (λ next now left. numbers_at words table lines at.base rest (at.next + 1) next now left)
-    (λ next now left. kept_below next now found.1 >>= λ kept. from_next words table lines next kept.1 kept.0 left)
+    ∙ behind_entry-same words table baselines at.next found.0 at.entities bits
+    (λ next now left. numbers_at words table baselines at.base rest (at.next + 1) next now left)
+    (λ next now left. kept_below next now found.1 >>= λ kept. from_next words table baselines next kept.1 kept.0 left)
     (λ left now more is.
     let number = number_was_read put words table (at.next + 1) left more code is in
-    behind_taken words table lines at.base rest at.next more.0 now more.1
-    ∙ jump words table lines found.1 limit rest (at.next + 1) more.0 now more.1 (is_taken limit at.next at.base rise).rise (omega arith) number.0 number.1)
-    ∙ bind_same read (λ now. number_at words table (at.next + 1) now.1 >>= λ more. (kept_below more.0 now.0 found.1 >>= λ kept. from_next words table lines more.0 kept.1 kept.0 more.1))
-    (λ now. behind now >>= from_reached words table lines)
-    (λ now is. sym (next_goes_on words table lines (at.next + 1) found.1 now.0 now.1))
-    ∙ sym (bind_assoc read behind (from_reached words table lines))
+    behind_taken words table baselines at.base rest at.next more.0 now more.1
+    ∙ jump words table baselines found.1 limit rest (at.next + 1) more.0 now more.1 (is_taken limit at.next at.base rise).rise (omega arith) number.0 number.1)
+    ∙ bind_same read (λ now. number_at words table (at.next + 1) now.1 >>= λ more. (kept_below more.0 now.0 found.1 >>= λ kept. from_next words table baselines more.0 kept.1 kept.0 more.1))
+    (λ now. behind now >>= from_reached words table baselines)
+    (λ now is. sym (next_goes_on words table baselines (at.next + 1) found.1 now.0 now.1))
+    ∙ sym (bind_assoc read behind (from_reached words table baselines))
 
 -- what is left of the base rises from the next number on
 pub next_rises : (words : List (List Bool)) (table : Layout) (least : ℕ) (base entities : List EntityState) (bits : List Bool) (at : Reached × List Bool) (limit from : ℕ) → RiseFrom limit from base
@@ -237,41 +237,41 @@ next_rises words table least base entities bits at limit from rise e =
     let is : (made, number.0.1) ≡ at = cc in
     subst (λ (a : Reached × List Bool). RiseFrom limit a.0.next a.0.base) {x = (made, number.0.1)} is (kept_below-rises limit from number.0.0 entities base kept.0 rise kept.1)
 
-pub turn_rises : (words : List (List Bool)) (table : Layout) (lines : Lines) (at : Reached) (bits : List Bool) (now : Reached × List Bool) (limit : ℕ) → RiseFrom limit at.next at.base
-    → turn_at words table lines at bits ≡ Ok now → RiseFrom limit now.0.next now.0.base
+pub turn_rises : (words : List (List Bool)) (table : Layout) (baselines : Baselines) (at : Reached) (bits : List Bool) (now : Reached × List Bool) (limit : ℕ) → RiseFrom limit at.next at.base
+    → turn_at words table baselines at bits ≡ Ok now → RiseFrom limit now.0.next now.0.base
 unfolding turn_at
-turn_rises words table lines at bits now limit rise e =
+turn_rises words table baselines at bits now limit rise e =
     let found = taken at.next at.base in
-    let read = bind_ok (entry_at words table (words_from lines at.next found.0) (is_some found.0) at.next at.entities bits) (λ entry. next_at words table (at.next + 1) found.1 entry.0 entry.1) now e in
+    let read = bind_ok (entry_at words table (words_from baselines at.next found.0) (is_some found.0) at.next at.entities bits) (λ entry. next_at words table (at.next + 1) found.1 entry.0 entry.1) now e in
     next_rises words table (at.next + 1) found.1 read.0.0 read.0.1 now limit (at.next + 1) (is_taken limit at.next at.base rise).rise read.2
 
 -- what the code reads, as a whole list is read: its beginning
-pub list_begun : ReadWasPut → (words : List (List Bool)) (table : Layout) (lines : Lines) (base none : List EntityState) (limit : ℕ) (bits : List Bool) (at : Reached) (left : List Bool) → IsCode words → RiseFrom limit 0 base
+pub list_begun : ReadWasPut → (words : List (List Bool)) (table : Layout) (baselines : Baselines) (base none : List EntityState) (limit : ℕ) (bits : List Bool) (at : Reached) (left : List Bool) → IsCode words → RiseFrom limit 0 base
     → none ≡ []
-    → Ok (at, left) ≡ next_at words table 0 base none bits → from_reached words table lines (at, left) ≡ entity_list_at words table lines base bits
-list_begun put words table lines base none limit bits at left code rise empty e = rw (list_begins put words table lines base limit bits code rise, ← empty, ← e) refl
+    → Ok (at, left) ≡ next_at words table 0 base none bits → from_reached words table baselines (at, left) ≡ entity_list_at words table baselines base bits
+list_begun put words table baselines base none limit bits at left code rise empty e = rw (list_begins put words table baselines base limit bits code rise, ← empty, ← e) refl
 
-pub list_refused : ReadWasPut → (words : List (List Bool)) (table : Layout) (lines : Lines) (base none : List EntityState) (limit : ℕ) (bits : List Bool) (e : EntityError) → IsCode words → RiseFrom limit 0 base
+pub list_refused : ReadWasPut → (words : List (List Bool)) (table : Layout) (baselines : Baselines) (base none : List EntityState) (limit : ℕ) (bits : List Bool) (e : EntityError) → IsCode words → RiseFrom limit 0 base
     → none ≡ []
-    → Err e ≡ next_at words table 0 base none bits → Err e ≡ entity_list_at words table lines base bits
-list_refused put words table lines base none limit bits e code rise empty is = rw (list_begins put words table lines base limit bits code rise, ← empty, ← is) refl
+    → Err e ≡ next_at words table 0 base none bits → Err e ≡ entity_list_at words table baselines base bits
+list_refused put words table baselines base none limit bits e code rise empty is = rw (list_begins put words table baselines base limit bits code rise, ← empty, ← is) refl
 
 -- a turn
-pub list_goes_on : ReadWasPut → (words same : List (List Bool)) (table : Layout) (lines : Lines) (at : Reached) (limit : ℕ) (bits : List Bool) (now : Reached) (left : List Bool) → same ≡ words
-    → IsCode words → at.next < end_mark table → RiseFrom limit at.next at.base → Ok (now, left) ≡ turn_at same table lines at bits
-    → from_reached words table lines (now, left) ≡ from_reached words table lines (at, bits)
-list_goes_on put words same table lines at limit bits now left is code below rise e = rw (list_turns put words table lines at limit bits code below rise, ← is, ← e) refl
+pub list_goes_on : ReadWasPut → (words same : List (List Bool)) (table : Layout) (baselines : Baselines) (at : Reached) (limit : ℕ) (bits : List Bool) (now : Reached) (left : List Bool) → same ≡ words
+    → IsCode words → at.next < end_mark table → RiseFrom limit at.next at.base → Ok (now, left) ≡ turn_at same table baselines at bits
+    → from_reached words table baselines (now, left) ≡ from_reached words table baselines (at, bits)
+list_goes_on put words same table baselines at limit bits now left is code below rise e = rw (list_turns put words table baselines at limit bits code below rise, ← is, ← e) refl
 
-pub list_stops : ReadWasPut → (words same : List (List Bool)) (table : Layout) (lines : Lines) (at : Reached) (limit : ℕ) (bits : List Bool) (e : EntityError) → same ≡ words
-    → IsCode words → at.next < end_mark table → RiseFrom limit at.next at.base → Err e ≡ turn_at same table lines at bits
-    → Err e ≡ from_reached words table lines (at, bits)
-list_stops put words same table lines at limit bits e is code below rise stop = rw (list_turns put words table lines at limit bits code below rise, ← is, ← stop) refl
+pub list_stops : ReadWasPut → (words same : List (List Bool)) (table : Layout) (baselines : Baselines) (at : Reached) (limit : ℕ) (bits : List Bool) (e : EntityError) → same ≡ words
+    → IsCode words → at.next < end_mark table → RiseFrom limit at.next at.base → Err e ≡ turn_at same table baselines at bits
+    → Err e ≡ from_reached words table baselines (at, bits)
+list_stops put words same table baselines at limit bits e is code below rise stop = rw (list_turns put words table baselines at limit bits code below rise, ← is, ← stop) refl
 
 -- and its end
-pub list_ends : (words : List (List Bool)) (table : Layout) (lines : Lines) (at : Reached) (bits : List Bool) → end_mark table ≤ at.next
-    → from_reached words table lines (at, bits) ≡ Ok (at.entities, bits)
+pub list_ends : (words : List (List Bool)) (table : Layout) (baselines : Baselines) (at : Reached) (bits : List Bool) → end_mark table ≤ at.next
+    → from_reached words table baselines (at, bits) ≡ Ok (at.entities, bits)
 unfolding numbers_at
-list_ends words table lines at bits past =
+list_ends words table baselines at bits past =
     let none : end_mark table - at.next ≡ 0 = omega arith in
     rw none refl
 

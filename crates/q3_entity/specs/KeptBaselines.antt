@@ -2,7 +2,7 @@
 use Rattle.std.specs.Prelude.{◌≡◌, ◌⊎◌, ℕ, ◌+◌, ◌<◌, ◌≤◌, ◌==◌, if◌then◌else◌, List, [], ◌∷◌, length, map, replicate, All, slice_get, slice_index_or}
 use Rattle.q3_entity.specs.declared.state.EntityState.{EntityState}
 use Rattle.q3_entity.specs.Entities.{zero_entity}
-use Rattle.q3_entity.specs.Baselines.{Lines, most_lines}
+use Rattle.q3_entity.specs.Baselines.{Baselines, most_baselines}
 
 -- the place of a number that has no state: fewer states are set, so none stands there
 abbrev pub nowhere : ℕ
@@ -13,15 +13,15 @@ unfoldable pub unplaced : ℕ → List ℕ
 unplaced count = replicate count nowhere
 
 -- for each number the state at its place, if one stands there
-abbrev pub lines_in : List ℕ → List EntityState → Lines
-lines_in places states = map (slice_get states) places
+abbrev pub baselines_in : List ℕ → List EntityState → Baselines
+baselines_in places states = map (slice_get states) places
 
 -- a number has no place, or that of its own state, which isn't below `first`
 abbrev pub IsPlaced : List EntityState → ℕ → ℕ → ℕ → Type 0
 IsPlaced states first number place = (place ≡ nowhere) ⊎ ((first ≤ place) × (place < length states) × ((slice_index_or states place (zero_entity 0)).number ≡ number))
 
 abbrev pub ArePlaced : List ℕ → List EntityState → ℕ → Type 0
-ArePlaced places states first = (number : ℕ) → number < most_lines → IsPlaced states first number (slice_index_or places number nowhere)
+ArePlaced places states first = (number : ℕ) → number < most_baselines → IsPlaced states first number (slice_index_or places number nowhere)
 
 -- how many numbers have a place
 unfoldable pub count_placed : List ℕ → ℕ
@@ -30,7 +30,7 @@ count_placed (place ∷ places) = (if place == nowhere then 0 else 1) + count_pl
 
 -- each number has its own state's place, or none, and there are as many states as numbers with a place
 pub record AreKept (places : List ℕ) (states : List EntityState) : Type 0 where
-  pub all : length places ≡ most_lines
+  pub all : length places ≡ most_baselines
   pub placed : ArePlaced places states 0
-  pub below : All (λ state. state.number < most_lines) states
+  pub below : All (λ state. state.number < most_baselines) states
   pub count : length states ≡ count_placed places

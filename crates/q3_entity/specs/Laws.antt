@@ -7,7 +7,7 @@ use Rattle.q3_entity.specs.declared.state.EntityState.{EntityState}
 use Rattle.q3_entity.specs.declared.reading.Entry.{Entry}
 use Rattle.q3_entity.specs.declared.reading.Entry.TheVariants.{Removed}
 use Rattle.q3_entity.specs.Entities.{zero_entity, normal_entity, IsNormal, IsList, Rises, AreStates, AreNormal}
-use Rattle.q3_entity.specs.Baselines.{Lines, AreLines, no_lines, with_line}
+use Rattle.q3_entity.specs.Baselines.{Baselines, AreBaselines, no_baselines, with_baseline}
 use Rattle.q3_entity.specs.Delta.{entity_delta, entry_of, removal, entity_at}
 use Rattle.q3_entity.specs.Lists.{entity_list_bits, entity_list_at, list_skipped}
 use Rattle.q3_entity.specs.Spelling.{Entered, words_there, SpellsEntry, SpellsList, SpellsSkipped}
@@ -24,13 +24,13 @@ ZeroIsNormal = (table : Layout) (number : ℕ) → IsTable table → AreWords 64
 abbrev pub ListRises : Type 0
 ListRises = (table : Layout) (entities : List EntityState) → IsTable table → IsList table entities → Rises entities
 
--- no baselines are lines, and lines with a state in normal form set are lines
-abbrev pub NoLinesAreLines : Type 0
-NoLinesAreLines = (table : Layout) → AreLines table no_lines
+-- where none is set they are baselines, and so they are with a state in normal form set
+abbrev pub NoneAreBaselines : Type 0
+NoneAreBaselines = (table : Layout) → AreBaselines table no_baselines
 
-abbrev pub LineIsAdded : Type 0
-LineIsAdded = (table : Layout) (lines : Lines) (state : EntityState) → AreLines table lines → state.number < end_mark table
-    → AreWords 64 state.words → IsNormal table state → AreLines table (with_line lines state)
+abbrev pub BaselineIsAdded : Type 0
+BaselineIsAdded = (table : Layout) (baselines : Baselines) (state : EntityState) → AreBaselines table baselines → state.number < end_mark table
+    → AreWords 64 state.words → IsNormal table state → AreBaselines table (with_baseline baselines state)
 
 -- what is written of an entity against a state in normal form is read back: its number, and behind it the words in
 -- normal form, as those of an entity that is the same exactly where no word changed
@@ -70,34 +70,34 @@ EntrySpelledIsRead = (words : List (List Bool)) (table : Layout) (from : List �
 
 -- what is written of a list against a base and baselines in normal form spells the entities in normal form
 abbrev pub ListIsSpelled : Type 0
-ListIsSpelled = (words : List (List Bool)) (table : Layout) (lines : Lines) (base now : List EntityState) → IsCode words → IsTable table
-    → AreLines table lines → IsList table base → AreStates base → AreNormal table base → IsList table now → AreStates now
-    → SpellsList words table lines base (map (normal_entity table) now) (entity_list_bits words table lines base now)
+ListIsSpelled = (words : List (List Bool)) (table : Layout) (baselines : Baselines) (base now : List EntityState) → IsCode words → IsTable table
+    → AreBaselines table baselines → IsList table base → AreStates base → AreNormal table base → IsList table now → AreStates now
+    → SpellsList words table baselines base (map (normal_entity table) now) (entity_list_bits words table baselines base now)
 
 -- what is read was spelled so, and is in normal form where the base and the baselines are
 abbrev pub ListReadIsSpelled : Type 0
-ListReadIsSpelled = (words : List (List Bool)) (table : Layout) (lines : Lines) (base now : List EntityState) (bits rest : List Bool) → IsCode words
-    → IsTable table → AreLines table lines → IsList table base → AreStates base → entity_list_at words table lines base bits ≡ Ok (now, rest)
+ListReadIsSpelled = (words : List (List Bool)) (table : Layout) (baselines : Baselines) (base now : List EntityState) (bits rest : List Bool) → IsCode words
+    → IsTable table → AreBaselines table baselines → IsList table base → AreStates base → entity_list_at words table baselines base bits ≡ Ok (now, rest)
     → AreStates now × (AreNormal table base → AreNormal table now)
-    × (text : List Bool) × (bits ≡ text ++ rest) × SpellsList words table lines base now text
+    × (text : List Bool) × (bits ≡ text ++ rest) × SpellsList words table baselines base now text
 
 -- what is spelled so is read, with whatever follows it: so where a reader refuses, no front of the bits is spelled so
 abbrev pub ListSpelledIsRead : Type 0
-ListSpelledIsRead = (words : List (List Bool)) (table : Layout) (lines : Lines) (base now : List EntityState) (text rest : List Bool) → IsCode words
-    → IsTable table → AreLines table lines → IsList table base → AreStates base → SpellsList words table lines base now text
-    → entity_list_at words table lines base (text ++ rest) ≡ Ok (now, rest)
+ListSpelledIsRead = (words : List (List Bool)) (table : Layout) (baselines : Baselines) (base now : List EntityState) (text rest : List Bool) → IsCode words
+    → IsTable table → AreBaselines table baselines → IsList table base → AreStates base → SpellsList words table baselines base now text
+    → entity_list_at words table baselines base (text ++ rest) ≡ Ok (now, rest)
 
 -- what is written against a base and baselines in normal form is read back as the entities in normal form, with whatever
 -- follows it
 abbrev pub ListWrittenIsRead : Type 0
-ListWrittenIsRead = (words : List (List Bool)) (table : Layout) (lines : Lines) (base now : List EntityState) (rest : List Bool) → IsCode words
-    → IsTable table → AreLines table lines → IsList table base → AreStates base → AreNormal table base → IsList table now → AreStates now
-    → entity_list_at words table lines base (entity_list_bits words table lines base now ++ rest) ≡ Ok (map (normal_entity table) now, rest)
+ListWrittenIsRead = (words : List (List Bool)) (table : Layout) (baselines : Baselines) (base now : List EntityState) (rest : List Bool) → IsCode words
+    → IsTable table → AreBaselines table baselines → IsList table base → AreStates base → AreNormal table base → IsList table now → AreStates now
+    → entity_list_at words table baselines base (entity_list_bits words table baselines base now ++ rest) ≡ Ok (map (normal_entity table) now, rest)
 
 -- what is read as a list is skipped to the same place
 abbrev pub ReadIsSkipped : Type 0
-ReadIsSkipped = (words : List (List Bool)) (table : Layout) (lines : Lines) (base now : List EntityState) (bits rest : List Bool) → IsTable table
-    → AreLines table lines → AreStates base → entity_list_at words table lines base bits ≡ Ok (now, rest) → list_skipped words table bits ≡ Ok (tt, rest)
+ReadIsSkipped = (words : List (List Bool)) (table : Layout) (baselines : Baselines) (base now : List EntityState) (bits rest : List Bool) → IsTable table
+    → AreBaselines table baselines → AreStates base → entity_list_at words table baselines base bits ≡ Ok (now, rest) → list_skipped words table bits ≡ Ok (tt, rest)
 
 -- what is skipped was spelled so, and what is spelled so is skipped, with whatever follows it
 abbrev pub SkippedIsSpelled : Type 0

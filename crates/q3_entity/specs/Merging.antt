@@ -4,7 +4,7 @@ use Rattle.q3_bits.specs.declared.writer.Overflow.{Overflow}
 use Rattle.q3_bits.specs.Words.{field_bits}
 use Rattle.q3_fields.specs.Kinds.{Layout, end_mark}
 use Rattle.q3_entity.specs.declared.state.EntityState.{EntityState}
-use Rattle.q3_entity.specs.Baselines.{Lines}
+use Rattle.q3_entity.specs.Baselines.{Baselines}
 use Rattle.q3_entity.specs.Delta.{removal}
 use Rattle.q3_entity.specs.Lists.{piece}
 use Rattle.q3_entity.specs.Runs.{taken, from_number}
@@ -15,9 +15,9 @@ removals words table number [] = []
 removals words table number (entity ∷ base) = if nat_lt entity.number number then removal words table entity.number ++ removals words table number base else []
 
 -- an entity that there is now, behind what is gone below it
-abbrev pub entry_bits : List (List Bool) → Layout → Lines → List EntityState → EntityState → List Bool
-entry_bits words table lines base to =
-    removals words table to.number base ++ piece words table lines to.number (taken to.number (from_number to.number base)).0 (Some to)
+abbrev pub entry_bits : List (List Bool) → Layout → Baselines → List EntityState → EntityState → List Bool
+entry_bits words table baselines base to =
+    removals words table to.number base ++ piece words table baselines to.number (taken to.number (from_number to.number base)).0 (Some to)
 
 -- the end: what is left of the base is gone
 abbrev pub end_bits : List (List Bool) → Layout → List EntityState → List Bool

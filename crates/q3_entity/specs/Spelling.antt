@@ -9,7 +9,7 @@ use Rattle.q3_entity.specs.declared.state.EntityState.{EntityState}
 use Rattle.q3_entity.specs.declared.reading.Entry.{Entry}
 use Rattle.q3_entity.specs.declared.reading.Entry.TheVariants.{Removed}
 use Rattle.q3_entity.specs.Entities.{IsList, with_number}
-use Rattle.q3_entity.specs.Baselines.{Lines, no_lines}
+use Rattle.q3_entity.specs.Baselines.{Baselines, no_baselines}
 use Rattle.q3_entity.specs.Delta.{opening, removal}
 use Rattle.q3_entity.specs.Lists.{words_from}
 
@@ -32,12 +32,12 @@ SpellsEntry words table from entry text =
     × (text ≡ opening words table entry.number ((0, 1) ∷ (1, 1) ∷ []) ++ delta))
 
 -- the entries one behind the other, and the end mark
-abbrev pub SpellsEntries : List (List Bool) → Layout → Lines → List EntityState → List Entered → List Bool → Type 0
-SpellsEntries words table lines base [] text = text ≡ field_bits words table.number_bits (end_mark table)
-SpellsEntries words table lines base (entry ∷ entries) text =
+abbrev pub SpellsEntries : List (List Bool) → Layout → Baselines → List EntityState → List Entered → List Bool → Type 0
+SpellsEntries words table baselines base [] text = text ≡ field_bits words table.number_bits (end_mark table)
+SpellsEntries words table baselines base (entry ∷ entries) text =
     (first : List Bool) × (rest : List Bool) × (text ≡ first ++ rest)
-    × SpellsEntry words table (words_from lines entry.number (with_number entry.number base)) entry first
-    × SpellsEntries words table lines base entries rest
+    × SpellsEntry words table (words_from baselines entry.number (with_number entry.number base)) entry first
+    × SpellsEntries words table baselines base entries rest
 
 -- the numbers of entries rise, from least on, and stay below a limit
 abbrev pub EntriesRise : ℕ → ℕ → List Entered → Type 0
@@ -59,11 +59,11 @@ state_after from number (Some entry) = entered_state entry.words
     entered_state (Some words) = Some (record { number = number; words = words })
 
 -- the text spells the entities `now` against those of a base
-pub record SpellsList (words : List (List Bool)) (table : Layout) (lines : Lines) (base now : List EntityState) (text : List Bool) : Type 0 where
+pub record SpellsList (words : List (List Bool)) (table : Layout) (baselines : Baselines) (base now : List EntityState) (text : List Bool) : Type 0 where
   pub entries : List Entered
   pub rise : EntriesRise (end_mark table) 0 entries
   pub removes : RemoveFrom base entries
-  pub spells : SpellsEntries words table lines base entries text
+  pub spells : SpellsEntries words table baselines base entries text
   pub list : IsList table now
   pub states : (number : ℕ) → with_number number now ≡ state_after (with_number number base) number (find (λ entry. entry.number == number) entries)
 
@@ -71,4 +71,4 @@ pub record SpellsList (words : List (List Bool)) (table : Layout) (lines : Lines
 pub record SpellsSkipped (words : List (List Bool)) (table : Layout) (text : List Bool) : Type 0 where
   pub entries : List Entered
   pub rise : EntriesRise (end_mark table) 0 entries
-  pub spells : SpellsEntries words table no_lines [] entries text
+  pub spells : SpellsEntries words table no_baselines [] entries text

@@ -11,7 +11,7 @@ use Rattle.q3_entity.specs.declared.error.EntityError.TheVariants.{Many, Removes
 use Rattle.q3_entity.specs.declared.reading.Entry.{Entry}
 use Rattle.q3_entity.specs.declared.reading.Entry.TheVariants.{Removed}
 use Rattle.q3_entity.specs.Entities.{run_of, most_entities}
-use Rattle.q3_entity.specs.Baselines.{Lines}
+use Rattle.q3_entity.specs.Baselines.{Baselines}
 use Rattle.q3_entity.specs.Delta.{entity_at}
 use Rattle.q3_entity.specs.Lists.{number_at, one_more, entered, words_from}
 use Rattle.q3_entity.specs.Runs.{taken, IsFrom}
@@ -48,9 +48,9 @@ entry_at words table from in_base number entities bits = do
   Ok (now, entry.1)
 
 -- the entry of the next number, and what comes behind it
-unfoldable pub turn_at : List (List Bool) → Layout → Lines → Reached → List Bool → Result (Reached × List Bool) EntityError
-turn_at words table lines at bits = do
-  entry ← entry_at words table (words_from lines at.next (taken at.next at.base).0) (is_some (taken at.next at.base).0) at.next at.entities bits
+unfoldable pub turn_at : List (List Bool) → Layout → Baselines → Reached → List Bool → Result (Reached × List Bool) EntityError
+turn_at words table baselines at bits = do
+  entry ← entry_at words table (words_from baselines at.next (taken at.next at.base).0) (is_some (taken at.next at.base).0) at.next at.entities bits
   next_at words table (at.next + 1) (taken at.next at.base).1 entry.0 entry.1
 
 -- what is behind the entry of a number: the number of the next

@@ -1,6 +1,6 @@
 //! Laws of entity deltas and of lists, each the contract of a call that does nothing but cite the laws below it.
 
-ghost use Rattle.q3_entity.specs.Laws.{NormalIsNormal, ZeroIsNormal, ListRises, NoLinesAreLines, LineIsAdded, EntityWrittenIsRead, RemovalIsRead, ForcedIsSpelled, EntryReadIsSpelled, EntrySpelledIsRead, ListIsSpelled, ListReadIsSpelled, ListSpelledIsRead, ListWrittenIsRead, ReadIsSkipped, SkippedIsSpelled, SpelledIsSkipped};
+ghost use Rattle.q3_entity.specs.Laws.{NormalIsNormal, ZeroIsNormal, ListRises, NoneAreBaselines, BaselineIsAdded, EntityWrittenIsRead, RemovalIsRead, ForcedIsSpelled, EntryReadIsSpelled, EntrySpelledIsRead, ListIsSpelled, ListReadIsSpelled, ListSpelledIsRead, ListWrittenIsRead, ReadIsSkipped, SkippedIsSpelled, SpelledIsSkipped};
 
 use q3_bits::laws as bits;
 use q3_fields::laws as fields;
@@ -24,14 +24,14 @@ pub fn list_rises()
     ensures { ListRises }
 {}
 
-/// No baselines are lines.
-pub fn no_lines_are_lines()
-    ensures { NoLinesAreLines }
+/// Where none is set they are baselines of any table.
+pub fn none_are_baselines()
+    ensures { NoneAreBaselines }
 {}
 
-/// Lines with a state in normal form set are lines.
-pub fn line_is_added()
-    ensures { LineIsAdded }
+/// Baselines with a state in normal form set are baselines.
+pub fn baseline_is_added()
+    ensures { BaselineIsAdded }
 {}
 
 /// What is written of an entity against a state in normal form is read back: its number, and behind it the words in

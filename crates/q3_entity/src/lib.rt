@@ -13,7 +13,7 @@ mod run;
 pub mod state;
 pub mod writing;
 
-pub use baselines::{Baselines, MOST_LINES};
+pub use baselines::{Baselines, MOST_BASELINES};
 pub use error::EntityError;
 pub use list_reading::{read_list, skip_list};
 pub use list_writing::{write_list, write_run};

@@ -1,7 +1,7 @@
 -- The laws of the crates below that the laws of gamestates rest on.
 use Rattle.q3_bits.specs.Laws.{ReadWasPut, PutIsRead}
 use Rattle.q3_strings.specs.Laws.{StringIsSpelled, StringReadIsSpelled, StringSpelledIsRead, TurnsAreTaken}
-use Rattle.q3_entity.specs.Laws.{ZeroIsNormal, NoLinesAreLines, LineIsAdded, ForcedIsSpelled, EntryReadIsSpelled, EntrySpelledIsRead}
+use Rattle.q3_entity.specs.Laws.{ZeroIsNormal, NoneAreBaselines, BaselineIsAdded, ForcedIsSpelled, EntryReadIsSpelled, EntrySpelledIsRead}
 
 -- what is written is spelled so
 pub record WasWritten : Type 0 where
@@ -14,8 +14,8 @@ pub record WasRead : Type 0 where
   pub put : ReadWasPut
   pub string : StringReadIsSpelled
   pub no_entity : ZeroIsNormal
-  pub no_lines : NoLinesAreLines
-  pub line : LineIsAdded
+  pub no_baselines : NoneAreBaselines
+  pub baseline : BaselineIsAdded
   pub entry : EntryReadIsSpelled
 
 -- what is spelled so is read

@@ -10,8 +10,8 @@ use Rattle.q3_fields.specs.Kinds.{Layout, end_mark}
 use Rattle.q3_fields.specs.States.{AreWords}
 use Rattle.q3_entity.specs.declared.state.EntityState.{EntityState}
 use Rattle.q3_entity.specs.Entities.{IsNormal}
-use Rattle.q3_entity.specs.Baselines.{Lines, AreLines, no_lines, with_line}
-use Rattle.q3_entity.specs.Laws.{NoLinesAreLines, LineIsAdded}
+use Rattle.q3_entity.specs.Baselines.{Baselines, AreBaselines, no_baselines, with_baseline}
+use Rattle.q3_entity.specs.Laws.{NoneAreBaselines, BaselineIsAdded}
 use Rattle.q3_config.specs.Strings.{Strings, AreStrings, places, longest_string, most_size, size_of, config_size, no_strings, with_string}
 
 -- ---- bytes of texts
@@ -44,15 +44,15 @@ size_is texts = ap (λ (n : ℕ). 1 + n) (sum-map size_of texts)
 -- ---- strings and baselines
 
 -- as an end may send them, but for a server id
-pub record AreSettings (table : Layout) (strings : Strings) (lines : Lines) : Type 0 where
+pub record AreSettings (table : Layout) (strings : Strings) (baselines : Baselines) : Type 0 where
   pub are : AreStrings strings
   pub texts : All (All IsTextByte) strings.texts
   pub pending : strings.pending ≡ None
-  pub lines_are : AreLines table lines
+  pub baselines_are : AreBaselines table baselines
 
 -- no string is set
-empty : (table : Layout) (lines : Lines) → AreLines table lines → (n : ℕ) → n ≡ places → AreSettings table (record { texts = replicate n []; pending = None }) lines
-empty table lines are n is = record {
+empty : (table : Layout) (baselines : Baselines) → AreBaselines table baselines → (n : ℕ) → n ≡ places → AreSettings table (record { texts = replicate n []; pending = None }) baselines
+empty table baselines are n is = record {
   are = record {
     count = length-replicate n [] ∙ is;
     size = omega (arith, size_is (replicate n []), sizes-none n);
@@ -61,16 +61,16 @@ empty table lines are n is = record {
   };
   texts = All-replicate (All IsTextByte) n [] (All-nil IsTextByte);
   pending = refl;
-  lines_are = are;
+  baselines_are = are;
 }
 
-pub none_are : (table : Layout) → NoLinesAreLines → AreSettings table no_strings no_lines
-none_are table law = empty table no_lines (law table) places refl
+pub none_are : (table : Layout) → NoneAreBaselines → AreSettings table no_strings no_baselines
+none_are table law = empty table no_baselines (law table) places refl
 
 -- another string
-pub with_string_are : (table : Layout) (strings : Strings) (lines : Lines) (index : ℕ) (text : List ℕ) → AreSettings table strings lines → All IsTextByte text → length text ≤ longest_string
-    → config_size (with_string strings index text).texts ≤ most_size → AreSettings table (with_string strings index text) lines
-with_string_are table strings lines index text so_far bytes short small = record {
+pub with_string_are : (table : Layout) (strings : Strings) (baselines : Baselines) (index : ℕ) (text : List ℕ) → AreSettings table strings baselines → All IsTextByte text → length text ≤ longest_string
+    → config_size (with_string strings index text).texts ≤ most_size → AreSettings table (with_string strings index text) baselines
+with_string_are table strings baselines index text so_far bytes short small = record {
   are = record {
     count = length-set strings.texts index (map translated text) ∙ so_far.are.count;
     size = small;
@@ -79,15 +79,15 @@ with_string_are table strings lines index text so_far bytes short small = record
   };
   texts = All-set (All IsTextByte) strings.texts index (map translated text) (subst (All IsTextByte) (sym (text_bytes text bytes)) bytes) so_far.texts;
   pending = so_far.pending;
-  lines_are = so_far.lines_are;
+  baselines_are = so_far.baselines_are;
 }
 
 -- another baseline
-pub with_line_are : LineIsAdded → (table : Layout) (strings : Strings) (lines : Lines) (state : EntityState) → AreSettings table strings lines → state.number < end_mark table
-    → AreWords 64 state.words → IsNormal table state → AreSettings table strings (with_line lines state)
-with_line_are law table strings lines state so_far below words normal = record {
+pub with_baseline_are : BaselineIsAdded → (table : Layout) (strings : Strings) (baselines : Baselines) (state : EntityState) → AreSettings table strings baselines → state.number < end_mark table
+    → AreWords 64 state.words → IsNormal table state → AreSettings table strings (with_baseline baselines state)
+with_baseline_are law table strings baselines state so_far below words normal = record {
   are = so_far.are;
   texts = so_far.texts;
   pending = so_far.pending;
-  lines_are = law table lines state so_far.lines_are below words normal;
+  baselines_are = law table baselines state so_far.baselines_are below words normal;
 }

@@ -17,9 +17,9 @@ config-some words index [] some = absurd (omega (arith, some))
 config-some words index (byte ∷ text) some = refl
 
 -- a baseline that is set
-pub baseline-some : (words : List (List Bool)) (table : Layout) (line : Option EntityState) (state : EntityState) → line ≡ Some state
-    → baseline_bits words table line ≡ row_bits words ((4, 8) ∷ []) ++ entity_delta words table (zero_entity state.number) state true
-baseline-some words table line state is = ap (baseline_bits words table) is
+pub baseline-some : (words : List (List Bool)) (table : Layout) (baseline : Option EntityState) (state : EntityState) → baseline ≡ Some state
+    → baseline_bits words table baseline ≡ row_bits words ((4, 8) ∷ []) ++ entity_delta words table (zero_entity state.number) state true
+baseline-some words table baseline state is = ap (baseline_bits words table) is
 
 -- the text of the next number, and of the others
 pub numbered-next : (k limit : ℕ) (text : ℕ → List Bool) (first : List Bool) → k < limit → first ≡ text k

@@ -5,8 +5,8 @@ use Rattle.std.proofs.lemmas.Bool.{cases_Bool}
 use Rattle.q3_bits.specs.ResultBind.{◌>>=◌, bind_ok}
 use Rattle.q3_bits.specs.Words.{row_bits}
 use Rattle.q3_strings.specs.Rows.{WasField, row-none, row-behind}
-use Rattle.q3_entity.specs.Baselines.{Lines, no_lines}
-use Rattle.q3_entity.specs.Laws.{NoLinesAreLines}
+use Rattle.q3_entity.specs.Baselines.{Baselines, no_baselines}
+use Rattle.q3_entity.specs.Laws.{NoneAreBaselines}
 use Rattle.q3_config.specs.Strings.{Strings, no_strings, server_id}
 use Rattle.q3_profile.specs.declared.profile.Profile.{Profile}
 use Rattle.q3_profile.specs.Profile.{IsCodec}
@@ -33,17 +33,17 @@ record ReadGamestate (profile : Profile) (bits : List Bool) (found : Gamestate �
   parts : row_bits profile.code ((2, 8) ∷ []) ++ bits ≡ text ++ found.1
 
 -- its parts make it
-gamestate_of_parts : NoLinesAreLines → (profile : Profile) (bits : List Bool) (command : ℕ × List Bool) (settings : (Strings × Lines) × List Bool) (slot feed : ℕ × List Bool)
-    → WasField profile.code 32 bits command → ReadSettings profile no_strings no_lines command.1 settings → WasField profile.code 32 settings.1 slot → WasField profile.code 32 slot.1 feed
+gamestate_of_parts : NoneAreBaselines → (profile : Profile) (bits : List Bool) (command : ℕ × List Bool) (settings : (Strings × Baselines) × List Bool) (slot feed : ℕ × List Bool)
+    → WasField profile.code 32 bits command → ReadSettings profile no_strings no_baselines command.1 settings → WasField profile.code 32 settings.1 slot → WasField profile.code 32 slot.1 feed
     → is_some (server_id settings.0.0) ≡ true
-    → ReadGamestate profile bits (record { command = command.0; strings = settings.0.0; lines = settings.0.1; slot = slot.0; feed = feed.0 }, feed.1)
-gamestate_of_parts no_lines_law profile bits command settings slot feed command_was were slot_was feed_was some =
+    → ReadGamestate profile bits (record { command = command.0; strings = settings.0.0; baselines = settings.0.1; slot = slot.0; feed = feed.0 }, feed.1)
+gamestate_of_parts no_baselines_law profile bits command settings slot feed command_was were slot_was feed_was some =
     let words = profile.code in
     let first = row_bits words ((2, 8) ∷ (command.0, 32) ∷ []) in
     let last = (slot.0, 32) ∷ (feed.0, 32) ∷ [] in
     let ends : over words ++ settings.1 ≡ row_bits words ((8, 8) ∷ last) ++ feed.1 =
     ap (λ (left : List Bool). over words ++ left) (slot_was.row ((feed.0, 32) ∷ []) feed.1 (feed_was.row [] feed.1 (row-none words feed.1))) ∙ sym (row-behind words 8 8 last feed.1) in
-    let kept = were.kept (none_are profile.entity no_lines_law) in
+    let kept = were.kept (none_are profile.entity no_baselines_law) in
     record {
       is = record {
         command = command_was.fits;
@@ -52,7 +52,7 @@ gamestate_of_parts no_lines_law profile bits command settings slot feed command_
         strings = kept.are;
         texts = kept.texts;
         pending = kept.pending;
-        lines = kept.lines_are;
+        baselines = kept.baselines_are;
         id = some_id (server_id settings.0.0) some;
       };
       text = first ++ were.text ++ row_bits words ((8, 8) ∷ last);
@@ -65,7 +65,7 @@ gamestate_of_parts no_lines_law profile bits command settings slot feed command_
         of_settings = were.spells;
         within = were.within;
         strings = were.strings_are;
-        lines = were.lines_are;
+        baselines = were.baselines_are;
         id = some_id (server_id settings.0.0) some;
         whole = refl;
       };
@@ -83,16 +83,16 @@ gamestate_was_read : WasRead → (profile : Profile) (bits : List Bool) (found :
 unfolding gamestate_at
 gamestate_was_read laws profile bits found codec e =
     let words = profile.code in
-    let game = λ (command : ℕ) (settings : Strings × Lines) (slot feed : ℕ).
-    let g : Gamestate = record { command = command; strings = settings.0; lines = settings.1; slot = slot; feed = feed } in g in
-    let on_slot : ℕ → Strings × Lines → List Bool → Result (Gamestate × List Bool) GamestateError = λ command settings left.
+    let game = λ (command : ℕ) (settings : Strings × Baselines) (slot feed : ℕ).
+    let g : Gamestate = record { command = command; strings = settings.0; baselines = settings.1; slot = slot; feed = feed } in g in
+    let on_slot : ℕ → Strings × Baselines → List Bool → Result (Gamestate × List Bool) GamestateError = λ command settings left.
     field_read words 32 left >>= λ slot. (field_read words 32 slot.1 >>= λ feed. Ok ((game command settings slot.0 feed.0), feed.1)) in
-    let on_settings : ℕ → (Strings × Lines) × List Bool → Result (Gamestate × List Bool) GamestateError = λ command settings.
+    let on_settings : ℕ → (Strings × Baselines) × List Bool → Result (Gamestate × List Bool) GamestateError = λ command settings.
     cond (is_some (server_id settings.0.0)) (on_slot command settings.0 settings.1) (Err NoServerId) in
     let on_command : ℕ × List Bool → Result (Gamestate × List Bool) GamestateError =
-    λ command. settings_at profile (length command.1) no_strings no_lines command.1 >>= λ settings. on_settings command.0 settings in
+    λ command. settings_at profile (length command.1) no_strings no_baselines command.1 >>= λ settings. on_settings command.0 settings in
     let command = bind_ok (field_read words 32 bits) on_command found e in
-    let settings = bind_ok (settings_at profile (length command.0.1) no_strings no_lines command.0.1) (λ settings. on_settings command.0.0 settings) found command.2 in
+    let settings = bind_ok (settings_at profile (length command.0.1) no_strings no_baselines command.0.1) (λ settings. on_settings command.0.0 settings) found command.2 in
     elim (cases_Bool (is_some (server_id settings.0.0.0))) [
       | inr none ↦ absurd (let wrong = rw none at settings.2 in cc)
       | inl some ↦
@@ -101,9 +101,9 @@ gamestate_was_read laws profile bits found codec e =
           let made = feed.2 in
           let same : ((game command.0.0 settings.0.0 slot.0.0 feed.0.0), feed.0.1) ≡ found = cc in
           subst (ReadGamestate profile bits) {x = ((game command.0.0 settings.0.0 slot.0.0 feed.0.0), feed.0.1)} same
-          (gamestate_of_parts laws.no_lines profile bits command.0 settings.0 slot.0 feed.0
+          (gamestate_of_parts laws.no_baselines profile bits command.0 settings.0 slot.0 feed.0
           (field_was laws.put words 32 bits command.0 codec.code command.1)
-          (settings_were laws profile codec (length command.0.1) no_strings no_lines command.0.1 settings.0 settings.1)
+          (settings_were laws profile codec (length command.0.1) no_strings no_baselines command.0.1 settings.0 settings.1)
           (field_was laws.put words 32 settings.0.1 slot.0 codec.code slot.1)
           (field_was laws.put words 32 slot.0.1 feed.0 codec.code feed.1)
           some)

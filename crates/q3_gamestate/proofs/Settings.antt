@@ -9,7 +9,7 @@ use Rattle.q3_fields.specs.Kinds.{Layout, IsTable}
 use Rattle.q3_fields.specs.States.{AreWords, normal_words}
 use Rattle.q3_entity.specs.declared.state.EntityState.{EntityState}
 use Rattle.q3_entity.specs.Entities.{zero_entity}
-use Rattle.q3_entity.specs.Baselines.{Lines}
+use Rattle.q3_entity.specs.Baselines.{Baselines}
 use Rattle.q3_entity.specs.Laws.{ZeroIsNormal}
 use Rattle.q3_config.specs.Strings.{Strings}
 use Rattle.q3_profile.specs.declared.profile.Profile.{Profile}
@@ -53,42 +53,42 @@ takes_turn {start = start} {now = now} {got = got} {operation = operation} law c
     }
 
 -- a fault of bits
-pub settings_fault : (profile : Profile) (strings : Strings) (lines : Lines) → TurnsAreTaken → IsCode profile.code → (bits : List Bool) (e : ReadError) (turns : ℕ)
-    → Err e ≡ field_at profile.code 8 bits → length bits ≤ turns → settings_at profile turns strings lines bits ≡ Err (Bits e)
+pub settings_fault : (profile : Profile) (strings : Strings) (baselines : Baselines) → TurnsAreTaken → IsCode profile.code → (bits : List Bool) (e : ReadError) (turns : ℕ)
+    → Err e ≡ field_at profile.code 8 bits → length bits ≤ turns → settings_at profile turns strings baselines bits ≡ Err (Bits e)
 unfolding settings_at
-settings_fault profile strings lines law code [] e zero read enough = ap (λ (fault : ReadError). Err (Bits fault)) (sym (law.ends profile.code e code (sym read)))
-settings_fault profile strings lines law code (b ∷ bits) e zero read enough = absurd (omega (arith, enough))
-settings_fault profile strings lines law code bits e (suc left) read enough = rw (← read) refl
+settings_fault profile strings baselines law code [] e zero read enough = ap (λ (fault : ReadError). Err (Bits fault)) (sym (law.ends profile.code e code (sym read)))
+settings_fault profile strings baselines law code (b ∷ bits) e zero read enough = absurd (omega (arith, enough))
+settings_fault profile strings baselines law code bits e (suc left) read enough = rw (← read) refl
 
-module _ (profile : Profile) (strings : Strings) (lines : Lines) (bits : List Bool) where
+module _ (profile : Profile) (strings : Strings) (baselines : Baselines) (bits : List Bool) where
   pub settings_done : (rest : List Bool) (turns left : ℕ) → Ok (8, rest) ≡ field_at profile.code 8 bits → turns ≡ suc left
-      → settings_at profile turns strings lines bits ≡ Ok ((strings, lines), rest)
+      → settings_at profile turns strings baselines bits ≡ Ok ((strings, baselines), rest)
   unfolding settings_at
   settings_done rest turns left read is = rw (is, ← read) refl
 
   -- a config string that was read
   pub settings_config : (rest behind : List Bool) (after : Strings) (turns left : ℕ) → Ok (3, rest) ≡ field_at profile.code 8 bits → turns ≡ suc left
-      → Ok (after, behind) ≡ config_at profile.code strings rest → settings_at profile turns strings lines bits ≡ settings_at profile left after lines behind
+      → Ok (after, behind) ≡ config_at profile.code strings rest → settings_at profile turns strings baselines bits ≡ settings_at profile left after baselines behind
   unfolding settings_at
   settings_config rest behind after turns left read is config = rw (is, ← read, ← config) refl
 
   pub settings_config_fault : (rest : List Bool) (e : GamestateError) (turns left : ℕ) → Ok (3, rest) ≡ field_at profile.code 8 bits → turns ≡ suc left
-      → Err e ≡ config_at profile.code strings rest → settings_at profile turns strings lines bits ≡ Err e
+      → Err e ≡ config_at profile.code strings rest → settings_at profile turns strings baselines bits ≡ Err e
   unfolding settings_at
   settings_config_fault rest e turns left read is config = rw (is, ← read, ← config) refl
 
   -- a baseline that was read
-  pub settings_baseline : (rest behind : List Bool) (after : Lines) (turns left : ℕ) → Ok (4, rest) ≡ field_at profile.code 8 bits → turns ≡ suc left
-      → Ok (after, behind) ≡ baseline_at profile lines rest → settings_at profile turns strings lines bits ≡ settings_at profile left strings after behind
+  pub settings_baseline : (rest behind : List Bool) (after : Baselines) (turns left : ℕ) → Ok (4, rest) ≡ field_at profile.code 8 bits → turns ≡ suc left
+      → Ok (after, behind) ≡ baseline_at profile baselines rest → settings_at profile turns strings baselines bits ≡ settings_at profile left strings after behind
   unfolding settings_at
   settings_baseline rest behind after turns left read is baseline = rw (is, ← read, ← baseline) refl
 
   pub settings_baseline_fault : (rest : List Bool) (e : GamestateError) (turns left : ℕ) → Ok (4, rest) ≡ field_at profile.code 8 bits → turns ≡ suc left
-      → Err e ≡ baseline_at profile lines rest → settings_at profile turns strings lines bits ≡ Err e
+      → Err e ≡ baseline_at profile baselines rest → settings_at profile turns strings baselines bits ≡ Err e
   unfolding settings_at
   settings_baseline_fault rest e turns left read is baseline = rw (is, ← read, ← baseline) refl
 
   pub settings_bad : (rest : List Bool) (byte turns left : ℕ) → Ok (byte, rest) ≡ field_at profile.code 8 bits → turns ≡ suc left
-      → (byte == 8) ≡ false → (byte == 3) ≡ false → (byte == 4) ≡ false → settings_at profile turns strings lines bits ≡ Err (BadOp byte)
+      → (byte == 8) ≡ false → (byte == 3) ≡ false → (byte == 4) ≡ false → settings_at profile turns strings baselines bits ≡ Err (BadOp byte)
   unfolding settings_at
   settings_bad rest byte turns left read is not_end not_config not_baseline = rw (is, ← read, not_end, not_config, not_baseline) refl

@@ -19,10 +19,10 @@ use Rattle.q3_entity.specs.declared.reading.Entry.{Entry}
 use Rattle.q3_entity.specs.declared.reading.Entry.TheVariants.{Removed, Changed, Same}
 use Rattle.q3_entity.specs.declared.error.EntityError.TheVariants.{Order}
 use Rattle.q3_entity.specs.Entities.{IsNormal}
-use Rattle.q3_entity.specs.Baselines.{Lines, with_line}
+use Rattle.q3_entity.specs.Baselines.{Baselines, with_baseline}
 use Rattle.q3_entity.specs.Delta.{entity_at}
 use Rattle.q3_entity.specs.Spelling.{words_there, SpellsEntry}
-use Rattle.q3_entity.specs.Laws.{ZeroIsNormal, LineIsAdded, EntryReadIsSpelled}
+use Rattle.q3_entity.specs.Laws.{ZeroIsNormal, BaselineIsAdded, EntryReadIsSpelled}
 use Rattle.q3_config.specs.declared.error.ConfigError.{ConfigError}
 use Rattle.q3_config.specs.declared.error.ConfigError.TheVariants.{Index}
 use Rattle.q3_config.specs.Strings.{Strings, places, longest_string, most_size, config_size, with_string, fits, room_fault, set_fault}
@@ -31,11 +31,11 @@ use Rattle.q3_profile.specs.Profile.{IsCodec}
 use Rattle.q3_gamestate.specs.declared.error.GamestateError.{GamestateError}
 use Rattle.q3_gamestate.specs.declared.error.GamestateError.TheVariants.{Bits, BadOp, Entity, Config}
 use Rattle.q3_gamestate.specs.Reading.{field_read, string_error, config_set, config_at, baseline_set, baseline_at, settings_at}
-use Rattle.q3_gamestate.specs.Spelling.{Setting, ConfigString, Baseline, SpellsSettings, strings_after, lines_after, StayWithin}
+use Rattle.q3_gamestate.specs.Spelling.{Setting, ConfigString, Baseline, SpellsSettings, strings_after, baselines_after, StayWithin}
 use Rattle.q3_gamestate.proofs.Below.{WasRead}
 use Rattle.q3_gamestate.proofs.Fields.{field_was}
 use Rattle.q3_gamestate.proofs.Settings.{zeros_are_words}
-use Rattle.q3_gamestate.proofs.Kept.{AreSettings, with_string_are, with_line_are}
+use Rattle.q3_gamestate.proofs.Kept.{AreSettings, with_string_are, with_baseline_are}
 
 -- the operation behind the settings
 abbrev pub over : List (List Bool) → List Bool
@@ -76,21 +76,21 @@ was_set strings index text (Some fault) set e = absurd cc
 
 -- ---- when a baseline is set
 
-line_was : (lines : Lines) (number : ℕ) (kind : Entry) (words : List ℕ) (set : Lines) → baseline_set lines number kind words ≡ Ok set
-    → (words_there kind words ≡ Some words) × (set ≡ with_line lines (record { number = number; words = words }))
-line_was lines number Removed words set e = absurd cc
-line_was lines number Changed words set e = (refl, cc)
-line_was lines number Same words set e = (refl, cc)
+baseline_was : (baselines : Baselines) (number : ℕ) (kind : Entry) (words : List ℕ) (set : Baselines) → baseline_set baselines number kind words ≡ Ok set
+    → (words_there kind words ≡ Some words) × (set ≡ with_baseline baselines (record { number = number; words = words }))
+baseline_was baselines number Removed words set e = absurd cc
+baseline_was baselines number Changed words set e = (refl, cc)
+baseline_was baselines number Same words set e = (refl, cc)
 
-pub line_is : (lines : Lines) (number : ℕ) (kind : Entry) (to words : List ℕ) → words_there kind to ≡ Some words
-    → baseline_set lines number kind to ≡ Ok (with_line lines (record { number = number; words = words }))
-line_is lines number Removed to words e = absurd cc
-line_is lines number Changed to words e =
+pub baseline_is : (baselines : Baselines) (number : ℕ) (kind : Entry) (to words : List ℕ) → words_there kind to ≡ Some words
+    → baseline_set baselines number kind to ≡ Ok (with_baseline baselines (record { number = number; words = words }))
+baseline_is baselines number Removed to words e = absurd cc
+baseline_is baselines number Changed to words e =
     let same : to ≡ words = cc in
-    ap (λ (ws : List ℕ). Ok (with_line lines (record { number = number; words = ws }))) same
-line_is lines number Same to words e =
+    ap (λ (ws : List ℕ). Ok (with_baseline baselines (record { number = number; words = ws }))) same
+baseline_is baselines number Same to words e =
     let same : to ≡ words = cc in
-    ap (λ (ws : List ℕ). Ok (with_line lines (record { number = number; words = ws }))) same
+    ap (λ (ws : List ℕ). Ok (with_baseline baselines (record { number = number; words = ws }))) same
 
 -- ---- what is read of a setting
 
@@ -153,24 +153,24 @@ config_shorter put law words code strings bits found e =
     omega (arith, ap length was.parts, length-append row (was.string ++ found.1), length-append was.string found.1)
 
 -- a baseline that was read
-pub record ReadBaseline (profile : Profile) (lines : Lines) (bits : List Bool) (found : Lines × List Bool) : Type 0 where
+pub record ReadBaseline (profile : Profile) (baselines : Baselines) (bits : List Bool) (found : Baselines × List Bool) : Type 0 where
   pub state : EntityState
   pub text : List Bool
   pub within : state.number < end_mark profile.entity
   pub words : AreWords 64 state.words
   pub normal : IsNormal profile.entity state
   pub spells : SpellsEntry profile.code profile.entity (replicate 64 0) (record { number = state.number; words = Some state.words }) text
-  pub is : found.0 ≡ with_line lines state
+  pub is : found.0 ≡ with_baseline baselines state
   pub parts : bits ≡ text ++ found.1
 
-pub baseline_was : ReadWasPut → ZeroIsNormal → EntryReadIsSpelled → (profile : Profile) → IsCode profile.code → IsTable profile.entity → (lines : Lines) (bits : List Bool) (found : Lines × List Bool) → baseline_at profile lines bits ≡ Ok found
-    → ReadBaseline profile lines bits found
+pub baseline_was : ReadWasPut → ZeroIsNormal → EntryReadIsSpelled → (profile : Profile) → IsCode profile.code → IsTable profile.entity → (baselines : Baselines) (bits : List Bool) (found : Baselines × List Bool) → baseline_at profile baselines bits ≡ Ok found
+    → ReadBaseline profile baselines bits found
 unfolding baseline_at row_bits
-baseline_was put no_entity entry profile code is_table lines bits found e =
+baseline_was put no_entity entry profile code is_table baselines bits found e =
     let words = profile.code in
     let table = profile.entity in
     let zeros = zeros_are_words table is_table no_entity in
-    let on_state = λ (number : ℕ) (state : (Entry × List ℕ) × List Bool). baseline_set lines number state.0.0 state.0.1 >>= λ set. Ok (set, state.1) in
+    let on_state = λ (number : ℕ) (state : (Entry × List ℕ) × List Bool). baseline_set baselines number state.0.0 state.0.1 >>= λ set. Ok (set, state.1) in
     let number = bind_ok (field_read words table.number_bits bits)
     (λ number. cond (eqb number.0 (end_mark table)) (Err (Entity (Order number.0))) (fault_as Entity (entity_at words table (replicate 64 0) number.1) >>= λ state. on_state number.0 state)) found e in
     let was = put words table.number_bits number.0.0 bits number.0.1 code (map_err_ok Bits (field_at words table.number_bits bits) number.0 number.1) in
@@ -180,12 +180,12 @@ baseline_was put no_entity entry profile code is_table lines bits found e =
           let state = bind_ok (fault_as Entity (entity_at words table (replicate 64 0) number.0.1)) (λ state. on_state number.0.0 state) found (rw before at number.2) in
           let were = entry words table (replicate 64 0) state.0.0.1 state.0.0.0 number.0.0 number.0.1 state.0.1 code is_table zeros.0
           (map_err_ok Entity (entity_at words table (replicate 64 0) number.0.1) state.0 state.1) in
-          let set = bind_ok (baseline_set lines number.0.0 state.0.0.0 state.0.0.1) (λ set. Ok (set, state.0.1)) found state.2 in
-          let is = line_was lines number.0.0 state.0.0.0 state.0.0.1 set.0 set.1 in
+          let set = bind_ok (baseline_set baselines number.0.0 state.0.0.0 state.0.0.1) (λ set. Ok (set, state.0.1)) found state.2 in
+          let is = baseline_was baselines number.0.0 state.0.0.0 state.0.0.1 set.0 set.1 in
           let made = set.2 in
           let same : (set.0, state.0.1) ≡ found = cc in
           let field = field_bits words table.number_bits number.0.0 in
-          subst (ReadBaseline profile lines bits) {x = (set.0, state.0.1)} same (record {
+          subst (ReadBaseline profile baselines bits) {x = (set.0, state.0.1)} same (record {
             state = record { number = number.0.0; words = state.0.0.1 };
             text = field ++ were.2;
             within = omega (arith, was.0, eqb-false number.0.0 (end_mark table) before);
@@ -197,30 +197,30 @@ baseline_was put no_entity entry profile code is_table lines bits found e =
           })
     ]
 
-pub baseline_shorter : ReadWasPut → ZeroIsNormal → EntryReadIsSpelled → (profile : Profile) → IsCode profile.code → IsTable profile.entity → (lines : Lines) (bits : List Bool) (found : Lines × List Bool)
-    → baseline_at profile lines bits ≡ Ok found → length found.1 ≤ length bits
-baseline_shorter put no_entity entry profile code is_table lines bits found e =
-    let was = baseline_was put no_entity entry profile code is_table lines bits found e in
+pub baseline_shorter : ReadWasPut → ZeroIsNormal → EntryReadIsSpelled → (profile : Profile) → IsCode profile.code → IsTable profile.entity → (baselines : Baselines) (bits : List Bool) (found : Baselines × List Bool)
+    → baseline_at profile baselines bits ≡ Ok found → length found.1 ≤ length bits
+baseline_shorter put no_entity entry profile code is_table baselines bits found e =
+    let was = baseline_was put no_entity entry profile code is_table baselines bits found e in
     omega (arith, ap length was.parts, length-append was.text found.1)
 
 -- ---- what is read of settings
 
 -- settings that were read over strings and baselines
-pub record ReadSettings (profile : Profile) (strings : Strings) (lines : Lines) (bits : List Bool) (found : (Strings × Lines) × List Bool) : Type 0 where
+pub record ReadSettings (profile : Profile) (strings : Strings) (baselines : Baselines) (bits : List Bool) (found : (Strings × Baselines) × List Bool) : Type 0 where
   pub settings : List Setting
   pub text : List Bool
   pub spells : SpellsSettings profile.code profile.entity settings text
   pub within : StayWithin strings settings
   pub strings_are : found.0.0 ≡ strings_after strings settings
-  pub lines_are : found.0.1 ≡ lines_after lines settings
-  pub kept : AreSettings profile.entity strings lines → AreSettings profile.entity found.0.0 found.0.1
+  pub baselines_are : found.0.1 ≡ baselines_after baselines settings
+  pub kept : AreSettings profile.entity strings baselines → AreSettings profile.entity found.0.0 found.0.1
   pub parts : bits ≡ text ++ (over profile.code ++ found.1)
 
 -- a config string, and those behind it
-config_first : (profile : Profile) (strings : Strings) (lines : Lines) (bits left : List Bool) (config : Strings × List Bool) (found : (Strings × Lines) × List Bool)
-    → bits ≡ row_bits profile.code ((3, 8) ∷ []) ++ left → ReadConfig profile.code strings left config → ReadSettings profile config.0 lines config.1 found
-    → ReadSettings profile strings lines bits found
-config_first profile strings lines bits left config found is first others =
+config_first : (profile : Profile) (strings : Strings) (baselines : Baselines) (bits left : List Bool) (config : Strings × List Bool) (found : (Strings × Baselines) × List Bool)
+    → bits ≡ row_bits profile.code ((3, 8) ∷ []) ++ left → ReadConfig profile.code strings left config → ReadSettings profile config.0 baselines config.1 found
+    → ReadSettings profile strings baselines bits found
+config_first profile strings baselines bits left config found is first others =
     let words = profile.code in
     let fields = (first.index, 16) ∷ [] in
     let text = row_bits words ((3, 8) ∷ fields) ++ first.string in
@@ -231,10 +231,10 @@ config_first profile strings lines bits left config found is first others =
       spells = (text, others.text, refl, (first.string, first.inside, first.spells, refl), others.spells);
       within = (first.small, subst (λ (s : Strings). StayWithin s others.settings) first.is others.within);
       strings_are = others.strings_are ∙ ap (λ (s : Strings). strings_after s others.settings) first.is;
-      lines_are = others.lines_are;
+      baselines_are = others.baselines_are;
       kept = λ so_far.
-          others.kept (subst (λ (s : Strings). AreSettings profile.entity s lines) (sym first.is)
-          (with_string_are profile.entity strings lines first.index first.text so_far first.bytes first.short first.small));
+          others.kept (subst (λ (s : Strings). AreSettings profile.entity s baselines) (sym first.is)
+          (with_string_are profile.entity strings baselines first.index first.text so_far first.bytes first.short first.small));
       parts =
           is
           ∙ ap (λ (left : List Bool). row_bits words ((3, 8) ∷ []) ++ left) first.parts
@@ -245,10 +245,10 @@ config_first profile strings lines bits left config found is first others =
     }
 
 -- a baseline, and those behind it
-baseline_first : LineIsAdded → (profile : Profile) (strings : Strings) (lines : Lines) (bits left : List Bool) (baseline : Lines × List Bool) (found : (Strings × Lines) × List Bool)
-    → bits ≡ row_bits profile.code ((4, 8) ∷ []) ++ left → ReadBaseline profile lines left baseline → ReadSettings profile strings baseline.0 baseline.1 found
-    → ReadSettings profile strings lines bits found
-baseline_first law profile strings lines bits left baseline found is first others =
+baseline_first : BaselineIsAdded → (profile : Profile) (strings : Strings) (baselines : Baselines) (bits left : List Bool) (baseline : Baselines × List Bool) (found : (Strings × Baselines) × List Bool)
+    → bits ≡ row_bits profile.code ((4, 8) ∷ []) ++ left → ReadBaseline profile baselines left baseline → ReadSettings profile strings baseline.0 baseline.1 found
+    → ReadSettings profile strings baselines bits found
+baseline_first law profile strings baselines bits left baseline found is first others =
     let words = profile.code in
     let operation = row_bits words ((4, 8) ∷ []) in
     let text = operation ++ first.text in
@@ -259,9 +259,9 @@ baseline_first law profile strings lines bits left baseline found is first other
       spells = (text, others.text, refl, (first.text, first.within, first.spells, refl), others.spells);
       within = others.within;
       strings_are = others.strings_are;
-      lines_are = others.lines_are ∙ ap (λ (l : Lines). lines_after l others.settings) first.is;
+      baselines_are = others.baselines_are ∙ ap (λ (l : Baselines). baselines_after l others.settings) first.is;
       kept = λ so_far.
-          others.kept (subst (AreSettings profile.entity strings) (sym first.is) (with_line_are law profile.entity strings lines first.state so_far first.within first.words first.normal));
+          others.kept (subst (AreSettings profile.entity strings) (sym first.is) (with_baseline_are law profile.entity strings baselines first.state so_far first.within first.words first.normal));
       parts =
           is
           ∙ ap (λ (left : List Bool). operation ++ left) first.parts
@@ -270,16 +270,16 @@ baseline_first law profile strings lines bits left baseline found is first other
           ∙ sym (append_assoc text others.text behind);
     }
 
-pub settings_were : WasRead → (profile : Profile) → IsCodec profile → (turns : ℕ) (strings : Strings) (lines : Lines) (bits : List Bool) (found : (Strings × Lines) × List Bool)
-    → settings_at profile turns strings lines bits ≡ Ok found → ReadSettings profile strings lines bits found
+pub settings_were : WasRead → (profile : Profile) → IsCodec profile → (turns : ℕ) (strings : Strings) (baselines : Baselines) (bits : List Bool) (found : (Strings × Baselines) × List Bool)
+    → settings_at profile turns strings baselines bits ≡ Ok found → ReadSettings profile strings baselines bits found
 unfolding settings_at
-settings_were laws profile codec zero strings lines bits found e = absurd cc
-settings_were laws profile codec (suc turns) strings lines bits found e =
+settings_were laws profile codec zero strings baselines bits found e = absurd cc
+settings_were laws profile codec (suc turns) strings baselines bits found e =
     let words = profile.code in
-    let on_config = λ (left : List Bool). config_at words strings left >>= λ config. settings_at profile turns config.0 lines config.1 in
-    let on_baseline = λ (left : List Bool). baseline_at profile lines left >>= λ baseline. settings_at profile turns strings baseline.0 baseline.1 in
+    let on_config = λ (left : List Bool). config_at words strings left >>= λ config. settings_at profile turns config.0 baselines config.1 in
+    let on_baseline = λ (left : List Bool). baseline_at profile baselines left >>= λ baseline. settings_at profile turns strings baseline.0 baseline.1 in
     let operation = bind_ok (field_read words 8 bits)
-    (λ operation. cond (eqb operation.0 8) (Ok ((strings, lines), operation.1))
+    (λ operation. cond (eqb operation.0 8) (Ok ((strings, baselines), operation.1))
     (cond (eqb operation.0 3) (on_config operation.1) (cond (eqb operation.0 4) (on_baseline operation.1) (Err (BadOp operation.0))))) found e in
     let left = operation.0.1 in
     let was = field_was laws.put words 8 bits operation.0 codec.code operation.1 in
@@ -288,22 +288,22 @@ settings_were laws profile codec (suc turns) strings lines bits found e =
     elim (cases_Bool (eqb operation.0.0 8)) [
       | inl done ↦
           let made = rw done at operation.2 in
-          let same : ((strings, lines), left) ≡ found = cc in
-          subst (ReadSettings profile strings lines bits) {x = ((strings, lines), left)} same
-          (record { settings = []; text = []; spells = refl; within = tt; strings_are = refl; lines_are = refl; kept = λ so_far. so_far; parts = front 8 done })
+          let same : ((strings, baselines), left) ≡ found = cc in
+          subst (ReadSettings profile strings baselines bits) {x = ((strings, baselines), left)} same
+          (record { settings = []; text = []; spells = refl; within = tt; strings_are = refl; baselines_are = refl; kept = λ so_far. so_far; parts = front 8 done })
       | inr more ↦
           let next = rw more at operation.2 in
           elim (cases_Bool (eqb operation.0.0 3)) [
             | inl string ↦
-                let config = bind_ok (config_at words strings left) (λ config. settings_at profile turns config.0 lines config.1) found (rw string at next) in
-                config_first profile strings lines bits left config.0 found (front 3 string) (config_was laws.put laws.string words codec.code strings left config.0 config.1)
-                (settings_were laws profile codec turns config.0.0 lines config.0.1 found config.2)
+                let config = bind_ok (config_at words strings left) (λ config. settings_at profile turns config.0 baselines config.1) found (rw string at next) in
+                config_first profile strings baselines bits left config.0 found (front 3 string) (config_was laws.put laws.string words codec.code strings left config.0 config.1)
+                (settings_were laws profile codec turns config.0.0 baselines config.0.1 found config.2)
             | inr other ↦
                 let last = rw other at next in
                 elim (cases_Bool (eqb operation.0.0 4)) [
-                  | inl line ↦
-                      let baseline = bind_ok (baseline_at profile lines left) (λ baseline. settings_at profile turns strings baseline.0 baseline.1) found (rw line at last) in
-                      baseline_first laws.line profile strings lines bits left baseline.0 found (front 4 line) (baseline_was laws.put laws.no_entity laws.entry profile codec.code codec.entity lines left baseline.0 baseline.1)
+                  | inl fourth ↦
+                      let baseline = bind_ok (baseline_at profile baselines left) (λ baseline. settings_at profile turns strings baseline.0 baseline.1) found (rw fourth at last) in
+                      baseline_first laws.baseline profile strings baselines bits left baseline.0 found (front 4 fourth) (baseline_was laws.put laws.no_entity laws.entry profile codec.code codec.entity baselines left baseline.0 baseline.1)
                       (settings_were laws profile codec turns strings baseline.0.0 baseline.0.1 found baseline.2)
                   | inr bad ↦ absurd (let wrong = rw bad at last in cc)
                 ]

@@ -8,18 +8,18 @@ use Rattle.q3_strings.specs.Spelling.{SpellsString}
 use Rattle.q3_strings.specs.Rows.{row-behind, row-first, row-last}
 use Rattle.q3_fields.specs.Kinds.{end_mark}
 use Rattle.q3_entity.specs.declared.state.EntityState.{EntityState}
-use Rattle.q3_entity.specs.Baselines.{Lines, no_lines, with_line}
+use Rattle.q3_entity.specs.Baselines.{Baselines, no_baselines, with_baseline}
 use Rattle.q3_entity.specs.Spelling.{SpellsEntry}
 use Rattle.q3_config.specs.Strings.{Strings, places, longest_string, most_size, no_strings, config_size, with_string, server_id}
 use Rattle.q3_profile.specs.declared.profile.Profile.{Profile}
 use Rattle.q3_profile.specs.Profile.{IsCodec}
 use Rattle.q3_gamestate.specs.Values.{Gamestate}
 use Rattle.q3_gamestate.specs.Reading.{config_at, baseline_at, settings_at, gamestate_at}
-use Rattle.q3_gamestate.specs.Spelling.{Setting, ConfigString, Baseline, SpellsSettings, strings_after, lines_after, StayWithin, SpellsGamestate}
+use Rattle.q3_gamestate.specs.Spelling.{Setting, ConfigString, Baseline, SpellsSettings, strings_after, baselines_after, StayWithin, SpellsGamestate}
 use Rattle.q3_gamestate.specs.Laws.{SpelledIsRead}
 use Rattle.q3_gamestate.proofs.Below.{IsRead}
 use Rattle.q3_gamestate.proofs.Settings.{zeros_are_words, settings_done, settings_config, settings_baseline}
-use Rattle.q3_gamestate.proofs.SettingsSpelled.{over, within_set, line_is, string_short}
+use Rattle.q3_gamestate.proofs.SettingsSpelled.{over, within_set, baseline_is, string_short}
 
 config_is : IsRead → (words : List (List Bool)) → IsCode words → (strings : Strings) (index : ℕ) (text : List ℕ) (string rest : List Bool) → index < places
     → SpellsString words longest_string text string → length text ≤ longest_string → config_size (with_string strings index text).texts ≤ most_size
@@ -34,28 +34,28 @@ config_is laws words code strings index text string rest inside spelled short sm
       within_set strings index text inside short small,
     ) refl
 
-baseline_is : IsRead → (profile : Profile) → IsCodec profile → (lines : Lines) (state : EntityState) (text rest : List Bool) → state.number < end_mark profile.entity
+baseline_is : IsRead → (profile : Profile) → IsCodec profile → (baselines : Baselines) (state : EntityState) (text rest : List Bool) → state.number < end_mark profile.entity
     → SpellsEntry profile.code profile.entity (replicate 64 0) (record { number = state.number; words = Some state.words }) text
-    → baseline_at profile lines (text ++ rest) ≡ Ok (with_line lines state, rest)
+    → baseline_at profile baselines (text ++ rest) ≡ Ok (with_baseline baselines state, rest)
 unfolding baseline_at
-baseline_is laws profile codec lines state text rest within spelled =
+baseline_is laws profile codec baselines state text rest within spelled =
     let table = profile.entity in
     let read = laws.entry profile.code table (replicate 64 0) (record { number = state.number; words = Some state.words }) text rest codec.code codec.entity
     (zeros_are_words table codec.entity laws.no_entity).0 within spelled in
     let before : (state.number == end_mark table) ≡ false = grind (arith, nat_tests) in
-    rw (read.4, before, read.5, line_is lines state.number read.1 read.2 state.words read.3) refl
+    rw (read.4, before, read.5, baseline_is baselines state.number read.1 read.2 state.words read.3) refl
 
-settings_are : IsRead → (profile : Profile) → IsCodec profile → (settings : List Setting) (turns : ℕ) (strings : Strings) (lines : Lines) (text rest : List Bool)
+settings_are : IsRead → (profile : Profile) → IsCodec profile → (settings : List Setting) (turns : ℕ) (strings : Strings) (baselines : Baselines) (text rest : List Bool)
     → SpellsSettings profile.code profile.entity settings text → StayWithin strings settings → length (text ++ (over profile.code ++ rest)) ≤ turns
-    → settings_at profile turns strings lines (text ++ (over profile.code ++ rest)) ≡ Ok ((strings_after strings settings, lines_after lines settings), rest)
-settings_are laws profile codec [] turns strings lines text rest s within enough =
+    → settings_at profile turns strings baselines (text ++ (over profile.code ++ rest)) ≡ Ok ((strings_after strings settings, baselines_after baselines settings), rest)
+settings_are laws profile codec [] turns strings baselines text rest s within enough =
     let words = profile.code in
     let bits = over words ++ rest in
     let read = sym (row-last words codec.code laws.put 8 8 rest (omega arith)) in
     let same : text ++ bits ≡ bits = ap (λ (text : List Bool). text ++ bits) s in
     let one = laws.turns.turn words bits rest 8 turns codec.code read (omega (arith, enough, ap length same)) in
-    ap (λ (bits : List Bool). settings_at profile turns strings lines bits) same ∙ settings_done profile strings lines bits rest turns one.left read one.is
-settings_are laws profile codec (ConfigString index value ∷ settings) turns strings lines text rest (first, others, whole, (string, inside, spelled, first_is), more) within enough =
+    ap (λ (bits : List Bool). settings_at profile turns strings baselines bits) same ∙ settings_done profile strings baselines bits rest turns one.left read one.is
+settings_are laws profile codec (ConfigString index value ∷ settings) turns strings baselines text rest (first, others, whole, (string, inside, spelled, first_is), more) within enough =
     let words = profile.code in
     let behind = others ++ (over words ++ rest) in
     let fields : List (ℕ × ℕ) = (index, 16) ∷ [] in
@@ -65,11 +65,11 @@ settings_are laws profile codec (ConfigString index value ∷ settings) turns st
     let read = sym (row-first words codec.code laws.put 3 8 fields (string ++ behind) (omega arith)) in
     let one = laws.turns.turn words bits left 3 turns codec.code read (omega (arith, enough, ap length same)) in
     let config = sym (config_is laws words codec.code strings index value string behind inside spelled (string_short words longest_string value string spelled) within.0) in
-    ap (λ (bits : List Bool). settings_at profile turns strings lines bits) same
-    ∙ settings_config profile strings lines bits left behind (with_string strings index value) turns one.left read one.is config
-    ∙ settings_are laws profile codec settings one.left (with_string strings index value) lines others rest more within.1
+    ap (λ (bits : List Bool). settings_at profile turns strings baselines bits) same
+    ∙ settings_config profile strings baselines bits left behind (with_string strings index value) turns one.left read one.is config
+    ∙ settings_are laws profile codec settings one.left (with_string strings index value) baselines others rest more within.1
     (omega (arith, one.enough, length-append (row_bits words fields) (string ++ behind), length-append string behind))
-settings_are laws profile codec (Baseline state ∷ settings) turns strings lines text rest (first, others, whole, (entry, inside, spelled, first_is), more) within enough =
+settings_are laws profile codec (Baseline state ∷ settings) turns strings baselines text rest (first, others, whole, (entry, inside, spelled, first_is), more) within enough =
     let words = profile.code in
     let behind = others ++ (over words ++ rest) in
     let left = entry ++ behind in
@@ -77,10 +77,10 @@ settings_are laws profile codec (Baseline state ∷ settings) turns strings line
     let same : text ++ (over words ++ rest) ≡ bits = rw (whole, first_is) (simp append_assoc) in
     let read = sym (row-last words codec.code laws.put 4 8 left (omega arith)) in
     let one = laws.turns.turn words bits left 4 turns codec.code read (omega (arith, enough, ap length same)) in
-    let baseline = sym (baseline_is laws profile codec lines state entry behind inside spelled) in
-    ap (λ (bits : List Bool). settings_at profile turns strings lines bits) same
-    ∙ settings_baseline profile strings lines bits left behind (with_line lines state) turns one.left read one.is baseline
-    ∙ settings_are laws profile codec settings one.left strings (with_line lines state) others rest more within (omega (arith, one.enough, length-append entry behind))
+    let baseline = sym (baseline_is laws profile codec baselines state entry behind inside spelled) in
+    ap (λ (bits : List Bool). settings_at profile turns strings baselines bits) same
+    ∙ settings_baseline profile strings baselines bits left behind (with_baseline baselines state) turns one.left read one.is baseline
+    ∙ settings_are laws profile codec settings one.left strings (with_baseline baselines state) others rest more within (omega (arith, one.enough, length-append entry behind))
 
 is_some_id : (id : Option ℕ) → IsSome id → is_some id ≡ true
 is_some_id (Some id) some = refl
@@ -94,9 +94,9 @@ gamestate_behind laws profile codec game text rest s =
     let words = profile.code in
     let last = row_bits words ((game.slot, 32) ∷ (game.feed, 32) ∷ []) ++ rest in
     let left = s.text ++ (over words ++ last) in
-    let settings = settings_are laws profile codec s.settings (length left) no_strings no_lines s.text last s.of_settings s.within (omega arith)
-    ∙ ap (λ (strings : Strings). Ok ((strings, lines_after no_lines s.settings), last)) (sym s.strings)
-    ∙ ap (λ (lines : Lines). Ok ((game.strings, lines), last)) (sym s.lines) in
+    let settings = settings_are laws profile codec s.settings (length left) no_strings no_baselines s.text last s.of_settings s.within (omega arith)
+    ∙ ap (λ (strings : Strings). Ok ((strings, baselines_after no_baselines s.settings), last)) (sym s.strings)
+    ∙ ap (λ (baselines : Baselines). Ok ((game.strings, baselines), last)) (sym s.baselines) in
     rw (
       row-last words codec.code laws.put game.command 32 left s.command,
       settings,

@@ -15,7 +15,7 @@ use Rattle.q3_fields.specs.Kinds.{Layout, end_mark}
 use Rattle.q3_fields.specs.States.{AreWords}
 use Rattle.q3_entity.specs.declared.state.EntityState.{EntityState}
 use Rattle.q3_entity.specs.Entities.{zero_entity, IsNormal}
-use Rattle.q3_entity.specs.Baselines.{Lines, no_lines, most_lines, set_at, with_line, AreLines}
+use Rattle.q3_entity.specs.Baselines.{Baselines, no_baselines, most_baselines, set_at, with_baseline, AreBaselines}
 use Rattle.q3_entity.specs.Delta.{entity_delta}
 use Rattle.q3_entity.specs.Spelling.{SpellsEntry}
 use Rattle.q3_config.specs.Strings.{Strings, Pending, places, longest_string, most_size, size_of, config_size, no_strings, string_at, with_string}
@@ -23,7 +23,7 @@ use Rattle.q3_profile.specs.declared.profile.Profile.{Profile}
 use Rattle.q3_profile.specs.Profile.{IsCodec}
 use Rattle.q3_gamestate.specs.Values.{Gamestate}
 use Rattle.q3_gamestate.specs.Texts.{config_bits, baseline_bits, numbered, gamestate_bits}
-use Rattle.q3_gamestate.specs.Spelling.{Setting, ConfigString, Baseline, SpellsSetting, SpellsSettings, strings_after, lines_after, StayWithin}
+use Rattle.q3_gamestate.specs.Spelling.{Setting, ConfigString, Baseline, SpellsSetting, SpellsSettings, strings_after, baselines_after, StayWithin}
 use Rattle.q3_gamestate.specs.Laws.{IsGamestate, WrittenIsSpelled}
 use Rattle.q3_gamestate.proofs.Below.{WasWritten}
 use Rattle.q3_gamestate.proofs.Kept.{text_bytes, sizes-none, size_is}
@@ -41,10 +41,10 @@ strings_both strings [] second = refl
 strings_both strings (ConfigString index text ∷ first) second = strings_both (with_string strings index text) first second
 strings_both strings (Baseline state ∷ first) second = strings_both strings first second
 
-lines_both : (lines : Lines) (first second : List Setting) → lines_after lines (first ++ second) ≡ lines_after (lines_after lines first) second
-lines_both lines [] second = refl
-lines_both lines (ConfigString index text ∷ first) second = lines_both lines first second
-lines_both lines (Baseline state ∷ first) second = lines_both (with_line lines state) first second
+baselines_both : (baselines : Baselines) (first second : List Setting) → baselines_after baselines (first ++ second) ≡ baselines_after (baselines_after baselines first) second
+baselines_both baselines [] second = refl
+baselines_both baselines (ConfigString index text ∷ first) second = baselines_both baselines first second
+baselines_both baselines (Baseline state ∷ first) second = baselines_both (with_baseline baselines state) first second
 
 within_both : (strings : Strings) (first second : List Setting) → StayWithin strings first → StayWithin (strings_after strings first) second → StayWithin strings (first ++ second)
 within_both strings [] second a b = b
@@ -163,14 +163,14 @@ strings_within front ((byte ∷ text) ∷ texts) are small =
 
 -- ---- baselines
 
--- what is said of lines
-line_settings : Lines → List Setting
-line_settings [] = []
-line_settings (None ∷ lines) = line_settings lines
-line_settings (Some state ∷ lines) = Baseline state ∷ line_settings lines
+-- what is said of baselines
+baseline_settings : Baselines → List Setting
+baseline_settings [] = []
+baseline_settings (None ∷ baselines) = baseline_settings baselines
+baseline_settings (Some state ∷ baselines) = Baseline state ∷ baseline_settings baselines
 
--- a line that stands at a number
-record IsLine (table : Layout) (number : ℕ) (state : EntityState) : Type 0 where
+-- a baseline that stands at a number
+record IsBaseline (table : Layout) (number : ℕ) (state : EntityState) : Type 0 where
   number_is : state.number ≡ number
   below : state.number < end_mark table
   words : AreWords 64 state.words
@@ -189,82 +189,82 @@ baseline_spelled laws profile codec state below are normal =
     let spelled = laws.entry words table zero state codec.code codec.entity none.0 none.1 are in
     (entry, below, subst (λ (s : EntityState). SpellsEntry words table (replicate 64 0) (record { number = state.number; words = Some s.words }) entry) normal spelled, refl)
 
-lines_spelled : WasWritten → (profile : Profile) → IsCodec profile → (at : ℕ → Option EntityState) (k : ℕ) (lines : Lines)
-    → ((i : ℕ) → i < length lines → at (k + i) ≡ get_or lines i None)
-    → ((number : ℕ) → IfSome (at number) (IsLine profile.entity number))
-    → SpellsSettings profile.code profile.entity (line_settings lines) (numbered (length lines) k (λ number. baseline_bits profile.code profile.entity (at number)))
-unfolding line_settings
-lines_spelled laws profile codec at k [] is are = numbered-none k (λ number. baseline_bits profile.code profile.entity (at number))
-lines_spelled laws profile codec at k (line ∷ lines) is are =
+baselines_spelled : WasWritten → (profile : Profile) → IsCodec profile → (at : ℕ → Option EntityState) (k : ℕ) (baselines : Baselines)
+    → ((i : ℕ) → i < length baselines → at (k + i) ≡ get_or baselines i None)
+    → ((number : ℕ) → IfSome (at number) (IsBaseline profile.entity number))
+    → SpellsSettings profile.code profile.entity (baseline_settings baselines) (numbered (length baselines) k (λ number. baseline_bits profile.code profile.entity (at number)))
+unfolding baseline_settings
+baselines_spelled laws profile codec at k [] is are = numbered-none k (λ number. baseline_bits profile.code profile.entity (at number))
+baselines_spelled laws profile codec at k (baseline ∷ baselines) is are =
     let words = profile.code in
     let table = profile.entity in
-    let others = lines_spelled laws profile codec at (k + 1) lines
+    let others = baselines_spelled laws profile codec at (k + 1) baselines
     (λ i more.
     let next : k + 1 + i ≡ k + suc i = omega arith in
     ap at next ∙ is (suc i) (omega (arith, more))) are in
-    let first : at k ≡ line =
+    let first : at k ≡ baseline =
     let next : k ≡ k + 0 = omega arith in
     ap at next ∙ is 0 (omega arith) in
-    let rest = numbered (length lines) (k + 1) (λ number. baseline_bits words table (at number)) in
-    let whole = numbered-first (length lines) k (λ number. baseline_bits words table (at number)) ∙ ap (λ (line : Option EntityState). baseline_bits words table line ++ rest) first in
-    subst (SpellsSettings words table (line_settings (line ∷ lines))) (sym whole)
-    (one laws profile codec k line lines rest (subst (λ (line : Option EntityState). IfSome line (IsLine table k)) first (are k)) others)
+    let rest = numbered (length baselines) (k + 1) (λ number. baseline_bits words table (at number)) in
+    let whole = numbered-first (length baselines) k (λ number. baseline_bits words table (at number)) ∙ ap (λ (baseline : Option EntityState). baseline_bits words table baseline ++ rest) first in
+    subst (SpellsSettings words table (baseline_settings (baseline ∷ baselines))) (sym whole)
+    (one laws profile codec k baseline baselines rest (subst (λ (baseline : Option EntityState). IfSome baseline (IsBaseline table k)) first (are k)) others)
   where
-    one : WasWritten → (profile : Profile) → IsCodec profile → (k : ℕ) (line : Option EntityState) (lines : Lines) (rest : List Bool) → IfSome line (IsLine profile.entity k)
-        → SpellsSettings profile.code profile.entity (line_settings lines) rest
-        → SpellsSettings profile.code profile.entity (line_settings (line ∷ lines)) (baseline_bits profile.code profile.entity line ++ rest)
-    one laws profile codec k None lines rest is others = others
-    one laws profile codec k (Some state) lines rest is others =
+    one : WasWritten → (profile : Profile) → IsCodec profile → (k : ℕ) (baseline : Option EntityState) (baselines : Baselines) (rest : List Bool) → IfSome baseline (IsBaseline profile.entity k)
+        → SpellsSettings profile.code profile.entity (baseline_settings baselines) rest
+        → SpellsSettings profile.code profile.entity (baseline_settings (baseline ∷ baselines)) (baseline_bits profile.code profile.entity baseline ++ rest)
+    one laws profile codec k None baselines rest is others = others
+    one laws profile codec k (Some state) baselines rest is others =
         (baseline_bits profile.code profile.entity (Some state), rest, refl, baseline_spelled laws profile codec state is.below is.words is.normal, others)
 
-shift : (front : Lines) (line : Option EntityState) (i : ℕ) → length front + suc i ≡ length (front ++ line ∷ []) + i
-shift front line i = omega (arith, length-append front (line ∷ []))
+shift : (front : Baselines) (baseline : Option EntityState) (i : ℕ) → length front + suc i ≡ length (front ++ baseline ∷ []) + i
+shift front baseline i = omega (arith, length-append front (baseline ∷ []))
 
--- the lines that are there, and none behind them
-lines_made : (front lines : Lines) → ((i : ℕ) → i < length lines → IfSome (get_or lines i None) (λ state. state.number ≡ length front + i))
-    → lines_after (front ++ replicate (length lines) None) (line_settings lines) ≡ front ++ lines
-unfolding line_settings
-lines_made front [] is = refl
-lines_made front (line ∷ lines) is =
-    one front line lines (replicate (length lines) None) (is 0 (omega arith))
-    ∙ lines_made (front ++ line ∷ []) lines
-    (λ i more. subst (λ (n : ℕ). IfSome (get_or lines i None) (λ state. state.number ≡ n)) (shift front line i) (is (suc i) (omega (arith, more))))
-    ∙ append_assoc front (line ∷ []) lines
+-- the baselines that are there, and none behind them
+baselines_made : (front baselines : Baselines) → ((i : ℕ) → i < length baselines → IfSome (get_or baselines i None) (λ state. state.number ≡ length front + i))
+    → baselines_after (front ++ replicate (length baselines) None) (baseline_settings baselines) ≡ front ++ baselines
+unfolding baseline_settings
+baselines_made front [] is = refl
+baselines_made front (baseline ∷ baselines) is =
+    one front baseline baselines (replicate (length baselines) None) (is 0 (omega arith))
+    ∙ baselines_made (front ++ baseline ∷ []) baselines
+    (λ i more. subst (λ (n : ℕ). IfSome (get_or baselines i None) (λ state. state.number ≡ n)) (shift front baseline i) (is (suc i) (omega (arith, more))))
+    ∙ append_assoc front (baseline ∷ []) baselines
   where
-    one : (front : Lines) (line : Option EntityState) (lines behind : Lines) → IfSome line (λ state. state.number ≡ length front + 0)
-        → lines_after (front ++ None ∷ behind) (line_settings (line ∷ lines)) ≡ lines_after ((front ++ line ∷ []) ++ behind) (line_settings lines)
-    one front None lines behind is = ap (λ (l : Lines). lines_after l (line_settings lines)) (sym (append_assoc front (None ∷ []) behind))
-    one front (Some state) lines behind is =
+    one : (front : Baselines) (baseline : Option EntityState) (baselines behind : Baselines) → IfSome baseline (λ state. state.number ≡ length front + 0)
+        → baselines_after (front ++ None ∷ behind) (baseline_settings (baseline ∷ baselines)) ≡ baselines_after ((front ++ baseline ∷ []) ++ behind) (baseline_settings baselines)
+    one front None baselines behind is = ap (λ (l : Baselines). baselines_after l (baseline_settings baselines)) (sym (append_assoc front (None ∷ []) behind))
+    one front (Some state) baselines behind is =
         let here : state.number ≡ length front = omega (arith, is) in
-        ap (λ (l : Lines). lines_after l (line_settings lines))
+        ap (λ (l : Baselines). baselines_after l (baseline_settings baselines))
         (ap (λ (k : ℕ). set (front ++ None ∷ behind) k (Some state)) here ∙ set-append_seam front None behind (Some state) ∙ sym (append_assoc front (Some state ∷ []) behind))
 
 -- ---- a gamestate
 
--- settings of strings change no line, and those of lines change no string
-no_lines_changed : (lines : Lines) (k : ℕ) (texts : List (List ℕ)) → lines_after lines (string_settings k texts) ≡ lines
+-- settings of strings change no baseline, and those of baselines change no string
+no_baselines_changed : (baselines : Baselines) (k : ℕ) (texts : List (List ℕ)) → baselines_after baselines (string_settings k texts) ≡ baselines
 unfolding string_settings
-no_lines_changed lines k [] = refl
-no_lines_changed lines k ([] ∷ texts) = no_lines_changed lines (k + 1) texts
-no_lines_changed lines k ((byte ∷ text) ∷ texts) = no_lines_changed lines (k + 1) texts
+no_baselines_changed baselines k [] = refl
+no_baselines_changed baselines k ([] ∷ texts) = no_baselines_changed baselines (k + 1) texts
+no_baselines_changed baselines k ((byte ∷ text) ∷ texts) = no_baselines_changed baselines (k + 1) texts
 
-no_strings_changed : (strings : Strings) (lines : Lines) → strings_after strings (line_settings lines) ≡ strings
-unfolding line_settings
+no_strings_changed : (strings : Strings) (baselines : Baselines) → strings_after strings (baseline_settings baselines) ≡ strings
+unfolding baseline_settings
 no_strings_changed strings [] = refl
-no_strings_changed strings (None ∷ lines) = no_strings_changed strings lines
-no_strings_changed strings (Some state ∷ lines) = no_strings_changed strings lines
+no_strings_changed strings (None ∷ baselines) = no_strings_changed strings baselines
+no_strings_changed strings (Some state ∷ baselines) = no_strings_changed strings baselines
 
-lines_stay_within : (strings : Strings) (lines : Lines) → StayWithin strings (line_settings lines)
-unfolding line_settings
-lines_stay_within strings [] = tt
-lines_stay_within strings (None ∷ lines) = lines_stay_within strings lines
-lines_stay_within strings (Some state ∷ lines) = lines_stay_within strings lines
+baselines_stay_within : (strings : Strings) (baselines : Baselines) → StayWithin strings (baseline_settings baselines)
+unfolding baseline_settings
+baselines_stay_within strings [] = tt
+baselines_stay_within strings (None ∷ baselines) = baselines_stay_within strings baselines
+baselines_stay_within strings (Some state ∷ baselines) = baselines_stay_within strings baselines
 
--- each line stands at its number
-is_line : (table : Layout) (lines : Lines) → AreLines table lines → (number : ℕ) → IfSome (set_at lines number) (IsLine table number)
-is_line table lines are number = go (set_at lines number) (are.numbers number) (are.below number) (are.states number) (are.normal number)
+-- each baseline stands at its number
+is_line : (table : Layout) (baselines : Baselines) → AreBaselines table baselines → (number : ℕ) → IfSome (set_at baselines number) (IsBaseline table number)
+is_line table baselines are number = go (set_at baselines number) (are.numbers number) (are.below number) (are.states number) (are.normal number)
   where
-    go : (line : Option EntityState) → IfSome line (λ state. state.number ≡ number) → IfSome line (λ state. state.number < end_mark table) → IfSome line (λ state. AreWords 64 state.words) → IfSome line (IsNormal table) → IfSome line (IsLine table number)
+    go : (baseline : Option EntityState) → IfSome baseline (λ state. state.number ≡ number) → IfSome baseline (λ state. state.number < end_mark table) → IfSome baseline (λ state. AreWords 64 state.words) → IfSome baseline (IsNormal table) → IfSome baseline (IsBaseline table number)
     go None a below b c = tt
     go (Some state) a below b c = record { number_is = a; below = below; words = b; normal = c }
 
@@ -290,36 +290,36 @@ gamestate_is_spelled laws profile game codec is =
     let table = profile.entity in
     let texts = game.strings.texts in
     let count = is.strings.count in
-    let places_are = is.lines.places in
+    let places_are = is.baselines.places in
     let are = are_texts profile game is in
     let strings = string_settings 0 texts in
-    let lines = line_settings game.lines in
+    let baselines = baseline_settings game.baselines in
     let string_text = numbered places 0 (λ index. config_bits words index (string_at game.strings index)) in
-    let line_text = numbered most_lines 0 (λ number. baseline_bits words table (set_at game.lines number)) in
+    let line_text = numbered most_baselines 0 (λ number. baseline_bits words table (set_at game.baselines number)) in
     let begin : so_far [] (length texts) ≡ no_strings = ap (so_far []) count ∙ sym strings_begin in
     let made : strings_after no_strings strings ≡ game.strings =
     ap (λ (s : Strings). strings_after s strings) (sym begin) ∙ strings_made [] texts are ∙ strings_end game.strings is.pending in
-    let lines_begin : replicate (length game.lines) None ≡ no_lines = ap (λ (n : ℕ). replicate n None) places_are in
+    let baselines_begin : replicate (length game.baselines) None ≡ no_baselines = ap (λ (n : ℕ). replicate n None) places_are in
     let from_none : (i : ℕ) → 0 + i ≡ i = λ i. omega arith in
-    let numbers : (i : ℕ) → i < length game.lines → IfSome (get_or game.lines i None) (λ state. state.number ≡ 0 + i) =
-    λ i more. subst (λ (k : ℕ). IfSome (get_or game.lines i None) (λ state. state.number ≡ k)) (sym (from_none i)) (is.lines.numbers i) in
-    let lines_are : lines_after no_lines lines ≡ game.lines = ap (λ (l : Lines). lines_after l lines) (sym lines_begin) ∙ lines_made [] game.lines numbers in
+    let numbers : (i : ℕ) → i < length game.baselines → IfSome (get_or game.baselines i None) (λ state. state.number ≡ 0 + i) =
+    λ i more. subst (λ (k : ℕ). IfSome (get_or game.baselines i None) (λ state. state.number ≡ k)) (sym (from_none i)) (is.baselines.numbers i) in
+    let baselines_are : baselines_after no_baselines baselines ≡ game.baselines = ap (λ (l : Baselines). baselines_after l baselines) (sym baselines_begin) ∙ baselines_made [] game.baselines numbers in
     record {
       command = is.command;
       slot = is.slot;
       feed = is.feed;
-      settings = strings ++ lines;
+      settings = strings ++ baselines;
       text = string_text ++ line_text;
-      of_settings = spells_both words table strings lines string_text line_text
+      of_settings = spells_both words table strings baselines string_text line_text
           (subst (λ (n : ℕ). SpellsSettings words table strings (numbered n 0 (λ index. config_bits words index (string_at game.strings index)))) count
           (strings_spelled laws.string words table (string_at game.strings) 0 texts are (omega (arith, count)) (λ i more. ap (string_at game.strings) (from_none i))))
-          (subst (λ (n : ℕ). SpellsSettings words table lines (numbered n 0 (λ number. baseline_bits words table (set_at game.lines number)))) places_are
-          (lines_spelled laws profile codec (set_at game.lines) 0 game.lines (λ i more. ap (set_at game.lines) (from_none i)) (is_line table game.lines is.lines)));
-      within = within_both no_strings strings lines
+          (subst (λ (n : ℕ). SpellsSettings words table baselines (numbered n 0 (λ number. baseline_bits words table (set_at game.baselines number)))) places_are
+          (baselines_spelled laws profile codec (set_at game.baselines) 0 game.baselines (λ i more. ap (set_at game.baselines) (from_none i)) (is_line table game.baselines is.baselines)));
+      within = within_both no_strings strings baselines
           (subst (λ (s : Strings). StayWithin s strings) begin (strings_within [] texts are is.strings.size))
-          (lines_stay_within (strings_after no_strings strings) game.lines);
-      strings = sym (strings_both no_strings strings lines ∙ no_strings_changed (strings_after no_strings strings) game.lines ∙ made);
-      lines = sym (lines_both no_lines strings lines ∙ ap (λ (l : Lines). lines_after l lines) (no_lines_changed no_lines 0 texts) ∙ lines_are);
+          (baselines_stay_within (strings_after no_strings strings) game.baselines);
+      strings = sym (strings_both no_strings strings baselines ∙ no_strings_changed (strings_after no_strings strings) game.baselines ∙ made);
+      baselines = sym (baselines_both no_baselines strings baselines ∙ ap (λ (l : Baselines). baselines_after l baselines) (no_baselines_changed no_baselines 0 texts) ∙ baselines_are);
       id = is.id;
       whole = ap (λ (text : List Bool). text ++ row_bits words ((8, 8) ∷ (game.slot, 32) ∷ (game.feed, 32) ∷ [])) (append_assoc (row_bits words ((2, 8) ∷ (game.command, 32) ∷ [])) string_text line_text);
     }

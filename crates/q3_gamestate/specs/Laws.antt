@@ -3,7 +3,7 @@ use Rattle.std.specs.Prelude.{◌≡◌, ◌^◌, ◌<◌, Bool, List, [], ◌�
 use Rattle.q3_bits.specs.Words.{row_bits}
 use Rattle.q3_text.specs.Texts.{IsTextByte}
 use Rattle.q3_config.specs.Strings.{AreStrings, server_id}
-use Rattle.q3_entity.specs.Baselines.{AreLines}
+use Rattle.q3_entity.specs.Baselines.{AreBaselines}
 use Rattle.q3_profile.specs.declared.profile.Profile.{Profile}
 use Rattle.q3_profile.specs.Profile.{IsCodec}
 use Rattle.q3_gamestate.specs.Values.{Gamestate}
@@ -19,7 +19,7 @@ pub record IsGamestate (profile : Profile) (game : Gamestate) : Type 0 where
   pub strings : AreStrings game.strings
   pub texts : All (All IsTextByte) game.strings.texts
   pub pending : game.strings.pending ≡ None
-  pub lines : AreLines profile.entity game.lines
+  pub baselines : AreBaselines profile.entity game.baselines
   pub id : IsSome (server_id game.strings)
 
 -- what is written of a gamestate spells it

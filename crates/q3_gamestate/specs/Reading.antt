@@ -12,7 +12,7 @@ use Rattle.q3_entity.specs.declared.error.EntityError.TheVariants.{Order, Remove
 use Rattle.q3_entity.specs.declared.reading.Entry.{Entry}
 use Rattle.q3_entity.specs.declared.reading.Entry.TheVariants.{Removed}
 use Rattle.q3_entity.specs.Delta.{entity_at}
-use Rattle.q3_entity.specs.Baselines.{Lines, no_lines, with_line}
+use Rattle.q3_entity.specs.Baselines.{Baselines, no_baselines, with_baseline}
 use Rattle.q3_config.specs.declared.error.ConfigError.{ConfigError}
 use Rattle.q3_config.specs.declared.error.ConfigError.TheVariants.{Index}
 use Rattle.q3_config.specs.Strings.{Strings, places, longest_string, no_strings, with_string, set_fault, server_id}
@@ -46,32 +46,32 @@ config_at words strings bits = do
       else Err (Config Index)
 
 -- a baseline that was read is set; one that is removed is refused
-abbrev pub baseline_set : Lines → ℕ → Entry → List ℕ → Result Lines GamestateError
-baseline_set lines number Removed words = Err (Entity (Removes number))
-baseline_set lines number other words = Ok (with_line lines (record { number = number; words = words }))
+abbrev pub baseline_set : Baselines → ℕ → Entry → List ℕ → Result Baselines GamestateError
+baseline_set baselines number Removed words = Err (Entity (Removes number))
+baseline_set baselines number other words = Ok (with_baseline baselines (record { number = number; words = words }))
 
 -- a baseline behind its operation: its number, which is refused where it is the end mark before its text is read, and its
 -- state against the zero state
-unfoldable pub baseline_at : Profile → Lines → List Bool → Result (Lines × List Bool) GamestateError
-baseline_at profile lines bits = do
+unfoldable pub baseline_at : Profile → Baselines → List Bool → Result (Baselines × List Bool) GamestateError
+baseline_at profile baselines bits = do
   number ← field_read profile.code profile.entity.number_bits bits
   if number.0 == end_mark profile.entity then Err (Entity (Order number.0)) else (do
     state ← fault_as Entity (entity_at profile.code profile.entity (replicate 64 0) number.1)
-    set ← baseline_set lines number.0 state.0.0 state.0.1
+    set ← baseline_set baselines number.0 state.0.0 state.0.1
     Ok (set, state.1))
 
 -- config strings and baselines in any order, a later one for an earlier, up to the operation 8; there are at most so many,
 -- since each takes a bit
-unfoldable pub settings_at : Profile → ℕ → Strings → Lines → List Bool → Result ((Strings × Lines) × List Bool) GamestateError
-settings_at profile zero strings lines bits = Err (Bits End)
-settings_at profile (suc most) strings lines bits = do
+unfoldable pub settings_at : Profile → ℕ → Strings → Baselines → List Bool → Result ((Strings × Baselines) × List Bool) GamestateError
+settings_at profile zero strings baselines bits = Err (Bits End)
+settings_at profile (suc most) strings baselines bits = do
   operation ← field_read profile.code 8 bits
-  if operation.0 == 8 then Ok ((strings, lines), operation.1) else
+  if operation.0 == 8 then Ok ((strings, baselines), operation.1) else
       if operation.0 == 3 then (do
         config ← config_at profile.code strings operation.1
-        settings_at profile most config.0 lines config.1) else
+        settings_at profile most config.0 baselines config.1) else
       if operation.0 == 4 then (do
-        baseline ← baseline_at profile lines operation.1
+        baseline ← baseline_at profile baselines operation.1
         settings_at profile most strings baseline.0 baseline.1)
       else Err (BadOp operation.0)
 
@@ -79,9 +79,9 @@ settings_at profile (suc most) strings lines bits = do
 unfoldable pub gamestate_at : Profile → List Bool → Result (Gamestate × List Bool) GamestateError
 gamestate_at profile bits = do
   command ← field_read profile.code 32 bits
-  settings ← settings_at profile (length command.1) no_strings no_lines command.1
+  settings ← settings_at profile (length command.1) no_strings no_baselines command.1
   if is_some (server_id settings.0.0) then (do
     slot ← field_read profile.code 32 settings.1
     feed ← field_read profile.code 32 slot.1
-    Ok (record { command = command.0; strings = settings.0.0; lines = settings.0.1; slot = slot.0; feed = feed.0 }, feed.1))
+    Ok (record { command = command.0; strings = settings.0.0; baselines = settings.0.1; slot = slot.0; feed = feed.0 }, feed.1))
       else Err NoServerId

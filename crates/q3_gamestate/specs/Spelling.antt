@@ -6,7 +6,7 @@ use Rattle.q3_strings.specs.Spelling.{SpellsString}
 use Rattle.q3_fields.specs.Kinds.{Layout, end_mark}
 use Rattle.q3_entity.specs.declared.state.EntityState.{EntityState}
 use Rattle.q3_entity.specs.Spelling.{SpellsEntry}
-use Rattle.q3_entity.specs.Baselines.{Lines, no_lines, with_line}
+use Rattle.q3_entity.specs.Baselines.{Baselines, no_baselines, with_baseline}
 use Rattle.q3_config.specs.Strings.{Strings, places, longest_string, most_size, no_strings, config_size, with_string, server_id}
 use Rattle.q3_profile.specs.declared.profile.Profile.{Profile}
 use Rattle.q3_gamestate.specs.Values.{Gamestate}
@@ -39,10 +39,10 @@ strings_after strings [] = strings
 strings_after strings (ConfigString index text ∷ settings) = strings_after (with_string strings index text) settings
 strings_after strings (Baseline state ∷ settings) = strings_after strings settings
 
-abbrev pub lines_after : Lines → List Setting → Lines
-lines_after lines [] = lines
-lines_after lines (ConfigString index text ∷ settings) = lines_after lines settings
-lines_after lines (Baseline state ∷ settings) = lines_after (with_line lines state) settings
+abbrev pub baselines_after : Baselines → List Setting → Baselines
+baselines_after baselines [] = baselines
+baselines_after baselines (ConfigString index text ∷ settings) = baselines_after baselines settings
+baselines_after baselines (Baseline state ∷ settings) = baselines_after (with_baseline baselines state) settings
 
 -- the strings are never too large on the way
 abbrev pub StayWithin : Strings → List Setting → Type 0
@@ -61,7 +61,7 @@ pub record SpellsGamestate (profile : Profile) (game : Gamestate) (bits : List B
   pub of_settings : SpellsSettings profile.code profile.entity settings text
   pub within : StayWithin no_strings settings
   pub strings : game.strings ≡ strings_after no_strings settings
-  pub lines : game.lines ≡ lines_after no_lines settings
+  pub baselines : game.baselines ≡ baselines_after no_baselines settings
   pub id : IsSome (server_id game.strings)
   pub whole : bits ≡ row_bits profile.code ((2, 8) ∷ (game.command, 32) ∷ []) ++ text
       ++ row_bits profile.code ((8, 8) ∷ (game.slot, 32) ∷ (game.feed, 32) ∷ [])

@@ -8,7 +8,7 @@ use Rattle.q3_config.specs.Strings.{places, string_at}
 use Rattle.q3_entity.specs.declared.state.EntityState.{EntityState}
 use Rattle.q3_entity.specs.Entities.{zero_entity}
 use Rattle.q3_entity.specs.Delta.{entity_delta}
-use Rattle.q3_entity.specs.Baselines.{most_lines, set_at}
+use Rattle.q3_entity.specs.Baselines.{most_baselines, set_at}
 use Rattle.q3_profile.specs.declared.profile.Profile.{Profile}
 use Rattle.q3_gamestate.specs.Values.{Gamestate}
 
@@ -33,5 +33,5 @@ unfoldable pub gamestate_bits : Profile → Gamestate → List Bool
 gamestate_bits profile game =
     row_bits profile.code ((2, 8) ∷ (game.command, 32) ∷ [])
     ++ numbered places 0 (λ index. config_bits profile.code index (string_at game.strings index))
-    ++ numbered most_lines 0 (λ number. baseline_bits profile.code profile.entity (set_at game.lines number))
+    ++ numbered most_baselines 0 (λ number. baseline_bits profile.code profile.entity (set_at game.baselines number))
     ++ row_bits profile.code ((8, 8) ∷ (game.slot, 32) ∷ (game.feed, 32) ∷ [])

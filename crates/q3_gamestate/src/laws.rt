@@ -22,8 +22,8 @@ pub fn read_is_spelled()
     bits::read_was_put();
     strings::string_read_is_spelled();
     entity::zero_is_normal();
-    entity::no_lines_are_lines();
-    entity::line_is_added();
+    entity::none_are_baselines();
+    entity::baseline_is_added();
     entity::entry_read_is_spelled();
 }
 

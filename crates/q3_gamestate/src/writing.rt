@@ -3,7 +3,7 @@
 ghost use Rattle.std.specs.Prelude.{◌≡◌, ◌<◌};
 ghost use Rattle.q3_bits.specs.Streams.{Writes};
 ghost use Rattle.q3_config.specs.Strings.{places, string_at};
-ghost use Rattle.q3_entity.specs.Baselines.{most_lines, set_at};
+ghost use Rattle.q3_entity.specs.Baselines.{most_baselines, set_at};
 ghost use Rattle.q3_gamestate.specs.Values.{gamestate_of};
 ghost use Rattle.q3_gamestate.specs.Texts.{config_bits, baseline_bits, numbered, gamestate_bits};
 
@@ -11,7 +11,7 @@ use crate::numbers::Numbers;
 use crate::operations::{BASELINE, CONFIG_STRING, EOF, GAMESTATE};
 use q3_bits::{Overflow, Writer, laws};
 use q3_config::Configs;
-use q3_entity::{Baselines, EntityState, MOST_LINES, write_entity};
+use q3_entity::{Baselines, EntityState, MOST_BASELINES, write_entity};
 use q3_fields::Table;
 use q3_profile::Profile;
 use q3_strings::write_string;
@@ -68,12 +68,12 @@ fn write_config(w: &mut Writer, index: u32, text: &[u8]) -> Result<(), Overflow>
 
 /// Writes baselines, by number.
 fn write_baselines(w: &mut Writer, table: &Table, baselines: &Baselines) -> Result<(), Overflow>
-    ensures { Writes w.old w.new (numbered most_lines 0 (λ number. baseline_bits w.old.words table.now (set_at baselines.now number))) result }
+    ensures { Writes w.old w.new (numbered most_baselines 0 (λ number. baseline_bits w.old.words table.now (set_at baselines.now number))) result }
 {
     laws::texts_are_written();
     // what stands there fits the room
     prove!(w.length() > 0);
-    for number in 0..MOST_LINES {
+    for number in 0..MOST_BASELINES {
         write_baseline(w, table, baselines, number)?;
     }
     Ok(())

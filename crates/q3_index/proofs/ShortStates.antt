@@ -11,7 +11,7 @@ use Rattle.byteorder.specs.Endian.{little_bytes}
 use Rattle.q3_fields.specs.declared.kind.Kind.{Kind}
 use Rattle.q3_fields.specs.Kinds.{Layout}
 use Rattle.q3_entity.specs.declared.state.EntityState.{EntityState}
-use Rattle.q3_entity.specs.Baselines.{Lines}
+use Rattle.q3_entity.specs.Baselines.{Baselines, set_baselines}
 use Rattle.q3_player.specs.declared.state.PlayerState.{PlayerState}
 use Rattle.q3_player.specs.declared.head.SnapHead.{SnapHead}
 use Rattle.q3_player.specs.State.{AreShorts, IsState}
@@ -21,7 +21,7 @@ use Rattle.q3_rings.specs.Rings.{HeldSnapshot, HeldSnapshots}
 use Rattle.q3_rings.specs.ByNumber.{held_under, one_of}
 use Rattle.q3_profile.specs.declared.profile.Profile.{Profile}
 use Rattle.q3_profile.specs.Profile.{IsCodec}
-use Rattle.q3_savestate.specs.Entities.{counted, words_bytes, entity_bytes, set_lines, lines_bytes}
+use Rattle.q3_savestate.specs.Entities.{counted, words_bytes, entity_bytes, baselines_bytes}
 use Rattle.q3_savestate.specs.Texts.{set_strings, string_bytes, strings_bytes, pending_bytes}
 use Rattle.q3_savestate.specs.Snapshots.{shorts_bytes, player_bytes, head_bytes, snapshot_bytes, snapshots_bytes}
 use Rattle.q3_savestate.specs.State.{Saved, flag_bytes, start_bytes, state_bytes}
@@ -60,10 +60,10 @@ entities_most : (table : Layout) (entities : List EntityState) → length table.
 entities_most table entities few = omega (arith, all_most (entity_bytes table) 258 entities (λ entity. entity_most table entity few))
 
 -- no more baselines are set than there are places
-set_few : (lines : Lines) → length (set_lines lines) ≤ length lines
+set_few : (baselines : Baselines) → length (set_baselines baselines) ≤ length baselines
 set_few [] = omega arith
-set_few (None ∷ lines) = omega (arith, set_few lines)
-set_few (Some line ∷ lines) = omega (arith, set_few lines)
+set_few (None ∷ baselines) = omega (arith, set_few baselines)
+set_few (Some baseline ∷ baselines) = omega (arith, set_few baselines)
 
 -- ---- strings
 
@@ -166,8 +166,8 @@ pub state_is_short : (state : AppliedState) → IsApplied state → length (stat
 state_is_short state is =
     let saved : Saved = saved_in state in
     let held : List ℕ = snapshots_bytes state.profile saved.held ++ [] in
-    let lines : List ℕ = lines_bytes state.profile.entity saved.lines ++ held in
-    let strings : List ℕ = strings_bytes saved.strings.texts ++ lines in
+    let baselines : List ℕ = baselines_bytes state.profile.entity saved.baselines ++ held in
+    let strings : List ℕ = strings_bytes saved.strings.texts ++ baselines in
     let flag : List ℕ = flag_bytes saved.has_game ++ strings in
     let pending : List ℕ = pending_bytes saved.strings.pending ++ flag in
     omega (
@@ -175,8 +175,8 @@ state_is_short state is =
       length-append (start_bytes saved) pending,
       length-append (pending_bytes saved.strings.pending) flag,
       length-append (flag_bytes saved.has_game) strings,
-      length-append (strings_bytes saved.strings.texts) lines,
-      length-append (lines_bytes state.profile.entity saved.lines) held,
+      length-append (strings_bytes saved.strings.texts) baselines,
+      length-append (baselines_bytes state.profile.entity saved.baselines) held,
       length-append (snapshots_bytes state.profile saved.held) [],
       length-append state.executed.last [],
       is.last.short,
@@ -184,8 +184,8 @@ state_is_short state is =
       strings_most state.strings.texts,
       is.strings.count,
       is.strings.size,
-      entities_most state.profile.entity (set_lines state.lines) is.profile.entity.kinds.few,
-      set_few state.lines,
-      is.lines.places,
+      entities_most state.profile.entity (set_baselines state.baselines) is.profile.entity.kinds.few,
+      set_few state.baselines,
+      is.baselines.places,
       snapshots_most state is,
     )

@@ -59,7 +59,7 @@ section_leaves state number (Skipped base) =
 pub message_leaves : (state : AppliedState) (number : ℕ) (message : List ℕ) (applied : Application) → apply_at state number message ≡ Ok applied
     → (applied.state.profile ≡ state.profile) × (applied.state.number ≡ number)
 message_leaves state number message applied is =
-    let read = bind_ok (server_message_in state.profile (context_of state.held state.lines) number (bits_of message)) (λ (read : Message). Ok (apply_read state number read)) applied is in
+    let read = bind_ok (server_message_in state.profile (context_of state.held state.baselines) number (bits_of message)) (λ (read : Message). Ok (apply_read state number read)) applied is in
     let same : apply_read state number read.0 ≡ applied = let e = read.2 in cc in
     subst (λ (applied : Application). (applied.state.profile ≡ state.profile) × (applied.state.number ≡ number)) same
     (section_leaves (hearing state read.0.commands) number read.0.section)

@@ -5,7 +5,7 @@ use Rattle.std.specs.List.{filter}
 use Rattle.q3_fields.specs.Kinds.{Layout, end_mark}
 use Rattle.q3_config.specs.Strings.{Strings, no_strings, with_string}
 use Rattle.q3_entity.specs.declared.state.EntityState.{EntityState}
-use Rattle.q3_entity.specs.Baselines.{Lines, no_lines, with_line}
+use Rattle.q3_entity.specs.Baselines.{Baselines, no_baselines, with_baseline}
 use Rattle.q3_entity.specs.Entities.{RiseFrom, AreStates, AreNormal, normal_entity}
 use Rattle.q3_map.specs.declared.map.NotLater.{NotLater}
 use Rattle.q3_map.specs.declared.map.Late.{Late}
@@ -18,7 +18,7 @@ pub record MapState : Type 0 where
   pub feed : ℕ
   pub count : Bool
   pub begun : Bool
-  pub lines : Lines
+  pub baselines : Baselines
   pub strings : Strings
   pub time : ℕ
   pub entities : List EntityState
@@ -30,7 +30,7 @@ no_map = record {
   feed = 0;
   count = false;
   begun = false;
-  lines = no_lines;
+  baselines = no_baselines;
   strings = no_strings;
   time = 0;
   entities = [];
@@ -49,7 +49,7 @@ after_new_map map id feed = record {
   feed = feed;
   count = not map.count;
   begun = false;
-  lines = no_lines;
+  baselines = no_baselines;
   strings = with_string no_strings 1 (id_text id);
   time = map.time;
   entities = [];
@@ -74,7 +74,7 @@ is_other map id = map.id == 0 || not (id == map.id)
 abbrev pub set_baseline_at : Layout → MapState → EntityState → Handed Late
 set_baseline_at table map state =
     if map.begun then record { map = map; answer = Err (record {}) }
-    else record { map = record map { lines = with_line map.lines (normal_entity table state) }; answer = Ok tt }
+    else record { map = record map { baselines = with_baseline map.baselines (normal_entity table state) }; answer = Ok tt }
 
 -- a config string
 abbrev pub with_config : MapState → ℕ → List ℕ → MapState

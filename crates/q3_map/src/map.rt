@@ -64,7 +64,7 @@ impl Model for Map {
       feed = m.feed;
       count = m.count;
       begun = m.begun;
-      lines = m.baselines;
+      baselines = m.baselines;
       strings = m.configs;
       time = m.time;
       entities = m.entities.items;
@@ -154,17 +154,17 @@ impl Map {
         if self.begun {
             return Err(Late);
         }
-        let mut line = *state;
-        line.normalize(table);
+        let mut baseline = *state;
+        baseline.normalize(table);
         // each number below the end mark may have a baseline
         prove!(table.end() <= MOST_END);
-        self.baselines.set(&line);
+        self.baselines.set(&baseline);
         Ok(())
     }
 
     /// Lends the map's baselines.
     pub fn baselines(&self) -> &Baselines
-        ensures { result.now ≡ self.now.lines }
+        ensures { result.now ≡ self.now.baselines }
     {
         &self.baselines
     }

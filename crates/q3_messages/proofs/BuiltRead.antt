@@ -16,7 +16,7 @@ use Rattle.q3_chan.specs.Keys.{Key, server_key, server_scrambled, server_start}
 use Rattle.q3_chan.specs.Laws.{SideTwiceIsNone, SideFrontStays}
 use Rattle.q3_profile.specs.declared.profile.Profile.{Profile}
 use Rattle.q3_profile.specs.Profile.{IsCodec}
-use Rattle.q3_entity.specs.Baselines.{Lines}
+use Rattle.q3_entity.specs.Baselines.{Baselines}
 use Rattle.q3_svmsg.specs.declared.error.Illegible.{Illegible}
 use Rattle.q3_svmsg.specs.Values.{Base, base_from, Message}
 use Rattle.q3_svmsg.specs.Texts.{section_bits, server_message_bits}
@@ -37,11 +37,11 @@ abbrev long_of : Profile → Message → List Bool
 long_of profile message = row_bits profile.code ((message.ack, 32) ∷ [])
 
 -- a message's text begins with it, also with what follows it
-begins_with_long : (profile : Profile) (lines : Lines) (against : Option Base) (message : Message) (rest : List Bool)
-    → (left : List Bool) × (server_message_bits profile lines against message ++ rest ≡ long_of profile message ++ left)
+begins_with_long : (profile : Profile) (baselines : Baselines) (against : Option Base) (message : Message) (rest : List Bool)
+    → (left : List Bool) × (server_message_bits profile baselines against message ++ rest ≡ long_of profile message ++ left)
 unfolding server_message_bits
-begins_with_long profile lines against message rest =
-    ((commands_bits profile.code 5 message.commands ++ section_bits profile lines against message.section ++ row_bits profile.code ((8, 8) ∷ [])) ++ rest, simp append_assoc)
+begins_with_long profile baselines against message rest =
+    ((commands_bits profile.code 5 message.commands ++ section_bits profile baselines against message.section ++ row_bits profile.code ((8, 8) ∷ [])) ++ rest, simp append_assoc)
 
 -- it is read, whatever follows it
 long_is_read : PutIsRead → (words : List (List Bool)) → IsCode words → (ack : ℕ) (rest : List Bool) → ack < 2 ^ 32
@@ -75,7 +75,7 @@ by_read client n ack plain read = with_application client ack plain (read >>= λ
 -- a message whose leading long is read is received as what is read of the rest
 received_by : (client : ClientState) (n bits : ℕ) (bytes plain : List ℕ) (message : Message) → cleared_at client n message.ack bytes ≡ plain → ack_at client.state.profile.code (bits_of bytes) ≡ Ok (message.ack, bits)
     → (acknowledge_at client.issued message.ack).answer ≡ Ok tt
-    → server_message_in client.state.profile (context_of client.state.held client.state.lines) n (bits_of (cleared_at client n message.ack bytes))
+    → server_message_in client.state.profile (context_of client.state.held client.state.baselines) n (bits_of (cleared_at client n message.ack bytes))
     ≡ Ok (record message { section = received client.state.held message.section })
     → receive_bytes client n bytes ≡ Ok (receive_message client n message plain)
 received_by client n bits bytes plain message clear found taken is =
@@ -85,7 +85,7 @@ received_by client n bits bytes plain message clear found taken is =
 
 -- what is read of bytes by a profile
 abbrev read_with : ClientState → ℕ → List ℕ → Profile → Result Message Illegible
-read_with client n bytes profile = server_message_in profile (context_of client.state.held client.state.lines) n (bits_of bytes)
+read_with client n bytes profile = server_message_in profile (context_of client.state.held client.state.baselines) n (bits_of bytes)
 
 -- ---- a message that was built
 
@@ -106,29 +106,29 @@ is_headed profile challenge n built is =
 -- its bits are read against all that a client has, whatever follows them
 abbrev AreRead : Profile → ClientState → ℕ → Built → Type 0
 AreRead profile client n built = (rest : List Bool)
-    → server_message_at profile (context_of client.state.held client.state.lines) n (built_bits profile built ++ rest) ≡ read_so client.state.held built.message rest
+    → server_message_at profile (context_of client.state.held client.state.baselines) n (built_bits profile built ++ rest) ≡ read_so client.state.held built.message rest
 
 bits_are_read : WrittenIsRead → ReadIsSkipped → (profile : Profile) → IsCodec profile → (client : ClientState) (n : ℕ) (built : Built) → IsBuilt profile client.challenge n built
-    → IsContext profile (context_of client.state.held client.state.lines) → IfSome built.under (λ game. client.state.lines ≡ built.lines)
+    → IsContext profile (context_of client.state.held client.state.baselines) → IfSome built.under (λ game. client.state.baselines ≡ built.baselines)
     → IfSome built.base (λ base. IsSnapshot profile base × HoldsThis client.state.held base) → AreRead profile client n built
 bits_are_read law skips profile codec client n built is context same known =
     let held = client.state.held in
-    let lines = client.state.lines in
+    let baselines = client.state.baselines in
     let telling = is.telling in
     let base = built.base in
     elim is.section [
       | inl one ↦
-          let under = subst (λ (o : Option ℕ). IfSome o (λ game. lines ≡ built.lines)) (ap (λ (b : Built). b.under) one.is) same in
+          let under = subst (λ (o : Option ℕ). IfSome o (λ game. baselines ≡ built.baselines)) (ap (λ (b : Built). b.under) one.is) same in
           let bases = three_some base (IsNear n) (IsSnapshot profile) (HoldsThis held) one.base_is
           (if_some_then base (λ b. IsSnapshot profile b × HoldsThis held b) (IsSnapshot profile) (λ b two. two.0) known)
           (if_some_then base (λ b. IsSnapshot profile b × HoldsThis held b) (HoldsThis held) (λ b two. two.1) known) in
           subst (AreRead profile client n) (sym one.is)
-          (λ rest. ap (λ (bits : List Bool). server_message_at profile (context_of held lines) n (bits ++ rest))
-          (text_alike profile built.lines lines telling base one.snapshot telling.under under one.waits)
-          ∙ text_is_received profile client.challenge law skips codec held lines n telling base one.snapshot rest context is.tells one.are one.number bases)
+          (λ rest. ap (λ (bits : List Bool). server_message_at profile (context_of held baselines) n (bits ++ rest))
+          (text_alike profile built.baselines baselines telling base one.snapshot telling.under under one.waits)
+          ∙ text_is_received profile client.challenge law skips codec held baselines n telling base one.snapshot rest context is.tells one.are one.number bases)
       | inr made ↦
           subst (AreRead profile client n) (sym made.is)
-          (λ rest. game_is_received profile client.challenge law codec held lines built.lines n telling made.game rest context is.tells made.are)
+          (λ rest. game_is_received profile client.challenge law codec held baselines built.baselines n telling made.game rest context is.tells made.are)
     ]
 
 module _ (put : PutIsRead) (holds : MessageHoldsBits) (twice : SideTwiceIsNone) (front : SideFrontStays) where
@@ -144,7 +144,7 @@ module _ (put : PutIsRead) (holds : MessageHoldsBits) (twice : SideTwiceIsNone) 
       let bytes = built_bytes profile built in
       let rest = replicate (8 * message_length (length bits) - length bits) false in
       let row = long_of profile message in
-      let begins = begins_with_long profile built.lines (option_map base_from built.base) message rest in
+      let begins = begins_with_long profile built.baselines (option_map base_from built.base) message rest in
       let left = stays_in_sight front profile.protocol Server built.key (server_start client.challenge n) row begins.0 plain headed.clear (ap (λ (k : Key). k.start) headed.key) (holds bits ∙ begins.1) in
       let found = long_is_read put words codec.code message.ack (drop (length row) (bits_of bytes)) headed.ack in
       let clear : cleared_at client n message.ack bytes ≡ plain =
@@ -154,11 +154,11 @@ module _ (put : PutIsRead) (holds : MessageHoldsBits) (twice : SideTwiceIsNone) 
       received_by client n found.0 bytes plain message clear (ap (λ (p : Profile). ack_at p.code (bits_of bytes)) of_profile ∙ (ap (ack_at words) left ∙ found.1)) taken
       (ap (read_with client n (cleared_at client n message.ack bytes)) of_profile
       ∙ (ap (λ (l : List ℕ). read_with client n l profile) clear
-      ∙ (ap (server_message_in profile (context_of client.state.held client.state.lines) n) (holds bits)
+      ∙ (ap (server_message_in profile (context_of client.state.held client.state.baselines) n) (holds bits)
       ∙ ap value_of (are_read rest))))
 
   pub built_is_read : AppliedIsContext → WrittenIsRead → ReadIsSkipped → BuiltIsRead
   built_is_read contexts law skips profile codec client n built is of_profile applied under taken same known =
-      let context = subst (λ (p : Profile). IsContext p (context_of client.state.held client.state.lines)) of_profile (contexts client.state applied) in
+      let context = subst (λ (p : Profile). IsContext p (context_of client.state.held client.state.baselines)) of_profile (contexts client.state applied) in
       bytes_are_received profile codec client n built (is_headed profile client.challenge n built is) of_profile taken same
       (bits_are_read law skips profile codec client n built is context under known)

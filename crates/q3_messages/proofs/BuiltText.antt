@@ -12,7 +12,7 @@ use Rattle.q3_player.specs.declared.state.PlayerState.{PlayerState}
 use Rattle.q3_player.specs.declared.head.SnapHead.{SnapHead}
 use Rattle.q3_entity.specs.declared.state.EntityState.{EntityState}
 use Rattle.q3_entity.specs.Entities.{normal_entity, IsNormal, AreNormal}
-use Rattle.q3_entity.specs.Baselines.{Lines, AreLines}
+use Rattle.q3_entity.specs.Baselines.{Baselines, AreBaselines}
 use Rattle.q3_entity.specs.Lists.{entity_list_bits}
 use Rattle.q3_gamestate.specs.Values.{Gamestate}
 use Rattle.q3_gamestate.specs.Laws.{IsGamestate}
@@ -36,8 +36,8 @@ has_base_is held (suc number) some = let same : number + 1 ≡ suc number = omeg
 -- ---- contexts
 
 -- a reader's bases and baselines
-abbrev with_bases : (ℕ → Option Base) → Lines → Context
-with_bases bases lines = record { base = bases; lines = lines }
+abbrev with_bases : (ℕ → Option Base) → Baselines → Context
+with_bases bases baselines = record { base = bases; baselines = baselines }
 
 some_base : (x y : Base) → Some x ≡ Some y → x ≡ y
 some_base x y e = cc
@@ -62,8 +62,8 @@ only base number = if number == base.head.number then Some (base_from base) else
 only_there : (base : Snapshot) → only base base.head.number ≡ Some (base_from base)
 only_there base = rw (eq-eqb base.head.number base.head.number refl) refl
 
-only_is_context : (profile : Profile) (base : Snapshot) (lines : Lines) → IsSnapshot profile base → AreLines profile.entity lines → IsContext profile (with_bases (only base) lines)
-only_is_context profile base lines is are_lines = record { bases = λ number found at. one number found at; lines = are_lines }
+only_is_context : (profile : Profile) (base : Snapshot) (baselines : Baselines) → IsSnapshot profile base → AreBaselines profile.entity baselines → IsContext profile (with_bases (only base) baselines)
+only_is_context profile base baselines is are_baselines = record { bases = λ number found at. one number found at; baselines = are_baselines }
   where
     none_some : (found : Base) → no_base ≡ Some found → ⊥
     none_some found e = absurd cc
@@ -133,20 +133,20 @@ abbrev pub value_of : Read → Result Message Illegible
 value_of read = read >>= λ one. Ok one.0
 
 -- the text of a message with a snapshot
-abbrev pub text : Profile → Lines → Telling → Option Snapshot → Snapshot → List Bool
-text profile lines telling base snapshot = server_message_bits profile lines (option_map base_from base) (message_of telling base snapshot)
+abbrev pub text : Profile → Baselines → Telling → Option Snapshot → Snapshot → List Bool
+text profile baselines telling base snapshot = server_message_bits profile baselines (option_map base_from base) (message_of telling base snapshot)
 
-module _ (profile : Profile) (challenge : ℕ) (law : WrittenIsRead) (codec : IsCodec profile) (n : ℕ) (telling : Telling) (tells : IsTelling profile challenge n telling) (lines : Lines) (base : Option Snapshot) (snapshot : Snapshot) (is : IsSnapshot profile snapshot) (number : snapshot.head.number ≡ n) (rest : List Bool) where
+module _ (profile : Profile) (challenge : ℕ) (law : WrittenIsRead) (codec : IsCodec profile) (n : ℕ) (telling : Telling) (tells : IsTelling profile challenge n telling) (baselines : Baselines) (base : Option Snapshot) (snapshot : Snapshot) (is : IsSnapshot profile snapshot) (number : snapshot.head.number ≡ n) (rest : List Bool) where
   -- where its base is found, it is read back from its text by the same baselines, with whatever follows it
-  pub text_is_read : (bases : ℕ → Option Base) → IsContext profile (with_bases bases lines) → IfSome base (IsNear n)
-      → held_base (with_bases bases lines) (number_of base) ≡ option_map base_from base
-      → server_message_at profile (with_bases bases lines) n (text profile lines telling base snapshot ++ rest) ≡ done telling base rest snapshot
+  pub text_is_read : (bases : ℕ → Option Base) → IsContext profile (with_bases bases baselines) → IfSome base (IsNear n)
+      → held_base (with_bases bases baselines) (number_of base) ≡ option_map base_from base
+      → server_message_at profile (with_bases bases baselines) n (text profile baselines telling base snapshot ++ rest) ≡ done telling base rest snapshot
   text_is_read bases context near found =
       let head = snapshot.head in
       let entities = snapshot.entities in
       let message = message_of telling base snapshot in
-      ap (λ (o : Option Base). server_message_at profile (with_bases bases lines) n (server_message_bits profile lines o message ++ rest)) (sym found)
-      ∙ (law profile (with_bases bases lines) n message rest codec context (built_is_message profile challenge (with_bases bases lines) n telling base snapshot tells is number near found)
+      ap (λ (o : Option Base). server_message_at profile (with_bases bases baselines) n (server_message_bits profile baselines o message ++ rest)) (sym found)
+      ∙ (law profile (with_bases bases baselines) n message rest codec context (built_is_message profile challenge (with_bases bases baselines) n telling base snapshot tells is number near found)
       ∙ (ap (λ (p : PlayerState). done telling base rest (record { head = record head { player = p }; entities = map (normal_entity profile.entity) entities })) is.player.normal
       ∙ ap (λ (es : List EntityState). done telling base rest (record { head = head; entities = es })) (all_normal profile.entity entities is.entities.normal)))
 
@@ -161,14 +161,14 @@ held_or (Ok snapshot) = inl (snapshot, refl)
 held_or (Err cause) = inr (cause, refl)
 
 -- a message with a snapshot is read so by the baselines by which it was written
-pub text_is_received : (profile : Profile) (challenge : ℕ) → WrittenIsRead → ReadIsSkipped → IsCodec profile → (held : HeldSnapshots) (lines : Lines) (n : ℕ) (telling : Telling) (base : Option Snapshot) (snapshot : Snapshot) (rest : List Bool)
-    → IsContext profile (context_of held lines) → IsTelling profile challenge n telling → IsSnapshot profile snapshot → snapshot.head.number ≡ n → IfSome base (λ b. IsNear n b × IsSnapshot profile b × HoldsThis held b)
-    → server_message_at profile (context_of held lines) n (text profile lines telling base snapshot ++ rest) ≡ read_so held (message_of telling base snapshot) rest
-text_is_received profile challenge law skips codec held lines n telling None snapshot rest is_context tells is number known =
-    text_is_read profile challenge law codec n telling tells lines None snapshot is number rest (context_of held lines).base is_context tt refl
-text_is_received profile challenge law skips codec held lines n telling (Some base) snapshot rest is_context tells is number known =
+pub text_is_received : (profile : Profile) (challenge : ℕ) → WrittenIsRead → ReadIsSkipped → IsCodec profile → (held : HeldSnapshots) (baselines : Baselines) (n : ℕ) (telling : Telling) (base : Option Snapshot) (snapshot : Snapshot) (rest : List Bool)
+    → IsContext profile (context_of held baselines) → IsTelling profile challenge n telling → IsSnapshot profile snapshot → snapshot.head.number ≡ n → IfSome base (λ b. IsNear n b × IsSnapshot profile b × HoldsThis held b)
+    → server_message_at profile (context_of held baselines) n (text profile baselines telling base snapshot ++ rest) ≡ read_so held (message_of telling base snapshot) rest
+text_is_received profile challenge law skips codec held baselines n telling None snapshot rest is_context tells is number known =
+    text_is_read profile challenge law codec n telling tells baselines None snapshot is number rest (context_of held baselines).base is_context tt refl
+text_is_received profile challenge law skips codec held baselines n telling (Some base) snapshot rest is_context tells is number known =
     let b = base.head.number in
-    let context = context_of held lines in
+    let context = context_of held baselines in
     let near = known.0 in
     let at = looked_up context b near.some in
     let has = has_base_is held b near.some in
@@ -178,15 +178,15 @@ text_is_received profile challenge law skips codec held lines n telling (Some ba
           let this : found.0 ≡ base = known.2 found.0 viewed in
           let there : held_base context b ≡ Some (base_from base) = at ∙ (ap (λ (o : Option Snapshot). option_map base_from o) viewed ∙ ap (λ (s : Snapshot). some_base_of s) this) in
           let may : has_base held b ≡ true = has ∙ ap (λ (r : Result Snapshot NoBase). is_ok r) found.1 in
-          rw may (text_is_read profile challenge law codec n telling tells lines (Some base) snapshot is number rest context.base is_context near there)
+          rw may (text_is_read profile challenge law codec n telling tells baselines (Some base) snapshot is number rest context.base is_context near there)
       | inr missing ↦
           let viewed : view_at held b ≡ None = ap (λ (r : Result Snapshot NoBase). result_ok r) missing.1 in
           let none : held_base context b ≡ None = at ∙ ap (λ (o : Option Snapshot). option_map base_from o) viewed in
           let may : has_base held b ≡ false = has ∙ ap (λ (r : Result Snapshot NoBase). is_ok r) missing.1 in
-          let alone = with_bases (only base) lines in
-          let alone_is = only_is_context profile base lines known.1 is_context.lines in
-          let whole = text_is_read profile challenge law codec n telling tells lines (Some base) snapshot is number rest (only base) alone_is near (looked_up alone b near.some ∙ only_there base) in
-          rw may (skips profile alone context n b snapshot.head snapshot.entities (message_of telling (Some base) snapshot) (text profile lines telling (Some base) snapshot ++ rest) rest
+          let alone = with_bases (only base) baselines in
+          let alone_is = only_is_context profile base baselines known.1 is_context.baselines in
+          let whole = text_is_read profile challenge law codec n telling tells baselines (Some base) snapshot is number rest (only base) alone_is near (looked_up alone b near.some ∙ only_there base) in
+          rw may (skips profile alone context n b snapshot.head snapshot.entities (message_of telling (Some base) snapshot) (text profile baselines telling (Some base) snapshot ++ rest) rest
           codec alone_is is_context refl near.some none whole)
     ]
   where
@@ -196,39 +196,39 @@ text_is_received profile challenge law skips codec held lines n telling (Some ba
 -- ---- what has the same text whatever the baselines are
 
 -- a list in which nothing is, against one in which nothing is
-nothing_alike : (words : List (List Bool)) (table : Layout) (lines others : Lines) → entity_list_bits words table lines [] [] ≡ entity_list_bits words table others [] []
+nothing_alike : (words : List (List Bool)) (table : Layout) (baselines others : Baselines) → entity_list_bits words table baselines [] [] ≡ entity_list_bits words table others [] []
 unfolding entity_list_bits
-nothing_alike words table lines others = refl
+nothing_alike words table baselines others = refl
 
 -- so a snapshot in which nothing is, without a base
-waiting_alike : (profile : Profile) (lines others : Lines) (telling : Telling) (head : SnapHead)
-    → text profile lines telling None (record { head = head; entities = [] }) ≡ text profile others telling None (record { head = head; entities = [] })
+waiting_alike : (profile : Profile) (baselines others : Baselines) (telling : Telling) (head : SnapHead)
+    → text profile baselines telling None (record { head = head; entities = [] }) ≡ text profile others telling None (record { head = head; entities = [] })
 unfolding server_message_bits section_bits snapshot_bits
-waiting_alike profile lines others telling head = rw (nothing_alike profile.code profile.entity lines others) refl
+waiting_alike profile baselines others telling head = rw (nothing_alike profile.code profile.entity baselines others) refl
 
 -- the text of a snapshot for a client that has the baselines, or for one that doesn't play
-pub text_alike : (profile : Profile) (lines others : Lines) (telling : Telling) (base : Option Snapshot) (snapshot : Snapshot) (under : Option ℕ) → IfSome under (λ game. others ≡ lines)
-    → (under ≡ None → (snapshot.entities ≡ []) × (base ≡ None)) → text profile lines telling base snapshot ≡ text profile others telling base snapshot
-text_alike profile lines others telling base snapshot None same waits =
+pub text_alike : (profile : Profile) (baselines others : Baselines) (telling : Telling) (base : Option Snapshot) (snapshot : Snapshot) (under : Option ℕ) → IfSome under (λ game. others ≡ baselines)
+    → (under ≡ None → (snapshot.entities ≡ []) × (base ≡ None)) → text profile baselines telling base snapshot ≡ text profile others telling base snapshot
+text_alike profile baselines others telling base snapshot None same waits =
     let Alike : Option Snapshot → List EntityState → Type 0 =
-    λ b entities. text profile lines telling b (record { head = snapshot.head; entities = entities }) ≡ text profile others telling b (record { head = snapshot.head; entities = entities }) in
+    λ b entities. text profile baselines telling b (record { head = snapshot.head; entities = entities }) ≡ text profile others telling b (record { head = snapshot.head; entities = entities }) in
     subst (λ (b : Option Snapshot). Alike b snapshot.entities) (sym (waits refl).1)
-    (subst (λ (entities : List EntityState). Alike None entities) (sym (waits refl).0) (waiting_alike profile lines others telling snapshot.head))
-text_alike profile lines others telling base snapshot (Some game) same waits = ap (λ (l : Lines). text profile l telling base snapshot) (sym same)
+    (subst (λ (entities : List EntityState). Alike None entities) (sym (waits refl).0) (waiting_alike profile baselines others telling snapshot.head))
+text_alike profile baselines others telling base snapshot (Some game) same waits = ap (λ (l : Baselines). text profile l telling base snapshot) (sym same)
 
 -- and that of a gamestate
-game_alike : (profile : Profile) (lines others : Lines) (telling : Telling) (game : Gamestate)
-    → server_message_bits profile lines None (game_message_of telling game) ≡ server_message_bits profile others None (game_message_of telling game)
+game_alike : (profile : Profile) (baselines others : Baselines) (telling : Telling) (game : Gamestate)
+    → server_message_bits profile baselines None (game_message_of telling game) ≡ server_message_bits profile others None (game_message_of telling game)
 unfolding server_message_bits section_bits
-game_alike profile lines others telling game = refl
+game_alike profile baselines others telling game = refl
 
 -- so a message with a gamestate is read back whatever is held, and by which baselines ever
-pub game_is_received : (profile : Profile) (challenge : ℕ) → WrittenIsRead → IsCodec profile → (held : HeldSnapshots) (lines others : Lines) (n : ℕ) (telling : Telling) (game : Gamestate) (rest : List Bool)
-    → IsContext profile (context_of held lines) → IsTelling profile challenge n telling → IsGamestate profile game
-    → server_message_at profile (context_of held lines) n (server_message_bits profile others None (game_message_of telling game) ++ rest) ≡ read_so held (game_message_of telling game) rest
-game_is_received profile challenge law codec held lines others n telling game rest is_context tells is =
-    let context = context_of held lines in
+pub game_is_received : (profile : Profile) (challenge : ℕ) → WrittenIsRead → IsCodec profile → (held : HeldSnapshots) (baselines others : Baselines) (n : ℕ) (telling : Telling) (game : Gamestate) (rest : List Bool)
+    → IsContext profile (context_of held baselines) → IsTelling profile challenge n telling → IsGamestate profile game
+    → server_message_at profile (context_of held baselines) n (server_message_bits profile others None (game_message_of telling game) ++ rest) ≡ read_so held (game_message_of telling game) rest
+game_is_received profile challenge law codec held baselines others n telling game rest is_context tells is =
+    let context = context_of held baselines in
     let message = game_message_of telling game in
-    ap (λ (bits : List Bool). server_message_at profile context n (bits ++ rest)) (game_alike profile others lines telling game)
+    ap (λ (bits : List Bool). server_message_at profile context n (bits ++ rest)) (game_alike profile others baselines telling game)
     ∙ law profile context n message rest codec is_context
     (record { ack = tells.ack; few = tells.few; commands = tells.commands; section = is; number_is = tt })

@@ -37,7 +37,7 @@ HoldsThis held base = (snapshot : Snapshot) → view_at held base.head.number �
 -- snapshot under the number of its base. It is whole, or as skipped where its base isn't held
 abbrev pub BuiltIsRead : Type 0
 BuiltIsRead = (profile : Profile) → IsCodec profile → (client : ClientState) (number : ℕ) (built : Built) → IsBuilt profile client.challenge number built
-    → client.state.profile ≡ profile → IsApplied client.state → IfSome built.under (λ game. client.state.lines ≡ built.lines)
+    → client.state.profile ≡ profile → IsApplied client.state → IfSome built.under (λ game. client.state.baselines ≡ built.baselines)
     → (acknowledge_at client.issued built.message.ack).answer ≡ Ok tt → text_at client.issued built.message.ack ≡ built.key.text
     → IfSome built.base (λ base. IsSnapshot profile base × HoldsThis client.state.held base)
     → receive_bytes client number (built_bytes profile built) ≡ Ok (receive_message client number built.message (plain_bytes profile built))
@@ -87,7 +87,7 @@ AppliesIt client number message plain taken =
 abbrev pub BuiltSurvives : Type 0
 BuiltSurvives = (profile : Profile) → IsCodec profile → (client : ClientState) (number : ℕ) (built : Built) → client.dropped ≡ None
     → MayCome (server_header (check_for profile.protocol client.challenge)) number (built_bytes profile built) client.gathering → IsBuilt profile client.challenge number built
-    → client.state.profile ≡ profile → IsApplied client.state → IfSome built.under (λ game. client.state.lines ≡ built.lines)
+    → client.state.profile ≡ profile → IsApplied client.state → IfSome built.under (λ game. client.state.baselines ≡ built.baselines)
     → (acknowledge_at client.issued built.message.ack).answer ≡ Ok tt → text_at client.issued built.message.ack ≡ built.key.text
     → IfSome built.base (λ base. IsSnapshot profile base × HoldsThis client.state.held base)
     → ((index : ℕ) → index < last_index (built_bytes profile built)

@@ -9,7 +9,7 @@ use Rattle.q3_bits.specs.Laws.{MessageHoldsBits, MessageIsBytes}
 use Rattle.q3_strings.specs.Laws.{IsCommand}
 use Rattle.q3_config.specs.Strings.{Strings, server_id}
 use Rattle.q3_config.specs.Changes.{without_pending}
-use Rattle.q3_entity.specs.Baselines.{Lines, no_lines}
+use Rattle.q3_entity.specs.Baselines.{Baselines, no_baselines}
 use Rattle.q3_profile.specs.declared.profile.Profile.{Profile}
 use Rattle.q3_gamestate.specs.Values.{Gamestate}
 use Rattle.q3_gamestate.specs.Texts.{gamestate_bits}
@@ -87,17 +87,17 @@ told_is_gamestate state is id = record {
   strings = record { count = is.strings.count; size = is.strings.size; each = is.strings.each; pending = tt };
   texts = is.texts.each;
   pending = refl;
-  lines = is.lines;
+  baselines = is.baselines;
   id = id;
 }
 
 -- its text doesn't tell a pending text
-pending_untold : (profile : Profile) (lines : Lines) (issued : ℕ) (state : AppliedState)
-    → server_message_bits profile lines None (game_message issued (game_in state)) ≡ server_message_bits profile lines None (game_message issued (told_in state))
+pending_untold : (profile : Profile) (baselines : Baselines) (issued : ℕ) (state : AppliedState)
+    → server_message_bits profile baselines None (game_message issued (game_in state)) ≡ server_message_bits profile baselines None (game_message issued (told_in state))
 unfolding server_message_bits section_bits gamestate_bits
-pending_untold profile lines issued state = refl
+pending_untold profile baselines issued state = refl
 
-new_context : ApplyStays → AppliedIsContext → (state : AppliedState) → IsApplied state → IsContext state.profile (context_of (new_state state.profile).held no_lines)
+new_context : ApplyStays → AppliedIsContext → (state : AppliedState) → IsApplied state → IsContext state.profile (context_of (new_state state.profile).held no_baselines)
 new_context stays contexts state is =
     let room = is.room in
     let ring = is.held.ring in
@@ -110,11 +110,11 @@ pub told_applies : WrittenIsRead → MessageHoldsBits → ApplyStays → Applied
 told_applies read holds stays contexts state issued number bytes is id fits e =
     let profile = state.profile in
     let new = new_state profile in
-    let context = context_of new.held no_lines in
+    let context = context_of new.held no_baselines in
     let message = game_message issued (told_in state) in
     let text = game_bits state issued in
     let again : (rest : List Bool) → server_message_at profile context number (text ++ rest) ≡ Ok (message, rest) = λ rest.
-    ap (λ (bits : List Bool). server_message_at profile context number (bits ++ rest)) (pending_untold profile no_lines issued state)
+    ap (λ (bits : List Bool). server_message_at profile context number (bits ++ rest)) (pending_untold profile no_baselines issued state)
     ∙ read profile context number message rest is.profile (new_context stays contexts state is)
     (record { ack = fits; few = omega arith; commands = All-nil IsCommand; section = told_is_gamestate state is id; number_is = tt }) in
     let at : server_message_in profile context number (bits_of bytes) ≡ Ok message = bytes_read holds profile context number text bytes message e again in

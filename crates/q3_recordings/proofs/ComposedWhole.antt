@@ -18,7 +18,7 @@ use Rattle.q3_player.specs.declared.head.SnapHead.{SnapHead}
 use Rattle.q3_player.specs.declared.state.PlayerState.{PlayerState}
 use Rattle.q3_entity.specs.declared.state.EntityState.{EntityState}
 use Rattle.q3_entity.specs.Entities.{normal_entity, IsNormal, AreNormal}
-use Rattle.q3_entity.specs.Baselines.{Lines}
+use Rattle.q3_entity.specs.Baselines.{Baselines}
 use Rattle.q3_profile.specs.declared.profile.Profile.{Profile}
 use Rattle.q3_profile.specs.Profile.{IsCodec}
 use Rattle.q3_svmsg.specs.declared.error.Illegible.{Illegible}
@@ -157,7 +157,7 @@ front_is profile context number message read e = front_read profile context numb
 -- a snapshot is accepted of a message's section: what it left, and its number
 record Accepts (state : AppliedState) (number : ℕ) (snapshot : Snapshot) (applied : Application) : Type 0 where
   profile_is : applied.state.profile ≡ state.profile
-  lines_are : applied.state.lines ≡ state.lines
+  lines_are : applied.state.baselines ≡ state.baselines
   number_is : applied.state.number ≡ number
   held_are : applied.state.held ≡ accept_at state.held snapshot
 
@@ -189,7 +189,7 @@ same_message : (one other : Message) → message_as one ≡ message_as other →
 same_message one other e = cc
 
 read_does : (state : AppliedState) (number : ℕ) (message : List ℕ) (applied : Application) (read : Message) → apply_at state number message ≡ Ok applied
-    → server_message_in state.profile (context_of state.held state.lines) number (bits_of message) ≡ Ok read → apply_read state number read ≡ applied
+    → server_message_in state.profile (context_of state.held state.baselines) number (bits_of message) ≡ Ok read → apply_read state number read ≡ applied
 read_does state number message applied read e by =
     same_applied (apply_read state number read) applied
     (sym (ap (λ (r : Result Message Illegible). r >>= (λ (m : Message). applied_as (apply_read state number m))) by) ∙ e)
@@ -208,19 +208,19 @@ some_message one other e = cc
 -- what the message is that is composed
 record IsWhole (noted : Noted) (snapshot : Snapshot) (read message : Message) : Type 0 where
   profile_is : noted.applied.state.profile ≡ noted.before.profile
-  lines_are : noted.applied.state.lines ≡ noted.before.lines
-  fits : IsRead noted.before.profile (context_of noted.before.held noted.before.lines) noted.applied.answer.number read
+  lines_are : noted.applied.state.baselines ≡ noted.before.baselines
+  fits : IsRead noted.before.profile (context_of noted.before.held noted.before.baselines) noted.applied.answer.number read
   message_is : message ≡ whole_message (front_of read) snapshot
 
 module _ (spelled : ReadIsSpelled) (accepted : AcceptedIsHeld) (contexts : AppliedIsContext) where
   is_whole_message : (noted : Noted) → IsNoted noted → (read : Message)
-      → server_message_in noted.before.profile (context_of noted.before.held noted.before.lines) noted.applied.answer.number (bits_of noted.message) ≡ Ok read
+      → server_message_in noted.before.profile (context_of noted.before.held noted.before.baselines) noted.applied.answer.number (bits_of noted.message) ≡ Ok read
       → (base : ℕ) (snapshot : Snapshot) → read.section ≡ Snap base snapshot.head snapshot.entities → noted.applied.accepted ≡ Some snapshot
       → (message : Message) → whole_of noted.applied.state noted.message ≡ Some message → IsWhole noted snapshot read message
   is_whole_message noted is read by base snapshot section took message whole =
       let before = noted.before in
       let profile = before.profile in
-      let context = context_of before.held before.lines in
+      let context = context_of before.held before.baselines in
       let number = noted.applied.answer.number in
       let behind = behind_read profile context number (bits_of noted.message) read by in
       let below = is.number in
@@ -284,12 +284,12 @@ whole_is_normal profile context base snapshot is =
 
 whole_is_read : WrittenIsRead → MessageHoldsBits → (profile : Profile) (context other : Context) (number base : ℕ) (snapshot : Snapshot) (read : Message) (bytes : List ℕ) → IsCodec profile
     → IsContext profile other → IsRead profile context number read → read.section ≡ Snap base snapshot.head snapshot.entities
-    → composed (server_message_bits profile other.lines None (whole_message (front_of read) snapshot)) ≡ Some bytes
+    → composed (server_message_bits profile other.baselines None (whole_message (front_of read) snapshot)) ≡ Some bytes
     → server_message_in profile other number (bits_of bytes) ≡ Ok (whole_message (front_of read) snapshot)
 whole_is_read written holds profile context other number base snapshot read bytes codec is_context is section e =
     let whole = whole_message (front_of read) snapshot in
     let as_snap = subst (λ (s : Told). IsReadTold profile context s) section is.section in
-    bytes_read holds profile other number (server_message_bits profile other.lines None whole) bytes whole e
+    bytes_read holds profile other number (server_message_bits profile other.baselines None whole) bytes whole e
     (λ rest. written profile other number whole rest codec is_context (whole_is_message profile context other number base snapshot read is section)
     ∙ ap (λ (s : Told). with_rest (record whole { section = s }) rest) (whole_is_normal profile context base snapshot as_snap))
   where
@@ -297,21 +297,21 @@ whole_is_read written holds profile context other number base snapshot read byte
     with_rest message rest = Ok (message, rest)
 
 pub whole_applies : WrittenIsRead → ReadIsSpelled → MessageHoldsBits → AcceptedIsHeld → AppliedIsContext → (noted : Noted) → IsNoted noted → (read : Message)
-    → server_message_in noted.before.profile (context_of noted.before.held noted.before.lines) noted.applied.answer.number (bits_of noted.message) ≡ Ok read
+    → server_message_in noted.before.profile (context_of noted.before.held noted.before.baselines) noted.applied.answer.number (bits_of noted.message) ≡ Ok read
     → (base : ℕ) (head : SnapHead) (entities : List EntityState) → read.section ≡ Snap base head entities → noted.applied.accepted ≡ Some (record { head = head; entities = entities })
     → (message : Message) → whole_of noted.applied.state noted.message ≡ Some message → (bytes : List ℕ) → composed (whole_bits noted.applied.state message) ≡ Some bytes
-    → (play : AppliedState) → play.profile ≡ noted.before.profile → play.lines ≡ noted.before.lines → IsContext play.profile (context_of play.held play.lines)
-    → server_message_in play.profile (context_of play.held play.lines) noted.applied.answer.number (bits_of bytes) ≡ Ok (record { ack = read.ack; commands = read.commands; section = Snap 0 head entities })
+    → (play : AppliedState) → play.profile ≡ noted.before.profile → play.baselines ≡ noted.before.baselines → IsContext play.profile (context_of play.held play.baselines)
+    → server_message_in play.profile (context_of play.held play.baselines) noted.applied.answer.number (bits_of bytes) ≡ Ok (record { ack = read.ack; commands = read.commands; section = Snap 0 head entities })
 whole_applies written spelled holds accepted contexts noted is read by base head entities section took message whole bytes e play same_profile same_lines is_context =
     let snapshot : Snapshot = record { head = head; entities = entities } in
     let number = noted.applied.answer.number in
     let is_whole = is_whole_message spelled accepted contexts noted is read by base snapshot section took message whole in
-    let context = context_of noted.before.held noted.before.lines in
-    let other = context_of play.held play.lines in
-    let text : whole_bits noted.applied.state message ≡ server_message_bits play.profile play.lines None (whole_message (front_of read) snapshot) =
-    ap (λ (m : Message). server_message_bits noted.applied.state.profile noted.applied.state.lines None m) is_whole.message_is
-    ∙ (ap (λ (p : Profile). server_message_bits p noted.applied.state.lines None (whole_message (front_of read) snapshot)) (is_whole.profile_is ∙ sym same_profile)
-    ∙ ap (λ (l : Lines). server_message_bits play.profile l None (whole_message (front_of read) snapshot)) (is_whole.lines_are ∙ sym same_lines)) in
+    let context = context_of noted.before.held noted.before.baselines in
+    let other = context_of play.held play.baselines in
+    let text : whole_bits noted.applied.state message ≡ server_message_bits play.profile play.baselines None (whole_message (front_of read) snapshot) =
+    ap (λ (m : Message). server_message_bits noted.applied.state.profile noted.applied.state.baselines None m) is_whole.message_is
+    ∙ (ap (λ (p : Profile). server_message_bits p noted.applied.state.baselines None (whole_message (front_of read) snapshot)) (is_whole.profile_is ∙ sym same_profile)
+    ∙ ap (λ (l : Baselines). server_message_bits play.profile l None (whole_message (front_of read) snapshot)) (is_whole.lines_are ∙ sym same_lines)) in
     whole_is_read written holds play.profile context other number base snapshot read bytes
     (subst (λ (p : Profile). IsCodec p) (sym same_profile) is.stands.profile) is_context
     (subst (λ (p : Profile). IsRead p context number read) (sym same_profile) is_whole.fits) section

@@ -11,7 +11,7 @@ use Rattle.q3_config.specs.Strings.{Strings}
 use Rattle.q3_config.specs.Changes.{after_command, without_pending}
 use Rattle.q3_player.specs.declared.head.SnapHead.{SnapHead}
 use Rattle.q3_entity.specs.declared.state.EntityState.{EntityState}
-use Rattle.q3_entity.specs.Baselines.{Lines}
+use Rattle.q3_entity.specs.Baselines.{Baselines}
 use Rattle.q3_profile.specs.declared.profile.Profile.{Profile}
 use Rattle.q3_gamestate.specs.Values.{Gamestate}
 use Rattle.q3_svmsg.specs.Values.{Context, Told, Nothing, Game, Snap, Skipped, HasNumber, Message}
@@ -37,7 +37,7 @@ pub record PlaysAs (when : Type 0) (first : ℕ) (client play : AppliedState) : 
   pub profile : play.profile ≡ client.profile
   pub executed : play.executed.executed ≡ client.executed.executed
   pub strings : when → play.strings ≡ client.strings
-  pub lines : play.lines ≡ client.lines
+  pub baselines : play.baselines ≡ client.baselines
   pub slot : play.slot ≡ client.slot
   pub feed : play.feed ≡ client.feed
   pub held : play.held ≡ held_since first client.held
@@ -47,7 +47,7 @@ record SaysAs (when : Type 0) (client play : AppliedState) : Type 0 where
   profile : play.profile ≡ client.profile
   executed : play.executed.executed ≡ client.executed.executed
   strings : when → play.strings ≡ client.strings
-  lines : play.lines ≡ client.lines
+  baselines : play.baselines ≡ client.baselines
   slot : play.slot ≡ client.slot
   feed : play.feed ≡ client.feed
 
@@ -56,7 +56,7 @@ says {when} first client play like = record {
   profile = like.profile;
   executed = like.executed;
   strings = like.strings;
-  lines = like.lines;
+  baselines = like.baselines;
   slot = like.slot;
   feed = like.feed;
 }
@@ -101,7 +101,7 @@ hearing_says {when} client play commands like = record {
   strings = λ w.
       ap (λ (executed : ℕ). (after_texts (record { strings = play.strings; id = play.id }) (fresh_of executed commands)).strings) like.executed
       ∙ texts_alike (record { strings = client.strings; id = client.id }) (record { strings = play.strings; id = play.id }) (fresh_of client.executed.executed commands) (like.strings w);
-  lines = like.lines;
+  baselines = like.baselines;
   slot = like.slot;
   feed = like.feed;
 }
@@ -114,7 +114,7 @@ passes_alike : {when : Type 0} → (first : ℕ) (client play : AppliedState) (n
 passes_alike {when} first client play number outcome other like held = record {
   accepted = refl;
   heard = refl;
-  plays = record { profile = like.profile; executed = like.executed; strings = like.strings; lines = like.lines; slot = like.slot; feed = like.feed; held = held };
+  plays = record { profile = like.profile; executed = like.executed; strings = like.strings; baselines = like.baselines; slot = like.slot; feed = like.feed; held = held };
 }
 
 jumped_to : (window : IncomingState) (number : ℕ) → (jump_at window number).executed ≡ number
@@ -131,7 +131,7 @@ game_alike {when} first client play number game like held = record {
     profile = like.profile;
     executed = jumped_to play.executed game.command ∙ sym (jumped_to client.executed game.command);
     strings = λ w. refl;
-    lines = refl;
+    baselines = refl;
     slot = refl;
     feed = refl;
     held = ap (λ (held : HeldSnapshots). no_snapshots held.ring) held ∙ sym (none_since first client.held.ring);
@@ -144,7 +144,7 @@ accepts_alike : {when : Type 0} → (first : ℕ) (client play : AppliedState) (
 accepts_alike {when} first client play number base other snapshot like held = record {
   accepted = refl;
   heard = refl;
-  plays = record { profile = like.profile; executed = like.executed; strings = like.strings; lines = like.lines; slot = like.slot; feed = like.feed; held = held };
+  plays = record { profile = like.profile; executed = like.executed; strings = like.strings; baselines = like.baselines; slot = like.slot; feed = like.feed; held = held };
 }
 
 -- which isn't stale
@@ -210,22 +210,22 @@ heard_does {when} first client play number message other same like does =
 -- what was read of a message that the client applied
 pub record HasRead (noted : Noted) : Type 0 where
   pub read : Message
-  pub reads : server_message_in noted.before.profile (context_of noted.before.held noted.before.lines) noted.applied.answer.number (bits_of noted.message) ≡ Ok read
+  pub reads : server_message_in noted.before.profile (context_of noted.before.held noted.before.baselines) noted.applied.answer.number (bits_of noted.message) ≡ Ok read
   pub does : noted.applied ≡ apply_read noted.before noted.applied.answer.number read
-  pub is : IsRead noted.before.profile (context_of noted.before.held noted.before.lines) noted.applied.answer.number read
+  pub is : IsRead noted.before.profile (context_of noted.before.held noted.before.baselines) noted.applied.answer.number read
 
 pub has_read : ReadIsSpelled → AppliedIsContext → (noted : Noted) → IsNoted noted → HasRead noted
 has_read spelled context noted is =
     let number = noted.applied.answer.number in
     let before = noted.before in
-    let found = bind_ok (server_message_in before.profile (context_of before.held before.lines) number (bits_of noted.message)) (λ (read : Message). Ok (apply_read before number read)) noted.applied is.applies in
+    let found = bind_ok (server_message_in before.profile (context_of before.held before.baselines) number (bits_of noted.message)) (λ (read : Message). Ok (apply_read before number read)) noted.applied is.applies in
     let fits : number < 2 ^ 32 = let below = is.number in omega arith in
     let does : apply_read before number found.0 ≡ noted.applied = cc in
     record {
       read = found.0;
       reads = found.1;
       does = sym does;
-      is = read_is spelled before.profile (context_of before.held before.lines) number found.0 (bits_of noted.message) is.stands.profile (context before is.stands) fits found.1;
+      is = read_is spelled before.profile (context_of before.held before.baselines) number found.0 (bits_of noted.message) is.stands.profile (context before is.stands) fits found.1;
     }
 
 -- what is answered has the message's number
@@ -241,7 +241,7 @@ section_answers state number (Skipped base) =
 
 -- what is read while it plays does as the client's did
 plays_read : {when : Type 0} → (first : ℕ) (noted : Noted) (play : AppliedState) (message : List ℕ) (read : Message)
-    → server_message_in play.profile (context_of play.held play.lines) noted.applied.answer.number (bits_of message) ≡ Ok read
+    → server_message_in play.profile (context_of play.held play.baselines) noted.applied.answer.number (bits_of message) ≡ Ok read
     → DoesAs when first noted.applied (apply_read play noted.applied.answer.number read) → Plays when first noted play message
 plays_read {when} first noted play message read reads does = record {
   applied = apply_read play noted.applied.answer.number read;
@@ -254,7 +254,7 @@ plays_read {when} first noted play message read reads does = record {
 
 -- and so of any reading of it
 pub has_read_of : ReadIsSpelled → AppliedIsContext → (noted : Noted) → IsNoted noted → (read : Message)
-    → server_message_in noted.before.profile (context_of noted.before.held noted.before.lines) noted.applied.answer.number (bits_of noted.message) ≡ Ok read
+    → server_message_in noted.before.profile (context_of noted.before.held noted.before.baselines) noted.applied.answer.number (bits_of noted.message) ≡ Ok read
     → (has : HasRead noted) × (has.read ≡ read)
 has_read_of spelled context noted is read reads =
     let has = has_read spelled context noted is in
@@ -285,11 +285,11 @@ section_names first state number section newer e = tt
 
 -- what plays reads what its client would, if it held only those
 read_by : {when : Type 0} → (first : ℕ) (client play : AppliedState) (number : ℕ) (bits : List Bool) (read : Message) → PlaysAs when first client play
-    → server_message_in client.profile (context_of (held_since first client.held) client.lines) number bits ≡ Ok read → server_message_in play.profile (context_of play.held play.lines) number bits ≡ Ok read
+    → server_message_in client.profile (context_of (held_since first client.held) client.baselines) number bits ≡ Ok read → server_message_in play.profile (context_of play.held play.baselines) number bits ≡ Ok read
 read_by {when} first client play number bits read like e =
-    ap (λ (profile : Profile). server_message_in profile (context_of play.held play.lines) number bits) like.profile
-    ∙ ap (λ (held : HeldSnapshots). server_message_in client.profile (context_of held play.lines) number bits) like.held
-    ∙ ap (λ (lines : Lines). server_message_in client.profile (context_of (held_since first client.held) lines) number bits) like.lines
+    ap (λ (profile : Profile). server_message_in profile (context_of play.held play.baselines) number bits) like.profile
+    ∙ ap (λ (held : HeldSnapshots). server_message_in client.profile (context_of held play.baselines) number bits) like.held
+    ∙ ap (λ (baselines : Baselines). server_message_in client.profile (context_of (held_since first client.held) baselines) number bits) like.baselines
     ∙ e
 
 -- it plays by its own bytes
@@ -303,7 +303,7 @@ plays_step {when} spelled is_read context first noted play like is from apart =
     let newer = newer_than noted is in
     let fits : number < 2 ^ 32 = let below = is.number in omega (arith, below) in
     let named = section_names first (hearing before read.commands) number read.section newer (ap (λ (applied : Application). is_before first applied.answer.snap) (sym has.does) ∙ apart) in
-    let since = read_since spelled is_read before.profile first before.held before.lines number read (bits_of noted.message) is.stands.profile (context before is.stands) fits named has.reads in
+    let since = read_since spelled is_read before.profile first before.held before.baselines number read (bits_of noted.message) is.stands.profile (context before is.stands) fits named has.reads in
     let does = heard_does first before play number read read refl (says first before play like)
     (section_does first (hearing before read.commands) (hearing play read.commands) number read.section (hearing_says before play read.commands (says first before play like)) like.held newer from has.is.number_is) in
     plays_read first noted play noted.message read (read_by first before play number (bits_of noted.message) read like since)
@@ -386,8 +386,8 @@ snap_view noted is has base snap =
     let before = noted.before in
     let number = noted.applied.answer.number in
     let snapshot : Snapshot = record { head = snap.head; entities = snap.entities } in
-    let told : IsReadTold before.profile (context_of before.held before.lines) (Snap base snap.head snap.entities) =
-    subst (IsReadTold before.profile (context_of before.held before.lines)) snap.section has.is.section in
+    let told : IsReadTold before.profile (context_of before.held before.baselines) (Snap base snap.head snap.entities) =
+    subst (IsReadTold before.profile (context_of before.held before.baselines)) snap.section has.is.section in
     let few = told.0.1.list.few in
     let under = snap.under in
     let newer = newer_than noted is in
@@ -425,9 +425,9 @@ whole_does {when} first client play number base head entities read section like 
 -- it plays by the bytes of a message that has it whole
 pub plays_whole : {when : Type 0} → ReadIsSpelled → AppliedIsContext → (first : ℕ) (noted : Noted) (play : AppliedState) (bytes : List ℕ) (read : Message) (base : ℕ) (head : SnapHead) (entities : List EntityState)
     → PlaysAs when first noted.before play → IsNoted noted → first ≤ noted.applied.answer.number
-    → server_message_in noted.before.profile (context_of noted.before.held noted.before.lines) noted.applied.answer.number (bits_of noted.message) ≡ Ok read
+    → server_message_in noted.before.profile (context_of noted.before.held noted.before.baselines) noted.applied.answer.number (bits_of noted.message) ≡ Ok read
     → read.section ≡ Snap base head entities
-    → server_message_in play.profile (context_of play.held play.lines) noted.applied.answer.number (bits_of bytes)
+    → server_message_in play.profile (context_of play.held play.baselines) noted.applied.answer.number (bits_of bytes)
     ≡ Ok (record { ack = read.ack; commands = read.commands; section = Snap 0 head entities })
     → Plays when first noted play bytes
 plays_whole {when} spelled context first noted play bytes read base head entities like is from reads section there =
@@ -462,17 +462,17 @@ begun_says noted first = record {
   profile = refl;
   executed = jumped_to (executes new_incoming []) noted.before.executed.executed;
   strings = λ whole. whole_strings noted.before.strings whole;
-  lines = refl;
+  baselines = refl;
   slot = refl;
   feed = refl;
 }
 
 -- it holds what the client does from the first on: nothing
 begun_context : (first : ℕ) (state : AppliedState) → IsApplied state → state.held.newest < first
-    → context_of (no_snapshots state.profile.parse_ring) state.lines ≡ context_of (held_since first state.held) state.lines
+    → context_of (no_snapshots state.profile.parse_ring) state.baselines ≡ context_of (held_since first state.held) state.baselines
 begun_context first state is before =
-    ap (λ (ring : ℕ). context_of (no_snapshots ring) state.lines) (sym is.room)
-    ∙ sym (ap (λ (places : List (Option HeldSnapshot)). context_of (in_ring state.held.ring 0 places) state.lines) (before_since first state.held is.held before))
+    ap (λ (ring : ℕ). context_of (no_snapshots ring) state.baselines) (sym is.room)
+    ∙ sym (ap (λ (places : List (Option HeldSnapshot)). context_of (in_ring state.held.ring 0 places) state.baselines) (before_since first state.held is.held before))
 
 begun_accepts : (first : ℕ) (state : AppliedState) (snapshot : Snapshot) → IsApplied state → state.held.newest < first → snapshot.head.number ≡ first
     → accept_at (no_snapshots state.profile.parse_ring) snapshot ≡ held_since first (accept_at state.held snapshot)
@@ -492,9 +492,9 @@ begun_plays spelled is_read context noted is whole =
     let snap = is_snap noted is has 0 (whole_base noted.applied.answer.snap whole) in
     let snapshot : Snapshot = record { head = snap.head; entities = snap.entities } in
     let names : NamesSince first (Snap 0 snap.head snap.entities) = inl refl in
-    let since = read_since spelled is_read before.profile first before.held before.lines first read (bits_of noted.message) is.stands.profile (context before is.stands) fits
+    let since = read_since spelled is_read before.profile first before.held before.baselines first read (bits_of noted.message) is.stands.profile (context before is.stands) fits
     (subst (NamesSince first) (sym snap.section) names) has.reads in
-    let reads : server_message_in before.profile (context_of (no_snapshots before.profile.parse_ring) before.lines) first (bits_of noted.message) ≡ Ok read =
+    let reads : server_message_in before.profile (context_of (no_snapshots before.profile.parse_ring) before.baselines) first (bits_of noted.message) ≡ Ok read =
     ap (λ (context : Context). server_message_in before.profile context first (bits_of noted.message)) (begun_context first before is.stands newer) ∙ since in
     let does = heard_does first before play first read read refl (begun_says noted first)
     (subst (λ (told : Told). DoesAs (IsWhole noted) first (apply_section (hearing before read.commands) first told) (apply_section (hearing play read.commands) first told)) (sym snap.section)

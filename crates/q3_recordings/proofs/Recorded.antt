@@ -5,7 +5,7 @@ use Rattle.std.proofs.lemmas.Bool.{cond_both}
 use Rattle.q3_bits.specs.Laws.{MessageHoldsBits, MessageIsBytes}
 use Rattle.q3_text.specs.declared.text.Command.{Command}
 use Rattle.q3_window.specs.Incoming.{fresh_of}
-use Rattle.q3_entity.specs.Baselines.{Lines}
+use Rattle.q3_entity.specs.Baselines.{Baselines}
 use Rattle.q3_profile.specs.declared.profile.Profile.{Profile}
 use Rattle.q3_svmsg.specs.Values.{Told, Nothing, Game, Snap, Skipped, Message}
 use Rattle.q3_svmsg.specs.Laws.{IsContext, WrittenIsRead, ReadIsSpelled, SpelledIsRead}
@@ -58,7 +58,7 @@ none_on {when} first last client play like = record {
   numbers = refl;
   accepted = refl;
   heard = refl;
-  left = record { executed = like.executed; lines = like.lines; slot = like.slot; feed = like.feed; strings = like.strings };
+  left = record { executed = like.executed; baselines = like.baselines; slot = like.slot; feed = like.feed; strings = like.strings };
 }
 
 pub recorded_none : (messages : List Noted) → recorded_from Ended messages ≡ []
@@ -98,12 +98,12 @@ record Laws : Type 0 where
 
 -- ---- one message of a recording that runs
 
-play_context : {when : Type 0} → Laws → (first : ℕ) (client play : AppliedState) → IsApplied client → PlaysAs when first client play → IsContext play.profile (context_of play.held play.lines)
+play_context : {when : Type 0} → Laws → (first : ℕ) (client play : AppliedState) → IsApplied client → PlaysAs when first client play → IsContext play.profile (context_of play.held play.baselines)
 play_context {when} laws first client play is like =
-    subst (λ (profile : Profile). IsContext profile (context_of play.held play.lines)) (sym like.profile)
-    (subst (λ (held : HeldSnapshots). IsContext client.profile (context_of held play.lines)) (sym like.held)
-    (subst (λ (lines : Lines). IsContext client.profile (context_of (held_since first client.held) lines)) (sym like.lines)
-    (context_since client.profile first client.held client.lines (laws.contexts client is))))
+    subst (λ (profile : Profile). IsContext profile (context_of play.held play.baselines)) (sym like.profile)
+    (subst (λ (held : HeldSnapshots). IsContext client.profile (context_of held play.baselines)) (sym like.held)
+    (subst (λ (baselines : Baselines). IsContext client.profile (context_of (held_since first client.held) baselines)) (sym like.baselines)
+    (context_since client.profile first client.held client.baselines (laws.contexts client is))))
 
 -- the message that was composed
 record IsComposedOf (state : AppliedState) (message bytes : List ℕ) : Type 0 where
@@ -129,7 +129,7 @@ whole_plays {when} laws first noted play bytes like is from before e =
     let named = before_base first noted.applied.answer.snap before in
     let snap = is_snap noted is has named.0 named.1 in
     let there = whole_applies laws.written laws.read laws.holds laws.held laws.contexts noted is has.read has.reads named.0 snap.head snap.entities snap.section snap.accepted of.whole of.found bytes
-    of.composes play like.profile like.lines (play_context laws first noted.before play is.stands like) in
+    of.composes play like.profile like.baselines (play_context laws first noted.before play is.stands like) in
     record {
       plays = plays_whole laws.read laws.contexts first noted play bytes has.read named.0 snap.head snap.entities like is from has.reads snap.section there;
       short = whole_short laws.bytes state of.whole bytes of.composes;

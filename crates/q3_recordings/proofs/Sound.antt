@@ -296,7 +296,7 @@ are_same one other e = cc
 
 answered : (state : AppliedState) (number : ℕ) (bytes : List ℕ) (application : Application) → apply_at state number bytes ≡ Ok application → application.answer.number ≡ number
 answered state number bytes application e =
-    let read = bind_ok (server_message_in state.profile (context_of state.held state.lines) number (bits_of bytes)) (λ (read : Message). applied_as (apply_read state number read)) application e in
+    let read = bind_ok (server_message_in state.profile (context_of state.held state.baselines) number (bits_of bytes)) (λ (read : Message). applied_as (apply_read state number read)) application e in
     let does = are_same (apply_read state number read.0) application read.2 in
     subst (λ (a : Application). a.answer.number ≡ number) does (section_answered (hearing state read.0.commands) number read.0.section)
 
@@ -416,9 +416,9 @@ record Leaves (before : AppliedState) (number : ℕ) (applied : Application) : T
 leaves : ReadIsSpelled → AppliedIsContext → (before : AppliedState) (number : ℕ) (message : List ℕ) (applied : Application) → IsApplied before → before.held.newest < number → number < 2 ^ 32
     → apply_at before number message ≡ Ok applied → Leaves before number applied
 leaves spelled contexts before number message applied is newer fits e =
-    let found = bind_ok (server_message_in before.profile (context_of before.held before.lines) number (bits_of message)) (λ (read : Message). applied_as (apply_read before number read)) applied e in
+    let found = bind_ok (server_message_in before.profile (context_of before.held before.baselines) number (bits_of message)) (λ (read : Message). applied_as (apply_read before number read)) applied e in
     let does = are_same (apply_read before number found.0) applied found.2 in
-    let read = read_is spelled before.profile (context_of before.held before.lines) number found.0 (bits_of message) is.profile (contexts before is) fits found.1 in
+    let read = read_is spelled before.profile (context_of before.held before.baselines) number found.0 (bits_of message) is.profile (contexts before is) fits found.1 in
     let heard = hearing before found.0.commands in
     record {
       by = subst (λ (applied : Application). applied.state.profile ≡ before.profile) does (section_profile heard number found.0.section);

@@ -112,7 +112,7 @@ AreBy profile (first ∷ others) = first.before.profile ≡ profile
 -- the config strings, where they may be
 pub record LeftAs (strings_too : Type 0) (client state : AppliedState) : Type 0 where
   pub executed : state.executed.executed ≡ client.executed.executed
-  pub lines : state.lines ≡ client.lines
+  pub baselines : state.baselines ≡ client.baselines
   pub slot : state.slot ≡ client.slot
   pub feed : state.feed ≡ client.feed
   pub strings : strings_too → state.strings ≡ client.strings

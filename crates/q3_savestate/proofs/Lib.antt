@@ -3,7 +3,7 @@ pub mod Words
 pub mod EntitiesBack
 pub mod EntitiesWere
 pub mod Gaps
-pub mod LinesBack
+pub mod BaselinesBack
 pub mod TextsBack
 pub mod Rows
 pub mod PartsRead
@@ -19,8 +19,8 @@ pub mod Numbers
 pub mod Numbered
 pub mod Ranges
 pub mod WordsRead
-pub mod SetLines
-pub mod LinesRead
+pub mod SetBaselines
+pub mod BaselinesRead
 pub mod EntitiesRead
 pub mod SnapshotRead
 pub mod SnapshotsRead

@@ -11,18 +11,18 @@ use Rattle.q3_fields.specs.Kinds.{AreKinds, Layout, IsTable, end_mark}
 use Rattle.q3_fields.specs.States.{AreWords, normal_words}
 use Rattle.q3_entity.specs.declared.state.EntityState.{EntityState}
 use Rattle.q3_entity.specs.Entities.{RiseFrom, AreStates, AreNormal}
-use Rattle.q3_entity.specs.Baselines.{Lines, AreLines, most_lines}
+use Rattle.q3_entity.specs.Baselines.{Baselines, AreBaselines, most_baselines}
 use Rattle.q3_text.specs.Texts.{IsTextByte}
 use Rattle.q3_config.specs.Strings.{Pending, Strings, AreStrings, places, longest_string, most_size, config_size}
 use Rattle.q3_config.specs.Laws.{HoldTexts}
 use Rattle.q3_savestate.specs.Cursor.{field_at, number_at, text_at}
-use Rattle.q3_savestate.specs.Entities.{words_bytes, state_words_at, entity_bytes, entities_at, lines_bytes, lines_at}
+use Rattle.q3_savestate.specs.Entities.{words_bytes, state_words_at, entity_bytes, entities_at, baselines_bytes, baselines_at}
 use Rattle.q3_savestate.specs.Texts.{strings_bytes, strings_at, pending_bytes, pending_at}
 use Rattle.q3_savestate.proofs.Fields.{Took, field_back, field_was, took_field, number_back, numbered, text_back, worded}
 use Rattle.q3_savestate.proofs.Words.{words_back, reads_words}
 use Rattle.q3_savestate.proofs.EntitiesBack.{entities_back}
 use Rattle.q3_savestate.proofs.EntitiesWere.{reads_entities}
-use Rattle.q3_savestate.proofs.LinesBack.{lines_back, reads_lines}
+use Rattle.q3_savestate.proofs.BaselinesBack.{baselines_back, reads_baselines}
 use Rattle.q3_savestate.proofs.TextsBack.{strings_back, reads_strings, pending_back, reads_pending}
 use Rattle.q3_savestate.proofs.Rows.{IsByte, ReadsBack, reads_back, WasRead}
 
@@ -160,12 +160,12 @@ strings_were_read = record {
 }
 
 -- baselines are read
-pub lines_read : (table : Layout) (lines : Lines) → IsTable table → AreLines table lines → ReadsBack (lines_at table) (lines_bytes table lines) lines
-lines_read table lines is are =
-    reads_back (lines_at table) (lines_bytes table lines) lines (length (lines_bytes table lines)) (λ at rest. lines_back table lines at rest is are)
+pub baselines_read : (table : Layout) (baselines : Baselines) → IsTable table → AreBaselines table baselines → ReadsBack (baselines_at table) (baselines_bytes table baselines) baselines
+baselines_read table baselines is are =
+    reads_back (baselines_at table) (baselines_bytes table baselines) baselines (length (baselines_bytes table baselines)) (λ at rest. baselines_back table baselines at rest is are)
 
 -- and what is read are baselines, where no number is above the last place
-pub lines_were_read : (table : Layout) → IsTable table → end_mark table ≤ most_lines → WasRead (lines_at table) (lines_bytes table) (AreLines table)
-lines_were_read table is few = record {
-  was = λ cursor lines left bytes e. let was = reads_lines table cursor lines left is few bytes e in (was.are, was.took);
+pub baselines_were_read : (table : Layout) → IsTable table → end_mark table ≤ most_baselines → WasRead (baselines_at table) (baselines_bytes table) (AreBaselines table)
+baselines_were_read table is few = record {
+  was = λ cursor baselines left bytes e. let was = reads_baselines table cursor baselines left is few bytes e in (was.are, was.took);
 }

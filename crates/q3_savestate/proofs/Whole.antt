@@ -9,21 +9,21 @@ use Rattle.byteorder.specs.Endian.{little_bytes}
 use Rattle.q3_bits.specs.ResultBind.{◌>>=◌, bind_ok}
 use Rattle.q3_text.specs.Texts.{IsText, most_bytes}
 use Rattle.q3_fields.specs.Kinds.{Layout, end_mark, most_number_bits}
-use Rattle.q3_entity.specs.Baselines.{Lines, AreLines, most_lines}
+use Rattle.q3_entity.specs.Baselines.{Baselines, AreBaselines, most_baselines}
 use Rattle.q3_config.specs.Strings.{Pending}
 use Rattle.q3_rings.specs.Rings.{HeldSnapshots}
 use Rattle.q3_rings.specs.Laws.{SnapshotsStay}
 use Rattle.q3_profile.specs.declared.profile.Profile.{Profile}
 use Rattle.q3_profile.specs.Profile.{IsCodec}
 use Rattle.q3_savestate.specs.Cursor.{Cursor, end_at}
-use Rattle.q3_savestate.specs.Entities.{lines_at}
+use Rattle.q3_savestate.specs.Entities.{baselines_at}
 use Rattle.q3_savestate.specs.Texts.{strings_at, pending_at}
 use Rattle.q3_savestate.specs.Snapshots.{last_number, snapshots_at}
 use Rattle.q3_savestate.specs.State.{Saved, Start, flag_bytes, state_bytes, start_at, flag_at, whole_at, state_at}
 use Rattle.q3_savestate.specs.Standing.{IsSaved, AreWellHeld}
 use Rattle.q3_savestate.specs.Laws.{WrittenIsRead, ReadIsWritten}
 use Rattle.q3_savestate.proofs.Rows.{ReadsBack, back_then, back_last, back_end, ReadsAllBack, all_back_then, WasRead, were_then, were_last, were_end, were_row, HasReadAll, all_were_then}
-use Rattle.q3_savestate.proofs.PartsRead.{MayPend, MayBeStrings, number_read, number_was_read, text_read, text_was_read, pending_read, pending_was_read, strings_read, strings_were_read, lines_read, lines_were_read}
+use Rattle.q3_savestate.proofs.PartsRead.{MayPend, MayBeStrings, number_read, number_was_read, text_read, text_was_read, pending_read, pending_was_read, strings_read, strings_were_read, baselines_read, baselines_were_read}
 use Rattle.q3_savestate.proofs.SnapshotsBack.{snapshots_read}
 use Rattle.q3_savestate.proofs.SnapshotsWere.{snapshots_were_read}
 
@@ -145,7 +145,7 @@ whole_read profile saved codec is =
     (all_back_then _ (pending_read saved.strings.pending (record { fits = is.strings.pending; each = is.texts.pending }))
     (all_back_then _ (flag_read saved.has_game)
     (all_back_then _ (strings_read saved.strings is.strings is.texts)
-    (all_back_then _ (lines_read profile.entity saved.lines codec.entity is.lines)
+    (all_back_then _ (baselines_read profile.entity saved.baselines codec.entity is.baselines)
     (all_back_then _ (snapshots_read profile saved.held codec is.held) (end_read saved))))))
 
 -- what was written is read
@@ -155,14 +155,14 @@ written_is_read profile saved codec room is =
     (whole_read profile saved codec is).from (record { at = 0; bytes = state_bytes profile saved }) refl
 
 -- the end mark of entities with so few bits
-few_lines : (table : Layout) → table.number_bits ≤ most_number_bits → end_mark table ≤ most_lines
-few_lines table few =
+few_baselines : (table : Layout) → table.number_bits ≤ most_number_bits → end_mark table ≤ most_baselines
+few_baselines table few =
     let most : 2 ^ table.number_bits ≤ 2 ^ most_number_bits = pow-le-pow_right {n = 2} (omega arith) {i = table.number_bits} {j = most_number_bits} few in
     omega arith
 
 -- the parts make a state
-is_saved : (profile : Profile) (start : Start) (pending : Option Pending) (has_game : Bool) (texts : List (List ℕ)) (lines : Lines) (held : HeldSnapshots) → IsStart start → MayPend pending
-    → MayBeStrings texts → AreLines profile.entity lines → AreWellHeld profile held → IsSaved profile (record {
+is_saved : (profile : Profile) (start : Start) (pending : Option Pending) (has_game : Bool) (texts : List (List ℕ)) (baselines : Baselines) (held : HeldSnapshots) → IsStart start → MayPend pending
+    → MayBeStrings texts → AreBaselines profile.entity baselines → AreWellHeld profile held → IsSaved profile (record {
       number = start.number;
       executed = start.executed;
       has_game = has_game;
@@ -170,10 +170,10 @@ is_saved : (profile : Profile) (start : Start) (pending : Option Pending) (has_g
       slot = start.slot;
       feed = start.feed;
       strings = record { texts = texts; pending = pending };
-      lines = lines;
+      baselines = baselines;
       held = held;
     })
-is_saved profile start pending has_game texts lines held first second third fourth fifth = record {
+is_saved profile start pending has_game texts baselines held first second third fourth fifth = record {
   number = first.number;
   executed = first.executed;
   last = first.last;
@@ -182,7 +182,7 @@ is_saved profile start pending has_game texts lines held first second third four
   feed = first.feed;
   strings = record { count = third.count; size = third.size; each = third.short; pending = second.fits };
   texts = record { each = third.each; pending = second.each };
-  lines = fourth;
+  baselines = fourth;
   held = fifth;
 }
 
@@ -198,9 +198,9 @@ whole_was_read profile stay codec room few =
     all_were_then _ pending_was_read (λ pending second.
     all_were_then _ flag_was_read (λ has_game any.
     all_were_then _ strings_were_read (λ texts third.
-    all_were_then _ (lines_were_read profile.entity codec.entity (few_lines profile.entity few)) (λ lines fourth.
+    all_were_then _ (baselines_were_read profile.entity codec.entity (few_baselines profile.entity few)) (λ baselines fourth.
     all_were_then _ (snapshots_were_read profile codec stay room) (λ held fifth.
-    end_was_read _ (is_saved profile start pending has_game texts lines held first second third fourth fifth, refl)))))))
+    end_was_read _ (is_saved profile start pending has_game texts baselines held first second third fourth fifth, refl)))))))
 
 -- what is read was written so
 pub read_is_written : SnapshotsStay → ReadIsWritten

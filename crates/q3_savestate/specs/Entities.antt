@@ -1,12 +1,12 @@
 -- Words of states, entities and baselines as bytes.
 use Rattle.std.specs.Prelude.{ℕ, zero, suc, ◌+◌, ◌-◌, ◌==◌, List, [], ◌∷◌, ◌++◌, length, take, replicate, Ok}
-use Rattle.std.specs.List.{flat_map, filter_map, fold}
+use Rattle.std.specs.List.{flat_map, fold}
 use Rattle.byteorder.specs.Endian.{little_bytes, little_number}
 use Rattle.q3_bits.specs.ResultBind.{◌>>=◌}
 use Rattle.q3_fields.specs.declared.kind.Kind.{Kind}
 use Rattle.q3_fields.specs.Kinds.{Layout, end_mark, norm}
 use Rattle.q3_entity.specs.declared.state.EntityState.{EntityState}
-use Rattle.q3_entity.specs.Baselines.{Lines, no_lines, with_line}
+use Rattle.q3_entity.specs.Baselines.{Baselines, no_baselines, with_baseline, set_baselines}
 use Rattle.q3_savestate.specs.Cursor.{Cursor, Field, field_at, number_at}
 
 -- items behind their number, which has two bytes
@@ -59,19 +59,15 @@ entities_at table (suc count) least cursor = do
 
 -- ---- baselines
 
--- the states that are set, by number
-abbrev pub set_lines : Lines → List EntityState
-set_lines lines = filter_map (λ line. line) lines
-
-abbrev pub lines_bytes : Layout → Lines → List ℕ
-lines_bytes table lines = counted (entity_bytes table) (set_lines lines)
+abbrev pub baselines_bytes : Layout → Baselines → List ℕ
+baselines_bytes table baselines = counted (entity_bytes table) (set_baselines baselines)
 
 -- these states are set, and no others
-abbrev pub lines_of : List EntityState → Lines
-lines_of entities = fold with_line no_lines entities
+abbrev pub baselines_of : List EntityState → Baselines
+baselines_of entities = fold with_baseline no_baselines entities
 
-unfoldable pub lines_at : Layout → Cursor → Field Lines
-lines_at table cursor = do
+unfoldable pub baselines_at : Layout → Cursor → Field Baselines
+baselines_at table cursor = do
   count ← number_at 2 0 (end_mark table) cursor
   entities ← entities_at table count.0 0 count.1
-  Ok (lines_of entities.0, entities.1)
+  Ok (baselines_of entities.0, entities.1)

@@ -1,7 +1,7 @@
 -- What the program lends of a state that is written, and what it makes of one that is read.
 use Rattle.std.specs.Prelude.{◌≡◌, ℕ, ◌^◌, ◌<◌, Bool, ⊤, All, None, IfSome, Result, Ok, Err}
 use Rattle.q3_config.specs.Strings.{Strings}
-use Rattle.q3_entity.specs.Baselines.{Lines}
+use Rattle.q3_entity.specs.Baselines.{Baselines}
 use Rattle.q3_rings.specs.Rings.{HeldSnapshots}
 use Rattle.q3_savestate.specs.declared.error.StateError.{StateError}
 use Rattle.q3_savestate.specs.declared.error.StateError.TheVariants.{NoMemory, NotState}
@@ -19,7 +19,7 @@ parts_of parts = record {
   slot = parts.slot;
   feed = parts.feed;
   strings = parts.configs.now;
-  lines = parts.baselines.now;
+  baselines = parts.baselines.now;
   held = parts.rings.now.held;
 }
 
@@ -32,7 +32,7 @@ saved_of saved = record {
   slot = saved.slot;
   feed = saved.feed;
   strings = saved.configs;
-  lines = saved.baselines;
+  baselines = saved.baselines;
   held = saved.rings.held;
 }
 
@@ -40,8 +40,8 @@ abbrev pub start_of : started.Start → Start
 start_of start = record { number = start.number; id = start.id; slot = start.slot; feed = start.feed; executed = start.incoming }
 
 -- a state of its parts
-abbrev pub saved_from : Start → Bool → Strings → Lines → HeldSnapshots → Saved
-saved_from start has_game strings lines held = record {
+abbrev pub saved_from : Start → Bool → Strings → Baselines → HeldSnapshots → Saved
+saved_from start has_game strings baselines held = record {
   number = start.number;
   executed = start.executed;
   has_game = has_game;
@@ -49,7 +49,7 @@ saved_from start has_game strings lines held = record {
   slot = start.slot;
   feed = start.feed;
   strings = strings;
-  lines = lines;
+  baselines = baselines;
   held = held;
 }
 

@@ -4,7 +4,7 @@ use Rattle.q3_text.specs.Texts.{IsText}
 use Rattle.q3_config.specs.Strings.{AreStrings}
 use Rattle.q3_config.specs.Laws.{HoldTexts}
 use Rattle.q3_entity.specs.Entities.{IsList, AreStates, AreNormal}
-use Rattle.q3_entity.specs.Baselines.{AreLines}
+use Rattle.q3_entity.specs.Baselines.{AreBaselines}
 use Rattle.q3_player.specs.State.{IsState, IsNormal}
 use Rattle.q3_profile.specs.declared.profile.Profile.{Profile}
 use Rattle.q3_rings.specs.Rings.{HeldSnapshot, HeldSnapshots, AreHeldSnapshots, is_young}
@@ -42,5 +42,5 @@ pub record IsSaved (profile : Profile) (saved : Saved) : Type 0 where
   pub feed : saved.feed < 2 ^ 32
   pub strings : AreStrings saved.strings
   pub texts : HoldTexts saved.strings
-  pub lines : AreLines profile.entity saved.lines
+  pub baselines : AreBaselines profile.entity saved.baselines
   pub held : AreWellHeld profile saved.held

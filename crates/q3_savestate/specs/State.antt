@@ -6,11 +6,11 @@ use Rattle.q3_bits.specs.ResultBind.{◌>>=◌}
 use Rattle.q3_text.specs.Texts.{most_bytes}
 use Rattle.q3_window.specs.Incoming.{IncomingState}
 use Rattle.q3_config.specs.Strings.{Strings}
-use Rattle.q3_entity.specs.Baselines.{Lines}
+use Rattle.q3_entity.specs.Baselines.{Baselines}
 use Rattle.q3_profile.specs.declared.profile.Profile.{Profile}
 use Rattle.q3_rings.specs.Rings.{HeldSnapshots}
 use Rattle.q3_savestate.specs.Cursor.{Cursor, Field, number_at, text_at, end_at}
-use Rattle.q3_savestate.specs.Entities.{lines_bytes, lines_at}
+use Rattle.q3_savestate.specs.Entities.{baselines_bytes, baselines_at}
 use Rattle.q3_savestate.specs.Texts.{strings_bytes, strings_at, pending_bytes, pending_at}
 use Rattle.q3_savestate.specs.Snapshots.{last_number, snapshots_bytes, snapshots_at}
 
@@ -24,7 +24,7 @@ pub record Saved : Type 0 where
   pub slot : ℕ
   pub feed : ℕ
   pub strings : Strings
-  pub lines : Lines
+  pub baselines : Baselines
   pub held : HeldSnapshots
 
 -- ---- what is written
@@ -40,7 +40,7 @@ start_bytes saved =
 abbrev pub state_bytes : Profile → Saved → List ℕ
 state_bytes profile saved =
     concat (start_bytes saved ∷ pending_bytes saved.strings.pending ∷ flag_bytes saved.has_game ∷ strings_bytes saved.strings.texts
-    ∷ lines_bytes profile.entity saved.lines ∷ snapshots_bytes profile saved.held ∷ [])
+    ∷ baselines_bytes profile.entity saved.baselines ∷ snapshots_bytes profile saved.held ∷ [])
 
 -- ---- what is read
 
@@ -76,8 +76,8 @@ whole_at profile cursor = do
   pending ← pending_at start.1
   has_game ← flag_at pending.1
   texts ← strings_at has_game.1
-  lines ← lines_at profile.entity texts.1
-  held ← snapshots_at profile lines.1
+  baselines ← baselines_at profile.entity texts.1
+  held ← snapshots_at profile baselines.1
   none ← end_at held.1
   Ok (record {
     number = start.0.number;
@@ -87,7 +87,7 @@ whole_at profile cursor = do
     slot = start.0.slot;
     feed = start.0.feed;
     strings = record { texts = texts.0; pending = pending.0 };
-    lines = lines.0;
+    baselines = baselines.0;
     held = held.0;
   })
 

@@ -4,14 +4,14 @@ ghost use Rattle.std.specs.Prelude.{◌≡◌, ◌<◌, [], ◌∷◌, length, r
 ghost use Rattle.std.specs.List.{flat_map};
 ghost use Rattle.q3_io.specs.Faults.{HasCause};
 ghost use Rattle.q3_io.specs.Written.{Adds};
-ghost use Rattle.q3_entity.specs.Baselines.{most_lines, no_lines, set_at};
+ghost use Rattle.q3_entity.specs.Baselines.{most_baselines, no_baselines, set_at, set_baselines};
 ghost use Rattle.q3_savestate.specs.Cursor.{found_in};
-ghost use Rattle.q3_savestate.specs.Entities.{words_bytes, state_words_at, entity_bytes, entity_at, set_lines, lines_bytes, lines_at};
+ghost use Rattle.q3_savestate.specs.Entities.{words_bytes, state_words_at, entity_bytes, entity_at, baselines_bytes, baselines_at};
 
 use crate::cursor::Cursor;
 use crate::writing::write_short;
 use byteorder::{ByteOrder, LittleEndian};
-use q3_entity::{Baselines, EntityState, MOST_LINES};
+use q3_entity::{Baselines, EntityState, MOST_BASELINES};
 use q3_fields::Table;
 use q3_io::{Failed, Sink, laws};
 
@@ -77,17 +77,17 @@ pub(crate) fn read_entity(
 }
 
 /// Writes the baselines that are set.
-pub(crate) fn write_lines<O: Sink>(
+pub(crate) fn write_baselines<O: Sink>(
     table: &Table,
     baselines: &Baselines,
     out: &mut O,
 ) -> Result<(), Failed>
-    ensures adds { Adds (O.written out.old) (O.written out.new) (lines_bytes table.now baselines.now) result }
+    ensures adds { Adds (O.written out.old) (O.written out.new) (baselines_bytes table.now baselines.now) result }
     ensures cause { HasCause (O.faults out.old) (O.faults out.new) result }
 {
     laws::texts_follow();
-    write_short(count_set(baselines), out)?;
-    for number in 0..MOST_LINES {
+    write_short(baselines.len(), out)?;
+    for number in 0..MOST_BASELINES {
         write_baseline(table, baselines, number, out)?;
     }
     Ok(())
@@ -100,9 +100,9 @@ fn write_baseline<O: Sink>(
     number: u16,
     out: &mut O,
 ) -> Result<(), Failed>
-    ensures adds { Adds (O.written out.old) (O.written out.new) (flat_map (entity_bytes table.now) (set_lines (set_at baselines.now number ∷ []))) result }
+    ensures adds { Adds (O.written out.old) (O.written out.new) (flat_map (entity_bytes table.now) (set_baselines (set_at baselines.now number ∷ []))) result }
     ensures cause { HasCause (O.faults out.old) (O.faults out.new) result }
-    ensures places { length baselines.now ≡ most_lines }
+    ensures places { length baselines.now ≡ most_baselines }
 {
     match baselines.get(number) {
         Some(state) => write_entity(table, state, out),
@@ -111,14 +111,14 @@ fn write_baseline<O: Sink>(
 }
 
 /// Reads baselines.
-#[tactic(auto, unfolding(crate::specs::Entities::lines_at))]
-pub(crate) fn read_lines(
+#[tactic(auto, unfolding(crate::specs::Entities::baselines_at))]
+pub(crate) fn read_baselines(
     cursor: &mut Cursor,
     table: &Table,
     baselines: &mut Baselines,
 ) -> Result<(), usize>
-    requires { baselines.old ≡ no_lines }
-    ensures { found_in result baselines.new cursor.new ≡ lines_at table.now cursor.old }
+    requires { baselines.old ≡ no_baselines }
+    ensures { found_in result baselines.new cursor.new ≡ baselines_at table.now cursor.old }
 {
     let count = cursor.short(0, table.end())?;
     let mut entity = EntityState::zero(0);
@@ -129,17 +129,4 @@ pub(crate) fn read_lines(
         least = entity.number + 1;
     }
     Ok(())
-}
-
-/// How many baselines are set.
-fn count_set(baselines: &Baselines) -> u16
-    ensures { result ≡ length (set_lines baselines.now) }
-{
-    let mut count = 0;
-    for number in 0..MOST_LINES {
-        if baselines.is_set(number) {
-            count += 1;
-        }
-    }
-    count
 }

@@ -9,11 +9,11 @@ ghost use Rattle.q3_savestate.specs.State.{start_bytes, start_at, state_bytes, s
 ghost use Rattle.q3_savestate.specs.Lending.{HasAges, parts_of, start_of, saved_from, ReadsState};
 ghost use Rattle.q3_savestate.specs.Reading.{read_as};
 ghost use Rattle.q3_config.specs.Strings.{no_strings};
-ghost use Rattle.q3_entity.specs.Baselines.{no_lines};
+ghost use Rattle.q3_entity.specs.Baselines.{no_baselines};
 ghost use Rattle.q3_rings.specs.Rings.{no_rings};
 
 use crate::cursor::Cursor;
-use crate::entities::{read_lines, write_lines};
+use crate::entities::{read_baselines, write_baselines};
 use crate::error::StateError;
 use crate::snapshots::{LAST_NUMBER, read_snapshots, write_snapshots};
 use crate::texts::{read_pending, read_strings, write_pending, write_strings};
@@ -88,7 +88,7 @@ pub fn write_state<O: Sink>(profile: &Profile, parts: Parts, out: &mut O) -> Res
     write_pending(parts.configs, out)?;
     write_byte(u8::from(parts.has_game), out)?;
     write_strings(parts.configs, out)?;
-    write_lines(&profile.entity, parts.baselines, out)?;
+    write_baselines(&profile.entity, parts.baselines, out)?;
     write_snapshots(profile, parts.rings, out)
 }
 
@@ -150,7 +150,7 @@ fn read_parts(
 ) -> Result<(Start, bool), usize>
     requires least { 512 ≤ profile.now.parse_ring }
     requires configs { configs.old ≡ no_strings }
-    requires baselines { baselines.old ≡ no_lines }
+    requires baselines { baselines.old ≡ no_baselines }
     requires rings { rings.old ≡ no_rings profile.now.parse_ring }
     ensures whole { read_as (λ read. saved_from (start_of read.0) read.1 configs.new baselines.new rings.new.held) result ≡ state_at profile.now bytes.now }
     ensures none { IfOk result (λ read. rings.new.begun ≡ None) }
@@ -160,7 +160,7 @@ fn read_parts(
     read_pending(&mut cursor, configs)?;
     let has_game = cursor.byte(0, 1)? == 1;
     read_strings(&mut cursor, configs)?;
-    read_lines(&mut cursor, &profile.entity, baselines)?;
+    read_baselines(&mut cursor, &profile.entity, baselines)?;
     read_snapshots(&mut cursor, profile, rings)?;
     cursor.end()?;
     Ok((start, has_game))

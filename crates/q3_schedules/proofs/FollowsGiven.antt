@@ -11,7 +11,7 @@ use Rattle.q3_config.specs.Commands.{change_in, piece_count}
 use Rattle.q3_config.specs.Laws.{piece_texts}
 use Rattle.q3_config.specs.Strings.{Pending, Strings, admit_fault, with_string}
 use Rattle.q3_config.specs.declared.error.ConfigError.{ConfigError}
-use Rattle.q3_entity.specs.Baselines.{with_line}
+use Rattle.q3_entity.specs.Baselines.{with_baseline}
 use Rattle.q3_entity.specs.Entities.{normal_entity}
 use Rattle.q3_entity.specs.declared.state.EntityState.{EntityState}
 use Rattle.q3_gamestate.specs.Values.{Gamestate}
@@ -261,11 +261,11 @@ module _ (profile : Profile) (whole : Whole) (old : History) (c : ℕ) (lt : c <
       (λ n game carries tells. let most = below_new profile whole c lt holds n id game carries tells in let above = leb-false id map.id e in omega (arith, most, above)) is)
 
   -- a baseline
-  pub lines : (state : EntityState) → Of old (set_baseline_at whole.ends.server state).server.map (place_at whole.ends c) (history_at whole.histories c)
-  lines state =
+  pub baselines : (state : EntityState) → Of old (set_baseline_at whole.ends.server state).server.map (place_at whole.ends c) (history_at whole.histories c)
+  baselines state =
       let map = whole.ends.server.map in
       cond_both map.begun (record { map = map; answer = Err (record {}) })
-      (record { map = record map { lines = with_line map.lines (normal_entity whole.ends.server.profile.entity state) }; answer = Ok tt })
+      (record { map = record map { baselines = with_baseline map.baselines (normal_entity whole.ends.server.profile.entity state) }; answer = Ok tt })
       (λ (handed : of_map.Handed Late). Of old handed.map (place_at whole.ends c) (history_at whole.histories c)) (λ e. is) (λ e. is)
 
   -- a line about an entity

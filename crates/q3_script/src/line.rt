@@ -34,10 +34,12 @@ fn only_number(left: &[u8], low: u32, high: u32) -> Result<u32, LineCause>
 }
 
 /// The only word, the number of a client.
+#[tactic(auto, using(crate::proofs::Steps::only_steps))]
 fn only_client(left: &[u8]) -> Result<u8, LineCause>
     ensures { result ≡ only_number 0 last_client (words_left left.now) }
 {
-    Ok(only_number(left, 0, 15)? as u8)
+    let word = only_word(left).ok_or(LineCause::Count)?;
+    client_word(word)
 }
 
 #[tactic(auto, using(crate::proofs::Steps::client_steps))]

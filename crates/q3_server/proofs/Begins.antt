@@ -125,7 +125,7 @@ module _ (below : Below) (profile : Profile) (map : MapState) (slot : SlotState)
       record {
         telling = telling_of profile slot;
         tells = next_tells clear;
-        lines = is_map.lines;
+        baselines = is_map.baselines;
         section = inl (record {
           snapshot = next_snapshot map slot;
           is = refl;
@@ -147,14 +147,14 @@ module _ (below : Below) (profile : Profile) (map : MapState) (slot : SlotState)
         strings = is_map.strings;
         texts = is_map.texts;
         pending = is_map.pending;
-        lines = is_map.lines;
+        baselines = is_map.baselines;
         id = ap is_some (is_map.tells (joined.owed owed));
       } in
       record {
         telling = telling_of profile slot;
         tells = next_tells clear;
-        lines = is_map.lines;
-        section = inr (record { game = next_game map c slot; is = refl; last = refl; lines = refl; are = game });
+        baselines = is_map.baselines;
+        section = inr (record { game = next_game map c slot; is = refl; last = refl; baselines = refl; are = game });
       }
 
   -- ---- what is begun, if anything is

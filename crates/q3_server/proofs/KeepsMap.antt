@@ -16,7 +16,7 @@ use Rattle.q3_text.specs.Decimals.{info_number}
 use Rattle.q3_config.specs.declared.error.ConfigError.{ConfigError}
 use Rattle.q3_config.specs.declared.error.ConfigError.TheVariants.{Index}
 use Rattle.q3_config.specs.Strings.{Strings, AreStrings, places, is_config_byte, no_strings, with_string, chars_fault, room_fault, set_fault, admit_fault, after_set, server_id}
-use Rattle.q3_entity.specs.Baselines.{with_line}
+use Rattle.q3_entity.specs.Baselines.{with_baseline}
 use Rattle.q3_map.specs.declared.map.Late.{Late}
 use Rattle.q3_map.specs.Map.{MapState, Handed, AreHeld, no_map, id_text, after_new_map, set_baseline_at, set_entity_at, remove_entity_at, with_config, begins_game}
 use Rattle.q3_server.specs.Standing.{IsMap, Below}
@@ -34,7 +34,7 @@ map_none below profile = record {
   texts = below.texts.none.each;
   pending = refl;
   tells = λ some. absurd (some refl);
-  lines = below.no_lines profile.entity;
+  baselines = below.no_baselines profile.entity;
   entities = none_held profile.entity;
 }
 
@@ -52,7 +52,7 @@ map_given profile map time entities short held is =
       texts = is.texts;
       pending = is.pending;
       tells = is.tells;
-      lines = is.lines;
+      baselines = is.baselines;
       entities = held;
     }
 
@@ -82,7 +82,7 @@ map_begun profile map is =
       texts = is.texts;
       pending = is.pending;
       tells = is.tells;
-      lines = is.lines;
+      baselines = is.baselines;
       entities = is.entities;
     }
 
@@ -101,18 +101,18 @@ map_new below profile map id feed least short is =
       texts = (below.texts.set no_strings 1 text None below.texts.none (below.maps.bytes id)).each;
       pending = refl;
       tells = λ other. below.maps.told id least;
-      lines = below.no_lines profile.entity;
+      baselines = below.no_baselines profile.entity;
       entities = none_held profile.entity;
     }
 
 -- ---- a baseline
 
-pub map_lined : Below → (profile : Profile) (map : MapState) (state : EntityState) → IsCodec profile → state.number < end_mark profile.entity → AreWords 64 state.words → IsMap profile map
+pub map_baselined : Below → (profile : Profile) (map : MapState) (state : EntityState) → IsCodec profile → state.number < end_mark profile.entity → AreWords 64 state.words → IsMap profile map
     → IsMap profile (set_baseline_at profile.entity map state).map
-map_lined below profile map state codec lt words is =
-    let line = normal_entity profile.entity state in
+map_baselined below profile map state codec lt words is =
+    let baseline = normal_entity profile.entity state in
     let normal = below.entity profile.entity state codec.entity words in
-    cond_both map.begun (record { map = map; answer = Err (record {}) }) (record { map = record map { lines = with_line map.lines line }; answer = Ok tt })
+    cond_both map.begun (record { map = map; answer = Err (record {}) }) (record { map = record map { baselines = with_baseline map.baselines baseline }; answer = Ok tt })
     (λ (h : Handed Late). IsMap profile h.map) (λ begun. is) (λ open_. record {
       id = is.id;
       feed = is.feed;
@@ -121,7 +121,7 @@ map_lined below profile map state codec lt words is =
       texts = is.texts;
       pending = is.pending;
       tells = is.tells;
-      lines = below.line profile.entity map.lines line is.lines lt normal.0 normal.1;
+      baselines = below.baseline profile.entity map.baselines baseline is.baselines lt normal.0 normal.1;
       entities = is.entities;
     })
 
@@ -195,6 +195,6 @@ map_configured below profile map index text other admitted is =
       texts = (below.texts.set map.strings index text None (record { each = is.texts; pending = rw is.pending tt }) may.some).each;
       pending = is.pending;
       tells = λ known. id_stays map.strings index text other ∙ is.tells known;
-      lines = is.lines;
+      baselines = is.baselines;
       entities = is.entities;
     }

@@ -7,7 +7,7 @@ use Rattle.q3_profile.specs.Profile.{IsCodec}
 use Rattle.q3_fields.specs.Kinds.{end_mark}
 use Rattle.q3_fields.specs.States.{AreWords}
 use Rattle.q3_entity.specs.declared.state.EntityState.{EntityState}
-use Rattle.q3_entity.specs.Baselines.{with_line}
+use Rattle.q3_entity.specs.Baselines.{with_baseline}
 use Rattle.q3_entity.specs.Entities.{normal_entity}
 use Rattle.q3_config.specs.Strings.{admit_fault}
 use Rattle.q3_config.specs.Laws.{piece_texts}
@@ -17,7 +17,7 @@ use Rattle.q3_map.specs.Map.{MapState, Handed, no_map, after_new_map, new_map_at
 use Rattle.q3_slot.specs.Slot.{SlotState, on_new_map}
 use Rattle.q3_slot.specs.Slots.{tells}
 use Rattle.q3_server.specs.Standing.{IsMap, IsServer, Below}
-use Rattle.q3_server.proofs.KeepsMap.{map_none, map_timed, map_entered, map_removed, map_new, map_lined, map_configured}
+use Rattle.q3_server.proofs.KeepsMap.{map_none, map_timed, map_entered, map_removed, map_new, map_baselined, map_configured}
 use Rattle.q3_server.proofs.KeepsClients.{nobody, server_mapped, server_on_map, server_told}
 
 -- with no client, before the first map
@@ -43,16 +43,16 @@ module _ (profile : Profile) (map next : MapState) (slots : List (Option SlotSta
       subst (λ (m : MapState). IsServer profile m slots) (sym after)
       (server_mapped profile map (remove_entity_at map number) slots refl (map_removed below profile map number is.is_map) is)
 
-  pub server_lined : Below → (state : EntityState) (answer : Result (Unit {0}) Late) → state.number < end_mark profile.entity → AreWords 64 state.words
+  pub server_baselined : Below → (state : EntityState) (answer : Result (Unit {0}) Late) → state.number < end_mark profile.entity → AreWords 64 state.words
       → set_baseline_at profile.entity map state ≡ record { map = next; answer = answer } → IsServer profile map slots → IsServer profile next slots
-  server_lined below state answer number words after is =
+  server_baselined below state answer number words after is =
       let made = (set_baseline_at profile.entity map state).map in
-      let line = normal_entity profile.entity state in
+      let baseline = normal_entity profile.entity state in
       let same : made.id ≡ map.id =
-      cond_both map.begun (record { map = map; answer = Err (record {}) }) (record { map = record map { lines = with_line map.lines line }; answer = Ok tt })
+      cond_both map.begun (record { map = map; answer = Err (record {}) }) (record { map = record map { baselines = with_baseline map.baselines baseline }; answer = Ok tt })
       (λ (h : Handed Late). h.map.id ≡ map.id) (λ begun. refl) (λ open_. refl) in
       subst (λ (m : MapState). IsServer profile m slots) (ap (λ (h : Handed Late). h.map) after)
-      (server_mapped profile map made slots same (map_lined below profile map state is.codec number words is.is_map) is)
+      (server_mapped profile map made slots same (map_baselined below profile map state is.codec number words is.is_map) is)
 
   -- a new map, where its id is above the last one's
   pub server_begun : Below → (id feed : ℕ) (now : List (Option SlotState)) → id < 2 ^ 31 → feed < 2 ^ 32 → new_map_at map id feed ≡ record { map = next; answer = Ok tt }

@@ -31,7 +31,7 @@ use Rattle.q3_server.specs.Taking.{sender_of, take_by, take_from, take_headed, t
 use Rattle.q3_server.specs.Standing.{IsServer, IsJoined, IsServerState, Below}
 use Rattle.q3_server.proofs.KeepsMap.{map_none, map_new}
 use Rattle.q3_server.proofs.KeepsClients.{nobody, joined_new, joined_player, joined_area, joined_delayed, joined_issued, joined_took, at_place, place_set, server_behind, server_on_map}
-use Rattle.q3_server.proofs.KeepsServer.{server_timed, server_entered, server_removed, server_lined, server_configured}
+use Rattle.q3_server.proofs.KeepsServer.{server_timed, server_entered, server_removed, server_baselined, server_configured}
 
 -- with no client, before the first map
 pub new_stays : Below → (profile : Profile) (count : ℕ) → IsCodec profile → IsServerState (new_server profile count)
@@ -130,7 +130,7 @@ module _ (below : Below) (server : ServerState) (is : IsServerState server) wher
   pub baseline_stays : (state : EntityState) → state.number < end_mark server.profile.entity → AreWords 64 state.words → IsServerState (set_baseline_at server state).server
   baseline_stays state number words =
       let handed = of_map.set_baseline_at server.profile.entity server.map state in
-      server_lined server.profile server.map handed.map server.slots below state handed.answer number words refl is
+      server_baselined server.profile server.map handed.map server.slots below state handed.answer number words refl is
 
   pub map_stays : (id feed : ℕ) → id < 2 ^ 31 → feed < 2 ^ 32 → IsServerState (new_map_at server id feed).server
   map_stays id feed least short =

@@ -31,7 +31,7 @@ pub record MapStays : Type 0 where
   pub removed : (profile : Profile) (map : MapState) (number : ℕ) → IsMap profile map → IsMap profile (remove_entity_at map number)
   pub begun : (profile : Profile) (map : MapState) → IsMap profile map → IsMap profile (begins_game map)
   pub new_map : (profile : Profile) (map : MapState) (id feed : ℕ) → id < 2 ^ 31 → feed < 2 ^ 32 → IsMap profile map → IsMap profile (after_new_map map id feed)
-  pub lined : (profile : Profile) (map : MapState) (state : EntityState) → IsCodec profile → state.number < end_mark profile.entity → AreWords 64 state.words → IsMap profile map
+  pub baselined : (profile : Profile) (map : MapState) (state : EntityState) → IsCodec profile → state.number < end_mark profile.entity → AreWords 64 state.words → IsMap profile map
       → IsMap profile (set_baseline_at profile.entity map state).map
   pub configured : (profile : Profile) (map : MapState) (index : ℕ) (text : List ℕ) → (index ≡ 1 → ⊥) → admit_fault map.strings index text ≡ None → IsMap profile map
       → IsMap profile (with_config map index text)

@@ -7,8 +7,8 @@ use Rattle.q3_strings.specs.Laws.{NumberedAreCommands}
 use Rattle.q3_config.specs.Strings.{AreStrings, server_id}
 use Rattle.q3_config.specs.Laws.{StringsStay, TextsStay}
 use Rattle.q3_player.specs.Laws.{NormalIsNormal, ZeroIsNormal}
-use Rattle.q3_entity.specs.Laws.{NormalIsNormal as EntityNormalIsNormal, NoLinesAreLines, LineIsAdded}
-use Rattle.q3_entity.specs.Baselines.{AreLines}
+use Rattle.q3_entity.specs.Laws.{NormalIsNormal as EntityNormalIsNormal, NoneAreBaselines, BaselineIsAdded}
+use Rattle.q3_entity.specs.Baselines.{AreBaselines}
 use Rattle.q3_frames.specs.Laws.{BaseIsNear}
 use Rattle.q3_map.specs.Laws.{ListsStayHeld, NewMapsTell}
 use Rattle.q3_map.specs.Map.{MapState, AreHeld}
@@ -27,7 +27,7 @@ pub record IsMap (profile : Profile) (map : MapState) : Type 0 where
   pub texts : All (All IsTextByte) map.strings.texts
   pub pending : map.strings.pending ≡ None
   pub tells : map.id ≢ 0 → server_id map.strings ≡ Some map.id
-  pub lines : AreLines profile.entity map.lines
+  pub baselines : AreBaselines profile.entity map.baselines
   pub entities : AreHeld profile.entity map.entities
 
 -- a client on a map of this id: its player is in normal form, one for which no gamestate was begun is connected, and one is owed on a
@@ -60,8 +60,8 @@ BeginsBuilt server c =
 pub record Below : Type 0 where
   pub commands : NumberedAreCommands
   pub entity : EntityNormalIsNormal
-  pub no_lines : NoLinesAreLines
-  pub line : LineIsAdded
+  pub no_baselines : NoneAreBaselines
+  pub baseline : BaselineIsAdded
   pub player : NormalIsNormal
   pub zero : ZeroIsNormal
   pub lists : ListsStayHeld

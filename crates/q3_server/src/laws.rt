@@ -16,8 +16,8 @@ pub(crate) fn below()
 {
     q3_strings::laws::numbered_are_commands();
     entity::normal_is_normal();
-    entity::no_lines_are_lines();
-    entity::line_is_added();
+    entity::none_are_baselines();
+    entity::baseline_is_added();
     player::normal_is_normal();
     player::zero_is_normal();
     map::lists_stay_held();

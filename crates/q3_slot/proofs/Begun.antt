@@ -6,7 +6,7 @@ use Rattle.q3_chan.specs.Datagrams.{sequence_end}
 use Rattle.q3_chan.specs.Gathering.{Gathering}
 use Rattle.q3_chan.specs.Sending.{Sending}
 use Rattle.q3_window.specs.Outgoing.{OutgoingState}
-use Rattle.q3_entity.specs.Baselines.{Lines}
+use Rattle.q3_entity.specs.Baselines.{Baselines}
 use Rattle.q3_entity_ring.specs.Snapshot.{Snapshot}
 use Rattle.q3_slot.specs.declared.joined.Joined.{Joined}
 use Rattle.q3_profile.specs.declared.profile.Profile.{Profile}
@@ -37,9 +37,9 @@ emits_game profile map frames c slot idle open_ clear owed =
 
 -- the message with the next snapshot, by what is kept of a slot
 pub is_begun : (profile : Profile) (map : MapState) (frames built : FramesState) (c : ℕ) (sending : Sending) (gathering : Gathering) (issued : OutgoingState) (client : Joined)
-    (number : ℕ) (snapshot : Snapshot) (lines : Lines) → number ≡ sending.number + 1 → snapshot ≡ next_snapshot map (slot_of sending gathering issued client)
-    → built ≡ build_at frames c snapshot → lines ≡ map.lines
-    → built_of (telling_under profile (slot_with issued client) number) lines (base_of built c number (asked (slot_with issued client))) snapshot
+    (number : ℕ) (snapshot : Snapshot) (baselines : Baselines) → number ≡ sending.number + 1 → snapshot ≡ next_snapshot map (slot_of sending gathering issued client)
+    → built ≡ build_at frames c snapshot → baselines ≡ map.baselines
+    → built_of (telling_under profile (slot_with issued client) number) baselines (base_of built c number (asked (slot_with issued client))) snapshot
     ≡ begun_next profile map frames c (slot_of sending gathering issued client)
-is_begun profile map frames built c sending gathering issued client number snapshot lines number_is snapshot_is built_is lines_are =
+is_begun profile map frames built c sending gathering issued client number snapshot baselines number_is snapshot_is built_is lines_are =
     rw (number_is, built_is, lines_are, snapshot_is) refl

@@ -55,13 +55,13 @@ telling_under profile slot number = record {
   key = server_key profile.protocol slot.challenge number slot.executed.last;
 }
 
--- and the next one
+-- and of the next message
 abbrev pub telling_of : Profile → SlotState → Telling
 telling_of profile slot = telling_under profile slot (slot.sending.number + 1)
 
 -- the message that goes to a client next: its snapshot, against the base that these frames have for it
 abbrev pub next_built : Profile → MapState → FramesState → ℕ → SlotState → Built
-next_built profile map frames c slot = built_of (telling_of profile slot) map.lines (base_of frames c (slot.sending.number + 1) (asked slot)) (next_snapshot map slot)
+next_built profile map frames c slot = built_of (telling_of profile slot) map.baselines (base_of frames c (slot.sending.number + 1) (asked slot)) (next_snapshot map slot)
 
 -- and once its frame was built
 abbrev pub begun_next : Profile → MapState → FramesState → ℕ → SlotState → Built
@@ -72,14 +72,14 @@ abbrev pub next_game : MapState → ℕ → SlotState → Gamestate
 next_game map c slot = record {
   command = issued_of slot.issued;
   strings = map.strings;
-  lines = map.lines;
+  baselines = map.baselines;
   slot = c;
   feed = map.feed;
 }
 
 -- and the message with it
 abbrev pub next_game_built : Profile → MapState → ℕ → SlotState → Built
-next_game_built profile map c slot = game_built_of (telling_of profile slot) map.lines (next_game map c slot)
+next_game_built profile map c slot = game_built_of (telling_of profile slot) map.baselines (next_game map c slot)
 
 -- what an emit of a slot gives: the slot after it, the map and the frames, the answer, the message that it began, and the datagram
 -- that it hands out

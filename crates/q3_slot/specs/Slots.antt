@@ -52,7 +52,7 @@ slot_of sending gathering issued client = record {
   delayed = client.delayed;
 }
 
--- the slot of a client to which these commands were issued, where nothing is being sent and nothing was gathered
+-- the slot of a client to which these commands were issued, for what looks at neither its sending nor its gathering
 abbrev pub slot_with : OutgoingState → Joined → SlotState
 slot_with issued client = slot_of (new_sending (server_form None) 0) (new_gathering (client_form None)) issued client
 

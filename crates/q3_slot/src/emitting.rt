@@ -103,7 +103,7 @@ fn write_against(
     requires lists { HoldLists profile.now.entity frames.now }
     requires listed { IsList profile.now.entity entities.now }
     requires buffer { length buffer.old ≡ longest_message }
-    ensures { HoldsBuilt profile.now (built_of (telling_under profile.now (slot_with to.entry.issued.now to.entry.client.now) head.now.number) map.now.lines
+    ensures { HoldsBuilt profile.now (built_of (telling_under profile.now (slot_with to.entry.issued.now to.entry.client.now) head.now.number) map.now.baselines
         (base_of frames.now to.entry.slot head.now.number (asked (slot_with to.entry.issued.now to.entry.client.now)))
         (record { head = head.now; entities = entities.now })) buffer.new result }
 {

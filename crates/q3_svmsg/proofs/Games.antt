@@ -1,7 +1,7 @@
 -- The section with a gamestate: its text, what is read of it, and what is spelled so.
 use Rattle.std.proofs.Common.{◌≡◌, ℕ, Bool, List, Ok, None, refl, subst, arith, inl}
 use Rattle.q3_bits.specs.ResultBind.{fault_as, bind_ok, map_err_ok}
-use Rattle.q3_entity.specs.Baselines.{Lines}
+use Rattle.q3_entity.specs.Baselines.{Baselines}
 use Rattle.q3_profile.specs.declared.profile.Profile.{Profile}
 use Rattle.q3_profile.specs.Profile.{IsCodec}
 use Rattle.q3_gamestate.specs.Values.{Gamestate}
@@ -14,10 +14,10 @@ use Rattle.q3_svmsg.specs.Reading.{game_error, game_at}
 use Rattle.q3_svmsg.proofs.SectionSpelled.{ReadSection, TakenSection}
 
 -- the text of a message with a gamestate depends on no baselines but its own
-pub game_text : (profile : Profile) (lines other : Lines) (message : Message) (game : Gamestate) → message.section ≡ Game game
-    → server_message_bits profile lines None message ≡ server_message_bits profile other None (record message { section = Game game })
+pub game_text : (profile : Profile) (baselines other : Baselines) (message : Message) (game : Gamestate) → message.section ≡ Game game
+    → server_message_bits profile baselines None message ≡ server_message_bits profile other None (record message { section = Game game })
 unfolding server_message_bits section_bits
-game_text profile lines other message game is = rw is refl
+game_text profile baselines other message game is = rw is refl
 
 pub game_was_spelled : ReadIsSpelled → (profile : Profile) (context : Context) (number : ℕ) (bits : List Bool) (found : Told × List Bool) → IsCodec profile → game_at profile bits ≡ Ok found
     → ReadSection profile context number 2 bits found

@@ -16,7 +16,7 @@ use Rattle.q3_player.specs.Spelling.{SpellsPlayer}
 use Rattle.q3_player.specs.Laws as player
 use Rattle.q3_entity.specs.declared.state.EntityState.{EntityState}
 use Rattle.q3_entity.specs.Entities.{AreNormal}
-use Rattle.q3_entity.specs.Baselines.{Lines, AreLines}
+use Rattle.q3_entity.specs.Baselines.{Baselines, AreBaselines}
 use Rattle.q3_entity.specs.Lists.{entity_list_at, list_skipped}
 use Rattle.q3_entity.specs.Spelling.{SpellsList, SpellsSkipped}
 use Rattle.q3_entity.specs.Laws as entity
@@ -35,16 +35,16 @@ use Rattle.q3_svmsg.proofs.Held.{IsFrom, held_is_normal}
 -- ---- the player and the entities against a base
 
 -- a text that spells them
-pub record SpellsStates (profile : Profile) (lines : Lines) (against : Option Base) (to : PlayerState) (entities : List EntityState) (bits : List Bool) : Type 0 where
+pub record SpellsStates (profile : Profile) (baselines : Baselines) (against : Option Base) (to : PlayerState) (entities : List EntityState) (bits : List Bool) : Type 0 where
   pub player : List Bool
   pub list : List Bool
   pub state : IsState to
   pub of_player : SpellsPlayer profile.code profile.player.kinds (base_player against) to player
-  pub of_list : SpellsList profile.code profile.entity lines (base_entities against) entities list
+  pub of_list : SpellsList profile.code profile.entity baselines (base_entities against) entities list
   pub whole : bits ≡ player ++ list
 
 -- a snapshot that was read
-record ReadStates (profile : Profile) (lines : Lines) (against : Option Base) (base : ℕ) (head : SnapHead) (bits : List Bool) (found : Told × List Bool) : Type 0 where
+record ReadStates (profile : Profile) (baselines : Baselines) (against : Option Base) (base : ℕ) (head : SnapHead) (bits : List Bool) (found : Told × List Bool) : Type 0 where
   to : PlayerState
   entities : List EntityState
   told : found.0 ≡ Snap base (record head { player = to }) entities
@@ -52,31 +52,31 @@ record ReadStates (profile : Profile) (lines : Lines) (against : Option Base) (b
   are : AreEntities profile entities
   normal_entities : AreNormal profile.entity entities
   text : List Bool
-  spells : SpellsStates profile lines against to entities text
+  spells : SpellsStates profile baselines against to entities text
   parts : bits ≡ text ++ found.1
 
 -- two texts, one behind the other
 both_parts : (bits first second left rest : List Bool) → bits ≡ first ++ left → left ≡ second ++ rest → bits ≡ (first ++ second) ++ rest
 both_parts bits first second left rest a b = a ∙ ap (λ (left : List Bool). first ++ left) b ∙ sym (append_assoc first second rest)
 
-states_were_spelled : player.ReadIsSpelled → entity.ListReadIsSpelled → (profile : Profile) (lines : Lines) (against : Option Base) (base : ℕ) (head : SnapHead) (bits : List Bool)
-    (found : Told × List Bool) → IsCodec profile → AreLines profile.entity lines → IsFrom profile against → snapshot_at profile lines against base head bits ≡ Ok found
-    → ReadStates profile lines against base head bits found
+states_were_spelled : player.ReadIsSpelled → entity.ListReadIsSpelled → (profile : Profile) (baselines : Baselines) (against : Option Base) (base : ℕ) (head : SnapHead) (bits : List Bool)
+    (found : Told × List Bool) → IsCodec profile → AreBaselines profile.entity baselines → IsFrom profile against → snapshot_at profile baselines against base head bits ≡ Ok found
+    → ReadStates profile baselines against base head bits found
 unfolding snapshot_at
-states_were_spelled player_law list_law profile lines against base head bits found codec are_lines from e =
+states_were_spelled player_law list_law profile baselines against base head bits found codec are_baselines from e =
     let words = profile.code in
     let player = bind_ok (fault_as Player (player_at words profile.player.kinds (base_player against) bits))
-    (λ player. fault_as Entity (entity_list_at words profile.entity lines (base_entities against) player.1) >>= λ entities. Ok (Snap base (record head { player = player.0 }) entities.0, entities.1)) found e in
-    let entities = bind_ok (fault_as Entity (entity_list_at words profile.entity lines (base_entities against) player.0.1))
+    (λ player. fault_as Entity (entity_list_at words profile.entity baselines (base_entities against) player.1) >>= λ entities. Ok (Snap base (record head { player = player.0 }) entities.0, entities.1)) found e in
+    let entities = bind_ok (fault_as Entity (entity_list_at words profile.entity baselines (base_entities against) player.0.1))
     (λ entities. Ok (Snap base (record head { player = player.0.0 }) entities.0, entities.1)) found player.2 in
     let made = entities.2 in
     let told : Told = Snap base (record head { player = player.0.0 }) entities.0.0 in
     let same : (told, entities.0.1) ≡ found = cc in
     let to = player_law words profile.player.kinds (base_player against) player.0.0 bits player.0.1 codec.code codec.player.kinds from.state
     (map_err_ok Player (player_at words profile.player.kinds (base_player against) bits) player.0 player.1) in
-    let list = list_law words profile.entity lines (base_entities against) entities.0.0 player.0.1 entities.0.1 codec.code codec.entity are_lines from.list from.states
-    (map_err_ok Entity (entity_list_at words profile.entity lines (base_entities against) player.0.1) entities.0 entities.1) in
-    subst (ReadStates profile lines against base head bits) {x = (told, entities.0.1)} same (record {
+    let list = list_law words profile.entity baselines (base_entities against) entities.0.0 player.0.1 entities.0.1 codec.code codec.entity are_baselines from.list from.states
+    (map_err_ok Entity (entity_list_at words profile.entity baselines (base_entities against) player.0.1) entities.0 entities.1) in
+    subst (ReadStates profile baselines against base head bits) {x = (told, entities.0.1)} same (record {
       to = player.0.0;
       entities = entities.0.0;
       told = refl;
@@ -88,14 +88,14 @@ states_were_spelled player_law list_law profile lines against base head bits fou
       parts = both_parts bits to.2 list.2 player.0.1 entities.0.1 to.3 list.3;
     })
 
-states_are_read : player.SpelledIsRead → entity.ListSpelledIsRead → (profile : Profile) (lines : Lines) (against : Option Base) (base : ℕ) (head : SnapHead) (to : PlayerState)
-    (entities : List EntityState) (text rest : List Bool) → IsCodec profile → AreLines profile.entity lines → IsFrom profile against → SpellsStates profile lines against to entities text
-    → snapshot_at profile lines against base head (text ++ rest) ≡ Ok (Snap base (record head { player = to }) entities, rest)
+states_are_read : player.SpelledIsRead → entity.ListSpelledIsRead → (profile : Profile) (baselines : Baselines) (against : Option Base) (base : ℕ) (head : SnapHead) (to : PlayerState)
+    (entities : List EntityState) (text rest : List Bool) → IsCodec profile → AreBaselines profile.entity baselines → IsFrom profile against → SpellsStates profile baselines against to entities text
+    → snapshot_at profile baselines against base head (text ++ rest) ≡ Ok (Snap base (record head { player = to }) entities, rest)
 unfolding snapshot_at
-states_are_read player_law list_law profile lines against base head to entities text rest codec are_lines from s =
+states_are_read player_law list_law profile baselines against base head to entities text rest codec are_baselines from s =
     let parts : text ++ rest ≡ s.player ++ (s.list ++ rest) = ap (λ (text : List Bool). text ++ rest) s.whole ∙ append_assoc s.player s.list rest in
     let player = player_law profile.code profile.player.kinds (base_player against) to s.player (s.list ++ rest) codec.code codec.player.kinds from.state s.state s.of_player in
-    let list = list_law profile.code profile.entity lines (base_entities against) entities s.list rest codec.code codec.entity are_lines from.list from.states s.of_list in
+    let list = list_law profile.code profile.entity baselines (base_entities against) entities s.list rest codec.code codec.entity are_baselines from.list from.states s.of_list in
     rw (parts, player, list) refl
 
 -- the same, with what follows them
@@ -190,10 +190,10 @@ base_named context number distance (Some base) near held may =
 
 held_is_spelled : (profile : Profile) (context : Context) (number distance : ℕ) (against : Option Base) (head : SnapHead) (bits : List Bool) (found : Told × List Bool)
     → distance < 256 → held_base context (number_of_base number distance) ≡ against → (distance ≡ 0) ⊎ IsSome (held_base context (number_of_base number distance))
-    → ReadStates profile context.lines against (number_of_base number distance) head bits found → ReadBehind profile context number distance head bits found
+    → ReadStates profile context.baselines against (number_of_base number distance) head bits found → ReadBehind profile context number distance head bits found
 held_is_spelled profile context number distance against head bits found near held may read =
     let base = number_of_base number distance in
-    let states = subst (λ (o : Option Base). SpellsStates profile context.lines o read.to read.entities read.text) (sym held) read.spells in
+    let states = subst (λ (o : Option Base). SpellsStates profile context.baselines o read.to read.entities read.text) (sym held) read.spells in
     record {
       text = read.text;
       spells = λ front of_head.
@@ -230,11 +230,11 @@ behind_was_spelled : player.ZeroIsNormal → player.ReadIsSpelled → entity.Lis
     → ReadBehind profile context number distance head bits found
 behind_was_spelled zero_is player_law list_law skip_law profile context number distance (Some base) head bits found near codec is held e =
     held_is_spelled profile context number distance (Some base) head bits found near held (inr (is_some (held_base context (number_of_base number distance)) base held))
-    (states_were_spelled player_law list_law profile context.lines (Some base) (number_of_base number distance) head bits found codec is.lines
+    (states_were_spelled player_law list_law profile context.baselines (Some base) (number_of_base number distance) head bits found codec is.baselines
     (held_is_normal profile context codec is zero_is (number_of_base number distance) (Some base) held) e)
 behind_was_spelled zero_is player_law list_law skip_law profile context number zero None head bits found near codec is held e =
     held_is_spelled profile context number 0 None head bits found near held (inl refl)
-    (states_were_spelled player_law list_law profile context.lines None (number_of_base number 0) head bits found codec is.lines
+    (states_were_spelled player_law list_law profile context.baselines None (number_of_base number 0) head bits found codec is.baselines
     (held_is_normal profile context codec is zero_is (number_of_base number 0) None held) e)
 behind_was_spelled zero_is player_law list_law skip_law profile context number (suc less) None head bits found near codec is held e =
     let distance = suc less in
@@ -364,7 +364,7 @@ pub record TakenSection (profile : Profile) (context : Context) (number : ℕ) (
 
 -- without a base, or against one that is held, a snapshot is read
 against_held : (profile : Profile) (context : Context) (distance base : ℕ) (against : Option Base) (head : SnapHead) (bits : List Bool) → (distance ≡ 0) ⊎ IsSome against
-    → against_base profile context distance base against head bits ≡ snapshot_at profile context.lines against base head bits
+    → against_base profile context distance base against head bits ≡ snapshot_at profile context.baselines against base head bits
 against_held profile context distance base (Some held) head bits may = refl
 against_held profile context zero base None head bits may = refl
 against_held profile context (suc near) base None head bits (inl none) = absurd (omega arith)
@@ -405,12 +405,12 @@ pub snapshot_is_read : PutIsRead → BytesAreRead → player.ZeroIsNormal → pl
 snapshot_is_read put bytes zero_is player_law list_law profile context number base snap entities text rest codec is s =
     let against = held_base context base in
     let head = record snap { player = zero_player } in
-    let states = states_are_read player_law list_law profile context.lines against base head snap.player entities (s.player ++ s.list) rest codec is.lines
+    let states = states_are_read player_law list_law profile context.baselines against base head snap.player entities (s.player ++ s.list) rest codec is.baselines
     (held_is_normal profile context codec is zero_is base against refl)
     (record { player = s.player; list = s.list; state = s.state; of_player = s.of_player; of_list = s.of_list; whole = refl }) in
     behind_head put bytes profile context number s.distance base snap (Snap base snap entities) text s.head s.player s.list rest codec s.of_head s.named s.whole
     (against_held profile context s.distance base against head (s.player ++ (s.list ++ rest)) s.held
-    ∙ ap (λ (bits : List Bool). snapshot_at profile context.lines against base head bits) (sym (append_assoc s.player s.list rest)) ∙ states)
+    ∙ ap (λ (bits : List Bool). snapshot_at profile context.baselines against base head bits) (sym (append_assoc s.player s.list rest)) ∙ states)
 
 pub skipped_is_read : PutIsRead → BytesAreRead → player.ZeroIsNormal → player.SpelledIsRead → entity.SpelledIsSkipped → (profile : Profile) (context : Context) (number base : ℕ) (text rest : List Bool)
     → IsCodec profile → SpellsSkippedSnapshot profile context number base text → TakenSection profile context number (Skipped base) text rest

@@ -9,7 +9,7 @@ use Rattle.q3_player.specs.Delta.{player_at}
 use Rattle.q3_player.specs.Spelling.{SpellsPlayer}
 use Rattle.q3_player.specs.Laws as player
 use Rattle.q3_entity.specs.declared.state.EntityState.{EntityState}
-use Rattle.q3_entity.specs.Baselines.{Lines, AreLines}
+use Rattle.q3_entity.specs.Baselines.{Baselines, AreBaselines}
 use Rattle.q3_entity.specs.Spelling.{SpellsList, SpellsSkipped}
 use Rattle.q3_entity.specs.Laws as entity
 use Rattle.q3_profile.specs.declared.profile.Profile.{Profile}
@@ -38,14 +38,14 @@ player_over spelled alike read profile from other to text codec is is' to_is s =
     (there.0, was.0, subst (SpellsPlayer words kinds other there.0) (all_read text was.2 was.3) was.4)
 
 -- the text of a list spells one that is skipped
-list_over : entity.ListSpelledIsRead → entity.ReadIsSkipped → entity.SkippedIsSpelled → (profile : Profile) (lines : Lines) (against : Option Base) (entities : List EntityState)
-    (text : List Bool) → IsCodec profile → AreLines profile.entity lines → IsFrom profile against → SpellsList profile.code profile.entity lines (base_entities against) entities text
+list_over : entity.ListSpelledIsRead → entity.ReadIsSkipped → entity.SkippedIsSpelled → (profile : Profile) (baselines : Baselines) (against : Option Base) (entities : List EntityState)
+    (text : List Bool) → IsCodec profile → AreBaselines profile.entity baselines → IsFrom profile against → SpellsList profile.code profile.entity baselines (base_entities against) entities text
     → SpellsSkipped profile.code profile.entity text
-list_over spelled skipped was profile lines against entities text codec are from s =
+list_over spelled skipped was profile baselines against entities text codec are from s =
     let words = profile.code in
     let table = profile.entity in
-    let here = spelled words table lines (base_entities against) entities text [] codec.code codec.entity are from.list from.states s in
-    let over = skipped words table lines (base_entities against) entities (text ++ []) [] codec.entity are from.states here in
+    let here = spelled words table baselines (base_entities against) entities text [] codec.code codec.entity are from.list from.states s in
+    let over = skipped words table baselines (base_entities against) entities (text ++ []) [] codec.entity are from.states here in
     let is = was words table (text ++ []) [] codec.code codec.entity over in
     subst (SpellsSkipped words table) (all_read text is.0 is.1) is.2
 
@@ -74,7 +74,7 @@ snapshot_over zero_is spelled alike read list_law skip_law skipped_law profile c
       of_head = record { under = head.under; time = head.time; near = head.near; flags = head.flags; area = head.area; short = head.short; text = head.text };
       state = player.1;
       of_player = player.2;
-      of_list = list_over list_law skip_law skipped_law profile context.lines (held_base context base) entities s.list codec is.lines from s.of_list;
+      of_list = list_over list_law skip_law skipped_law profile context.baselines (held_base context base) entities s.list codec is.baselines from s.of_list;
       whole = s.whole;
     }
 

@@ -46,7 +46,7 @@ may_be None number base named = inl (ap (distance_to number) named)
 
 section_is_spelled : WasWritten → (profile : Profile) (context : Context) (number : ℕ) (told : Told)
     → IsCodec profile → IsContext profile context → IsTold profile context told → HasNumber number told
-    → SpellsSection profile context number (normal_told profile told) (section_bits profile context.lines (base_in context told) told)
+    → SpellsSection profile context number (normal_told profile told) (section_bits profile context.baselines (base_in context told) told)
 unfolding section_bits snapshot_bits
 section_is_spelled below profile context number Nothing codec is_context is has_number = refl
 section_is_spelled below profile context number (Game game) codec is_context is has_number = below.game profile game codec is
@@ -61,7 +61,7 @@ section_is_spelled below profile context number (Snap base head entities) codec 
       held = may_be against head.number base is.2;
       head = head_bits words base head;
       player = player_delta words profile.player.kinds (base_player against) head.player;
-      list = entity_list_bits words profile.entity context.lines (base_entities against) entities;
+      list = entity_list_bits words profile.entity context.baselines (base_entities against) entities;
       of_head = record {
         under = has_number;
         time = is_head.time;
@@ -73,7 +73,7 @@ section_is_spelled below profile context number (Snap base head entities) codec 
       };
       state = (below.normal profile.player.kinds head.player codec.player.kinds is_head.player).0;
       of_player = below.player words profile.player.kinds (base_player against) head.player codec.code codec.player.kinds from.state from.normal is_head.player;
-      of_list = below.list words profile.entity context.lines (base_entities against) entities codec.code codec.entity is_context.lines from.list from.states from.normal_entities is.1.list is.1.states;
+      of_list = below.list words profile.entity context.baselines (base_entities against) entities codec.code codec.entity is_context.baselines from.list from.states from.normal_entities is.1.list is.1.states;
       whole = refl;
     }
 section_is_spelled below profile context number (Skipped base) codec is_context is has_number = absurd is
@@ -85,7 +85,7 @@ unfolding server_message_bits
 message_is_spelled below profile context number message codec is_context is =
     let words = profile.code in
     let commands = commands_bits words 5 message.commands in
-    let section = section_bits profile context.lines (base_in context message.section) message.section in
+    let section = section_bits profile context.baselines (base_in context message.section) message.section in
     record {
       ack = is.ack;
       few = is.few;

@@ -5,7 +5,7 @@ use Rattle.q3_player.specs.declared.head.SnapHead.{SnapHead}
 use Rattle.q3_player.specs.State.{IsState, IsNormal, normal_player}
 use Rattle.q3_entity.specs.declared.state.EntityState.{EntityState}
 use Rattle.q3_entity.specs.Entities.{normal_entity, IsList, AreStates, AreNormal}
-use Rattle.q3_entity.specs.Baselines.{AreLines}
+use Rattle.q3_entity.specs.Baselines.{AreBaselines}
 use Rattle.q3_profile.specs.declared.profile.Profile.{Profile}
 use Rattle.q3_profile.specs.Profile.{IsCodec}
 use Rattle.q3_gamestate.specs.Laws.{IsGamestate}
@@ -38,7 +38,7 @@ pub record IsBase (profile : Profile) (base : Base) : Type 0 where
 -- what a reader's bases and baselines are: in normal form
 pub record IsContext (profile : Profile) (context : Context) : Type 0 where
   pub bases : (number : ℕ) (base : Base) → context.base number ≡ Some base → IsBase profile base
-  pub lines : AreLines profile.entity context.lines
+  pub baselines : AreBaselines profile.entity context.baselines
 
 -- a message with a gamestate, with a snapshot, or with no section
 abbrev pub IsTold : Profile → Context → Told → Type 0
@@ -85,7 +85,7 @@ normal_told profile other = other
 abbrev pub WrittenIsRead : Type 0
 WrittenIsRead = (profile : Profile) (context : Context) (number : ℕ) (message : Message) (rest : List Bool) → IsCodec profile
     → IsContext profile context → IsMessage profile context number message
-    → server_message_at profile context number (server_message_bits profile context.lines (base_in context message.section) message ++ rest)
+    → server_message_at profile context number (server_message_bits profile context.baselines (base_in context message.section) message ++ rest)
     ≡ Ok (record message { section = normal_told profile message.section }, rest)
 
 -- what is written of a message spells it, its states in normal form
@@ -93,7 +93,7 @@ abbrev pub WrittenIsSpelled : Type 0
 WrittenIsSpelled = (profile : Profile) (context : Context) (number : ℕ) (message : Message) → IsCodec profile
     → IsContext profile context → IsMessage profile context number message
     → SpellsMessage profile context number (record message { section = normal_told profile message.section })
-    (server_message_bits profile context.lines (base_in context message.section) message)
+    (server_message_bits profile context.baselines (base_in context message.section) message)
 
 -- what is read as a message is well formed, its states in normal form, and was spelled so
 abbrev pub ReadIsSpelled : Type 0

@@ -11,7 +11,7 @@ use Rattle.q3_player.specs.declared.head.SnapHead.{SnapHead}
 use Rattle.q3_player.specs.State.{zero_player}
 use Rattle.q3_player.specs.Delta.{player_at}
 use Rattle.q3_entity.specs.declared.state.EntityState.{EntityState}
-use Rattle.q3_entity.specs.Baselines.{Lines}
+use Rattle.q3_entity.specs.Baselines.{Baselines}
 use Rattle.q3_entity.specs.Lists.{entity_list_at, list_skipped}
 use Rattle.q3_profile.specs.declared.profile.Profile.{Profile}
 use Rattle.q3_gamestate.specs.declared.error.GamestateError.{GamestateError}
@@ -61,10 +61,10 @@ game_at profile bits = do
   Ok (Game game.0, game.1)
 
 -- the player and the entities of a snapshot against a base, or without one
-unfoldable pub snapshot_at : Profile → Lines → Option Base → ℕ → SnapHead → List Bool → Result (Told × List Bool) Illegible
-snapshot_at profile lines against base head bits = do
+unfoldable pub snapshot_at : Profile → Baselines → Option Base → ℕ → SnapHead → List Bool → Result (Told × List Bool) Illegible
+snapshot_at profile baselines against base head bits = do
   player ← fault_as Player (player_at profile.code profile.player.kinds (base_player against) bits)
-  entities ← fault_as Entity (entity_list_at profile.code profile.entity lines (base_entities against) player.1)
+  entities ← fault_as Entity (entity_list_at profile.code profile.entity baselines (base_entities against) player.1)
   Ok (Snap base (record head { player = player.0 }) entities.0, entities.1)
 
 -- a snapshot whose base isn't held is read to its end
@@ -80,8 +80,8 @@ held_base context (suc base) = context.base (base + 1)
 
 -- the rest of a snapshot whose base is at a distance: without one, against one that is held, or skipped
 abbrev pub against_base : Profile → Context → ℕ → ℕ → Option Base → SnapHead → List Bool → Result (Told × List Bool) Illegible
-against_base profile context distance base (Some held) head bits = snapshot_at profile context.lines (Some held) base head bits
-against_base profile context zero base None head bits = snapshot_at profile context.lines None base head bits
+against_base profile context distance base (Some held) head bits = snapshot_at profile context.baselines (Some held) base head bits
+against_base profile context zero base None head bits = snapshot_at profile context.baselines None base head bits
 against_base profile context (suc distance) base None head bits = do
   skipped ← snapshot_skipped profile bits
   Ok (Skipped base, skipped.1)

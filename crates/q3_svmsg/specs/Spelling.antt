@@ -36,7 +36,7 @@ pub record SpellsSnapshot (profile : Profile) (context : Context) (number base :
   pub of_head : SpellsHead profile.code number distance snap head
   pub state : IsState snap.player
   pub of_player : SpellsPlayer profile.code profile.player.kinds (base_player (held_base context base)) snap.player player
-  pub of_list : SpellsList profile.code profile.entity context.lines (base_entities (held_base context base)) entities list
+  pub of_list : SpellsList profile.code profile.entity context.baselines (base_entities (held_base context base)) entities list
   pub whole : bits ≡ head ++ player ++ list
 
 -- a snapshot whose base isn't held: any that reads against the zero player, with entries against zero states

@@ -6,7 +6,7 @@ use Rattle.q3_strings.specs.Commands.{commands_bits}
 use Rattle.q3_player.specs.declared.head.SnapHead.{SnapHead}
 use Rattle.q3_player.specs.Delta.{player_delta}
 use Rattle.q3_entity.specs.declared.state.EntityState.{EntityState}
-use Rattle.q3_entity.specs.Baselines.{Lines}
+use Rattle.q3_entity.specs.Baselines.{Baselines}
 use Rattle.q3_entity.specs.Lists.{entity_list_bits}
 use Rattle.q3_profile.specs.declared.profile.Profile.{Profile}
 use Rattle.q3_gamestate.specs.Texts.{gamestate_bits}
@@ -19,22 +19,22 @@ head_bits words base head =
     ++ bytes_row words head.area.items
 
 -- a snapshot against the base of a number: its head, the player, and the entities
-unfoldable pub snapshot_bits : Profile → Lines → Option Base → ℕ → SnapHead → List EntityState → List Bool
-snapshot_bits profile lines against base head entities =
+unfoldable pub snapshot_bits : Profile → Baselines → Option Base → ℕ → SnapHead → List EntityState → List Bool
+snapshot_bits profile baselines against base head entities =
     head_bits profile.code base head
     ++ player_delta profile.code profile.player.kinds (base_player against) head.player
-    ++ entity_list_bits profile.code profile.entity lines (base_entities against) entities
+    ++ entity_list_bits profile.code profile.entity baselines (base_entities against) entities
 
 -- the section of a message; a snapshot that was skipped has no text of its own
-unfoldable pub section_bits : Profile → Lines → Option Base → Told → List Bool
-section_bits profile lines against (Game game) = gamestate_bits profile game
-section_bits profile lines against (Snap base head entities) = snapshot_bits profile lines against base head entities
-section_bits profile lines against other = []
+unfoldable pub section_bits : Profile → Baselines → Option Base → Told → List Bool
+section_bits profile baselines against (Game game) = gamestate_bits profile game
+section_bits profile baselines against (Snap base head entities) = snapshot_bits profile baselines against base head entities
+section_bits profile baselines against other = []
 
 -- a message: the last client command executed, the commands, each behind its operation 5, the section, and the end
-unfoldable pub server_message_bits : Profile → Lines → Option Base → Message → List Bool
-server_message_bits profile lines against message =
+unfoldable pub server_message_bits : Profile → Baselines → Option Base → Message → List Bool
+server_message_bits profile baselines against message =
     row_bits profile.code ((message.ack, 32) ∷ [])
     ++ commands_bits profile.code 5 message.commands
-    ++ section_bits profile lines against message.section
+    ++ section_bits profile baselines against message.section
     ++ row_bits profile.code ((8, 8) ∷ [])

@@ -8,7 +8,7 @@ use Rattle.q3_player.specs.State.{zero_player}
 use Rattle.q3_entity.specs.declared.state.EntityState.{EntityState}
 use Rattle.q3_fields.specs.Kinds.{Layout}
 use Rattle.q3_entity.specs.Entities.{IsList, run_of}
-use Rattle.q3_entity.specs.Baselines.{Lines}
+use Rattle.q3_entity.specs.Baselines.{Baselines}
 use Rattle.q3_entity_ring.specs.Snapshot.{Snapshot}
 use Rattle.q3_gamestate.specs.Values.{Gamestate, gamestate_of}
 use Rattle.q3_svmsg.specs.declared.message.Section.{Section}
@@ -39,7 +39,7 @@ base_entities (Some base) = base.entities
 -- what a reader knows: the snapshots that are held, by number, and the baselines
 pub record Context : Type 0 where
   pub base : ℕ → Option Base
-  pub lines : Lines
+  pub baselines : Baselines
 
 -- a message's section: none; a gamestate; a snapshot, with the number of its base, 0 for none; or a snapshot whose base
 -- isn't held and of which nothing is kept

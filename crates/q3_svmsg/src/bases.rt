@@ -27,7 +27,7 @@ pub trait Bases {
 
     /// The baselines.
     fn baselines(&self) -> &Baselines
-        ensures { result.now ≡ (context self.now).lines };
+        ensures { result.now ≡ (context self.now).baselines };
 }
 
 /// A base, or the zero player and no entities where there is none.

@@ -6,7 +6,7 @@ ghost use Rattle.q3_bits.specs.Streams.{Writes, Fills};
 ghost use Rattle.q3_bits.specs.Words.{row_bits};
 ghost use Rattle.q3_text.specs.Commands.{commands_of};
 ghost use Rattle.q3_strings.specs.Commands.{commands_bits};
-ghost use Rattle.q3_entity.specs.Baselines.{Lines, no_lines};
+ghost use Rattle.q3_entity.specs.Baselines.{Baselines, no_baselines};
 ghost use Rattle.q3_entity.specs.Entities.{IsList, run_of};
 ghost use Rattle.q3_svmsg.specs.Values.{HasSnap, IsNamed, Game, base_viewed, base_entities, distance_to, game_of, told_of, parts_told, game_told};
 ghost use Rattle.q3_svmsg.specs.Texts.{head_bits, snapshot_bits, server_message_bits};
@@ -82,7 +82,7 @@ pub fn write_game(
     requires game { message.now.section ≡ Section.Game }
     requires some { 1 ≤ length into.old }
     requires most { length into.old ≤ 16384 }
-    ensures { (lines : Lines) → Fills into.old into.new (server_message_bits profile.now lines None (told_of message.now)) result }
+    ensures { (baselines : Baselines) → Fills into.old into.new (server_message_bits profile.now baselines None (told_of message.now)) result }
 {
     write_game_parts(profile, game_parts_of(message), into)
 }
@@ -95,7 +95,7 @@ pub fn write_game_parts(
 ) -> Result<usize, Overflow>
     requires some { 1 ≤ length into.old }
     requires most { length into.old ≤ 16384 }
-    ensures { (lines : Lines) → Fills into.old into.new (server_message_bits profile.now lines None (game_told parts.entry)) result }
+    ensures { (baselines : Baselines) → Fills into.old into.new (server_message_bits profile.now baselines None (game_told parts.entry)) result }
 {
     fill_game(profile, parts, into)
 }
@@ -104,7 +104,7 @@ pub fn write_game_parts(
 fn fill_game(profile: &Profile, parts: GameParts, into: &mut [u8]) -> Result<usize, Overflow>
     requires some { 1 ≤ length into.old }
     requires most { length into.old ≤ 16384 }
-    ensures { Fills into.old into.new (server_message_bits profile.now no_lines None (game_told parts.entry)) result }
+    ensures { Fills into.old into.new (server_message_bits profile.now no_baselines None (game_told parts.entry)) result }
 {
     let mut w = Writer::new(&profile.code, into.len());
     write_game_bits(&mut w, profile, parts)?;
@@ -186,7 +186,7 @@ fn write_snap_bits(
 /// Writes a message with a gamestate: the front, the gamestate, and the end.
 #[tactic(auto, unfolding(crate::specs::Texts::server_message_bits, crate::specs::Texts::section_bits))]
 fn write_game_bits(w: &mut Writer, profile: &Profile, parts: GameParts) -> Result<(), Overflow>
-    ensures { Writes w.old w.new (server_message_bits (record profile.now { code = w.old.words }) no_lines None (game_told parts.entry)) result }
+    ensures { Writes w.old w.new (server_message_bits (record profile.now { code = w.old.words }) no_baselines None (game_told parts.entry)) result }
 {
     laws::texts_are_written();
     write_front(w, parts.ack, parts.commands)?;

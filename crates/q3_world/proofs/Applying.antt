@@ -70,7 +70,7 @@ IsBuiltSkipped state took n built =
     × (apply_message state n built.message
     ≡ heard_with state built.message.commands (passes (hearing state built.message.commands) n (Skipped (number_of built.base) (EntitiesGone age))))
 
-pub applies_message : RingLaws → (state : AppliedState) (took : List Snapshot) (n : ℕ) (built : Built) (telling : Telling) (snapshot : Snapshot) → built ≡ built_of telling built.lines built.base snapshot
+pub applies_message : RingLaws → (state : AppliedState) (took : List Snapshot) (n : ℕ) (built : Built) (telling : Telling) (snapshot : Snapshot) → built ≡ built_of telling built.baselines built.base snapshot
     → SnapshotsStandFor took state.held → state.held.newest < n → IfSome built.base (λ b. IsNear n b × Contains took b)
     → IsBuiltAccepted state took n built snapshot ⊎ IsBuiltSkipped state took n built
 applies_message laws state took n built telling snapshot is stands newer known =
@@ -91,7 +91,7 @@ applies_message laws state took n built telling snapshot is stands newer known =
     ]
 
 -- one with a gamestate is applied: it takes the place of all before
-pub applies_game_message : (state : AppliedState) (n : ℕ) (built : Built) (telling : Telling) (game : Gamestate) → built ≡ game_built_of telling built.lines game
+pub applies_game_message : (state : AppliedState) (n : ℕ) (built : Built) (telling : Telling) (game : Gamestate) → built ≡ game_built_of telling built.baselines game
     → apply_message state n built.message ≡ heard_with state built.message.commands (applies_game (hearing state built.message.commands) n game)
 applies_game_message state n built telling game is =
     let message_is : built.message ≡ game_message_of telling game = ap (λ (b : Built). b.message) is in

@@ -69,7 +69,7 @@ use Rattle.q3_clstate.specs.declared.applied.SnapOutcome.TheVariants.{Skipped}
 use Rattle.q3_map.specs.Map.{MapState, is_other}
 use Rattle.q3_slot.specs.declared.stage.ClientStage.{ClientStage}
 use Rattle.q3_world.proofs.GamesMoves.{since_more, since_none, since_were, issued_most, AreSince-started}
-use Rattle.q3_world.proofs.Mapped.{fresh_own, jump_same, mapped_accepted, mapped_base, mapped_lines, mapped_other, mapped_started, mapped_runs, mapped_passed}
+use Rattle.q3_world.proofs.Mapped.{fresh_own, jump_same, mapped_accepted, mapped_base, mapped_baselines, mapped_other, mapped_started, mapped_runs, mapped_passed}
 use Rattle.q3_world.proofs.Plays.{plays_are, plays_on}
 use Rattle.q3_world.specs.Games.{Carries, accepted_since, AreMapped, standing_of}
 use Rattle.std.proofs.lemmas.Bool.{cases_Bool}
@@ -196,7 +196,7 @@ pub record Named (profile : Profile) (whole : Whole) (c n : ℕ) (slot : SlotSta
   pub carries : (telling : Telling) (one : BuildsGame profile telling built) → Carries (history_at whole.histories c).built n one.game
   pub base : client.gathering.taken < n
       → IfSome built.base (KnownBase n (history_at whole.histories c).built (accepted_since (history_at whole.histories c).games (history_at whole.histories c).accepted))
-  pub lines : client.gathering.taken < n → IfSome built.under (λ game. client.state.lines ≡ built.lines)
+  pub baselines : client.gathering.taken < n → IfSome built.under (λ game. client.state.baselines ≡ built.baselines)
   pub hears : client.gathering.taken < n → ClientHears slot client (history_at whole.histories c) n built
 
 pub names : (profile : Profile) (whole : Whole) (tag : Tag) (slot : SlotState) (place : Place) → Cited profile → IsFor profile whole tag → Has profile whole tag.client slot place
@@ -212,7 +212,7 @@ names profile whole tag slot place cited is had =
       was = λ telling one. names_built profile whole tag is.1 telling one;
       carries = λ telling one. record { some = is.1.some; begun = is.1.begun; is = ap (λ (b : Built). b.message.section) one.is };
       base = λ newer. mapped_base whole.ends.server.map slot place.client history tag.number newer is.1.begun had.joined.mapped (waits_none profile place.client.challenge tag.number (named whole.histories tag) built) known;
-      lines = λ newer. mapped_lines whole.ends.server.map slot place.client history tag.number newer is.1.begun had.joined.mapped;
+      baselines = λ newer. mapped_baselines whole.ends.server.map slot place.client history tag.number newer is.1.begun had.joined.mapped;
       hears = λ newer. client_hears cited.below.windows.flow slot place.client history tag.number newer is.1.begun had.joined.commanded;
     }
 
@@ -227,7 +227,7 @@ received_alike profile whole c n slot place built cited had named_is newer =
     let since = accepted_since history.games history.accepted in
     let were = since_were history.games history.accepted (WasBuilt history.built) takes.accepted in
     let hears = named_is.hears newer in
-    cited.reads place.client n built named_is.is had.keeps.of_client.by had.keeps.of_client.applied (named_is.lines newer) hears.takes hears.text
+    cited.reads place.client n built named_is.is had.keeps.of_client.by had.keeps.of_client.applied (named_is.baselines newer) hears.takes hears.text
     (if_some_then built.base (KnownBase n history.built since) (λ base. IsSnapshot profile base × HoldsThis place.client.state.held base)
     (λ base known. (was_built_is profile slot.challenge history.built base are known.1, holds_this cited.below.rings place.client.state.held history.built since base takes.stands were known.1))
     (named_is.base newer))

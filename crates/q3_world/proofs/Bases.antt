@@ -13,7 +13,7 @@ use Rattle.q3_world.specs.Layers.{ServerLaws}
 use Rattle.q3_world.specs.World.{Played, History, no_history, no_message, history_at, with_history, built_at}
 use Rattle.q3_world.specs.Games.{last_played, accepted_before, accepted_since}
 use Rattle.q3_world.specs.StandsFor.{snapshot_in, WasBuilt, HasSnapshot, AreOfBuilt, KeepsFrames, WasAccepted}
-use Rattle.q3_entity.specs.Baselines.{Lines}
+use Rattle.q3_entity.specs.Baselines.{Baselines}
 use Rattle.q3_world.proofs.OnePlace.{set_there, OnlyAt-set}
 use Rattle.q3_world.proofs.Growth.{built_stays, was_built_more}
 
@@ -26,10 +26,10 @@ was_built_one built x y same first second =
     some_one x y (sym first.2 ∙ (ap (λ (n : ℕ). snapshot_in (built_at built n).message.section) same ∙ second.2))
 
 -- what was built last was built
-pub was_built_last : (built : List Built) (telling : Telling) (lines : Lines) (base : Option Snapshot) (snapshot : Snapshot) → snapshot.head.number ≡ length built + 1
-    → WasBuilt (built ++ built_of telling lines base snapshot ∷ []) snapshot
-was_built_last built telling lines base snapshot number =
-    let next = built_of telling lines base snapshot in
+pub was_built_last : (built : List Built) (telling : Telling) (baselines : Baselines) (base : Option Snapshot) (snapshot : Snapshot) → snapshot.head.number ≡ length built + 1
+    → WasBuilt (built ++ built_of telling baselines base snapshot ∷ []) snapshot
+was_built_last built telling baselines base snapshot number =
+    let next = built_of telling baselines base snapshot in
     let place : length built ≡ snapshot.head.number - 1 = omega (arith, number) in (
       omega (arith, number),
       omega (arith, number, length_push built next),
@@ -81,14 +81,14 @@ frames_of_game frames c began next none are number held is some few has =
     none_some e = absurd cc
 
 -- of a client for which a snapshot more was begun
-pub frames_begun : ServerLaws → (frames : FramesState) (c : ℕ) (began : List Built) (telling : Telling) (lines : Lines) (base : Option Snapshot) (snapshot : Snapshot)
-    → snapshot.head.number ≡ length began + 1 → AreOfBuilt frames c began → AreOfBuilt (build_at frames c snapshot) c (began ++ built_of telling lines base snapshot ∷ [])
-frames_begun laws frames c began telling lines base snapshot number_is are number held is some few has =
-    let next = built_of telling lines base snapshot in
+pub frames_begun : ServerLaws → (frames : FramesState) (c : ℕ) (began : List Built) (telling : Telling) (baselines : Baselines) (base : Option Snapshot) (snapshot : Snapshot)
+    → snapshot.head.number ≡ length began + 1 → AreOfBuilt frames c began → AreOfBuilt (build_at frames c snapshot) c (began ++ built_of telling baselines base snapshot ∷ [])
+frames_begun laws frames c began telling baselines base snapshot number_is are number held is some few has =
+    let next = built_of telling baselines base snapshot in
     elim (laws.held frames c c number snapshot held is) [
       | inl this ↦ (
         ap (λ (s : Snapshot). s.head.number) this.2 ∙ sym this.1,
-        subst (WasBuilt (began ++ next ∷ [])) (sym this.2) (was_built_last began telling lines base snapshot number_is),
+        subst (WasBuilt (began ++ next ∷ [])) (sym this.2) (was_built_last began telling baselines base snapshot number_is),
       )
       | inr before ↦
           elim (cases_eq number snapshot.head.number) [

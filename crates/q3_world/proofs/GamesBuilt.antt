@@ -76,7 +76,7 @@ AreMapped-new profile challenge qport address map =
         each = All-nil _;
         rise = λ j k d lt within. absurd (omega (arith, within));
         maps = λ j k x y d lt within told same. absurd (omega (arith, within));
-        shows = record { has = refl; id = refl; strings = no_strings_tell; slot = refl; feed = refl; lines = refl };
+        shows = record { has = refl; id = refl; strings = no_strings_tell; slot = refl; feed = refl; baselines = refl };
       };
       said = All-nil _;
       under = λ n g some begun is. absurd (omega (arith, some, begun));
@@ -98,7 +98,7 @@ under_front built games next n g some begun is are =
       was = old.was;
       below = old.below;
       last = λ k game carries lt. old.last k game (carries_front built (next ∷ []) k game (omega (arith, lt, begun)) carries) lt;
-      lines = λ game carries. ap (λ (b : Built). b.lines) stays ∙ old.lines game (carries_front built (next ∷ []) g game (omega (arith, below, begun)) carries);
+      baselines = λ game carries. ap (λ (b : Built). b.baselines) stays ∙ old.baselines game (carries_front built (next ∷ []) g game (omega (arith, below, begun)) carries);
       base = subst (λ (b : Built). IfSome b.base (λ (base : Snapshot). g < base.head.number)) (sym stays) old.base;
     }
 
@@ -172,11 +172,11 @@ module _ (map : MapState) (slot : Standing) (state : AppliedState) (taken last_t
   }
 
   -- what a snapshot is built under
-  snapshot_under : (next : Built) (n g : ℕ) → HasNone next → next.under ≡ plays_under slot.stage slot.game → next.lines ≡ map.lines
+  snapshot_under : (next : Built) (n g : ℕ) → HasNone next → next.under ≡ plays_under slot.stage slot.game → next.baselines ≡ map.baselines
       → IfSome next.base (λ base. (0 < base.head.number) × (base.head.number ≡ (if is_active slot.stage then slot.delta else 0)))
       → AreMapped map slot state taken last_time built games began accepted executed → n ≡ length built + 1 → next.under ≡ Some g
       → BuiltUnder (built ++ next ∷ []) games n g
-  snapshot_under next n g none under lines base are number is =
+  snapshot_under next n g none under baselines base are number is =
       let of = plays slot.stage slot.game g (sym under ∙ is) in
       let last : HasLast map built (Some g) = subst (HasLast map built) of.1 are.stands.last in
       let begun = last.0.1.begun in
@@ -186,11 +186,11 @@ module _ (map : MapState) (slot : Standing) (state : AppliedState) (taken last_t
         was = subst (WasPlayed games) (some_same active.1.0 g (sym active.1.1 ∙ of.1)) active.1.2;
         below = omega (arith, begun, number);
         last = λ k game carries lt. last.1 k game (carries_before built next k game none carries);
-        lines = λ game carries.
-            ap (λ (b : Built). b.lines) at
-            ∙ (lines
+        baselines = λ game carries.
+            ap (λ (b : Built). b.baselines) at
+            ∙ (baselines
             ∙ (sym (are.of_maps.same g last.0.0 last.0.1 last.0.2).1
-            ∙ ap (λ (x : Gamestate). x.lines) (carries_one built g last.0.0 game last.0.1 (carries_before built next g game none carries))));
+            ∙ ap (λ (x : Gamestate). x.baselines) (carries_one built g last.0.0 game last.0.1 (carries_before built next g game none carries))));
         base = subst (λ (b : Built). IfSome b.base (λ (base : Snapshot). g < base.head.number)) (sym at)
             (some_then next.base (λ (base : Snapshot). (0 < base.head.number) × (base.head.number ≡ (if is_active slot.stage then slot.delta else 0))) (λ (base : Snapshot). g < base.head.number)
             (λ base e from.
@@ -209,11 +209,11 @@ module _ (map : MapState) (slot : Standing) (state : AppliedState) (taken last_t
       }
 
   -- a snapshot is begun, against the one that the slot asks for where its client plays, or whole
-  pub AreMapped-snapshot : (next : Built) → HasNone next → next.under ≡ plays_under slot.stage slot.game → next.lines ≡ map.lines
+  pub AreMapped-snapshot : (next : Built) → HasNone next → next.under ≡ plays_under slot.stage slot.game → next.baselines ≡ map.baselines
       → IfSome next.base (λ base. (0 < base.head.number) × (base.head.number ≡ (if is_active slot.stage then slot.delta else 0)))
       → AreMapped map slot state taken last_time built games began accepted executed
       → AreMapped map slot state taken last_time (built ++ next ∷ []) games began accepted executed
-  AreMapped-snapshot next none under lines base are =
+  AreMapped-snapshot next none under baselines base are =
       let stands = are.stands in
       record {
         of_maps = record {
@@ -232,7 +232,7 @@ module _ (map : MapState) (slot : Standing) (state : AppliedState) (taken last_t
         };
         has = has_more state taken last_time built games accepted executed next are.has;
         said = are.said;
-        under = under_more built games next are.under (λ n g number is. snapshot_under next n g none under lines base are number is);
+        under = under_more built games next are.under (λ n g number is. snapshot_under next n g none under baselines base are number is);
         delta = are.delta;
         ran = are.ran;
         acks = are.acks;
@@ -240,11 +240,11 @@ module _ (map : MapState) (slot : Standing) (state : AppliedState) (taken last_t
 
   -- a gamestate of the map is begun, where one is owed
   pub AreMapped-game : (next : Built) (game : Gamestate) (n : ℕ) → n ≡ length built + 1 → slot.owed ≡ true → next.message.section ≡ told.Game game
-      → next.under ≡ plays_under slot.stage slot.game → Tells game map.id → game.lines ≡ map.lines → game.feed ≡ map.feed
+      → next.under ≡ plays_under slot.stage slot.game → Tells game map.id → game.baselines ≡ map.baselines → game.feed ≡ map.feed
       → taken ≤ length built → All (λ (s : Said). s.message.acknowledged ≤ length built) began
       → AreMapped map slot state taken last_time built games began accepted executed
       → AreMapped (begins_game map) (record slot { stage = Primed; game = Some n; owed = false }) state taken last_time (built ++ next ∷ []) games began accepted executed
-  AreMapped-game next game n number owed section under tells lines feed few acks are =
+  AreMapped-game next game n number owed section under tells baselines feed few acks are =
       let stands = are.stands in
       let owes = stands.owed owed in
       let begun : Carries (built ++ next ∷ []) n game =
@@ -281,7 +281,7 @@ module _ (map : MapState) (slot : Standing) (state : AppliedState) (taken last_t
             | inl before ↦ let same = are.of_maps.same k x before told in (refl, same.1, same.2)
             | inr last ↦
                 let one = the_game x last.1 in
-                (refl, sym (ap (λ (x : Gamestate). x.lines) one) ∙ lines, sym (ap (λ (x : Gamestate). x.feed) one) ∙ feed)
+                (refl, sym (ap (λ (x : Gamestate). x.baselines) one) ∙ baselines, sym (ap (λ (x : Gamestate). x.feed) one) ∙ feed)
           ];
         };
         stands = record {

@@ -46,7 +46,7 @@ pub record GoesOn (state after : AppliedState) (texts : List (List ℕ)) : Type 
   pub id : after.id ≡ state.id
   pub slot : after.slot ≡ state.slot
   pub feed : after.feed ≡ state.feed
-  pub lines : after.lines ≡ state.lines
+  pub baselines : after.baselines ≡ state.baselines
   pub strings : after.strings ≡ after_commands state.strings texts
 
 -- behind the commands of a message
@@ -60,7 +60,7 @@ goes_on state commands number held own is =
       id = id_behind settings (fresh_of state.executed.executed commands) own is;
       slot = refl;
       feed = refl;
-      lines = refl;
+      baselines = refl;
       strings = strings_behind settings (fresh_of state.executed.executed commands);
     }
 
@@ -75,7 +75,7 @@ module _ (state after : AppliedState) (executed texts : List (List ℕ)) (goes :
         strings = ap server_id goes.strings ∙ (ids_stay state.strings texts own ∙ fresh.strings);
         slot = goes.slot ∙ fresh.slot;
         feed = goes.feed ∙ fresh.feed;
-        lines = goes.lines ∙ fresh.lines;
+        baselines = goes.baselines ∙ fresh.baselines;
       }
   shows_on (Some played) within of =
       record {
@@ -83,7 +83,7 @@ module _ (state after : AppliedState) (executed texts : List (List ℕ)) (goes :
         id = of.id ∙ ap Some (sym goes.id);
         slot = goes.slot ∙ of.slot;
         feed = goes.feed ∙ of.feed;
-        lines = goes.lines ∙ of.lines;
+        baselines = goes.baselines ∙ of.baselines;
         strings = goes.strings
             ∙ (ap (λ (strings : Strings). after_commands strings texts) of.strings
             ∙ (sym (after_commands-append played.game.strings (drop played.executed executed) texts)

@@ -5,7 +5,7 @@ use Rattle.std.proofs.lemmas.Bool.{both_ways, cond_both}
 use Rattle.q3_client.specs.Sending.{Said}
 use Rattle.q3_clstate.specs.State.{AppliedState}
 use Rattle.q3_config.specs.Strings.{Strings}
-use Rattle.q3_entity.specs.Baselines.{Lines, with_line}
+use Rattle.q3_entity.specs.Baselines.{Baselines, with_baseline}
 use Rattle.q3_entity.specs.Entities.{normal_entity}
 use Rattle.q3_entity.specs.declared.state.EntityState.{EntityState}
 use Rattle.q3_fields.specs.Kinds.{Layout}
@@ -62,7 +62,7 @@ module _ (map : MapState) (slot : Standing) (state : AppliedState) (taken last_t
 
   -- the map changed in what no gamestate of it tells, or none was begun
   pub AreMapped-changed : (new : MapState) → new.id ≡ map.id
-      → (map.begun ≡ true → (new.begun ≡ true) × (new.lines ≡ map.lines) × (new.feed ≡ map.feed))
+      → (map.begun ≡ true → (new.begun ≡ true) × (new.baselines ≡ map.baselines) × (new.feed ≡ map.feed))
       → AreMapped map slot state taken last_time built games began accepted executed → AreMapped new slot state taken last_time built games began accepted executed
   AreMapped-changed new id keeps are =
       let stands = are.stands in
@@ -98,10 +98,10 @@ module _ (map : MapState) (slot : Standing) (state : AppliedState) (taken last_t
       → AreMapped (set_baseline_at table map entity).map slot state taken last_time built games began accepted executed
   AreMapped-baseline table entity are =
       cond_both map.begun (record { map = map; answer = Err (record {}) })
-      (record { map = record map { lines = with_line map.lines (normal_entity table entity) }; answer = Ok tt })
+      (record { map = record map { baselines = with_baseline map.baselines (normal_entity table entity) }; answer = Ok tt })
       (λ (handed : Handed Late). AreMapped handed.map slot state taken last_time built games began accepted executed)
       (λ e. are)
-      (λ is. AreMapped-changed (record map { lines = with_line map.lines (normal_entity table entity) }) refl (λ e. absurd (both_ways map.begun is e)) are)
+      (λ is. AreMapped-changed (record map { baselines = with_baseline map.baselines (normal_entity table entity) }) refl (λ e. absurd (both_ways map.begun is e)) are)
 
 -- ---- for every client
 
@@ -121,11 +121,11 @@ module _ (map : MapState) where
       AreMapped-changed map slot state taken last_time built games began accepted executed (record map { strings = strings }) refl (λ e. (e, refl, refl)) are
 
   -- baselines change before a gamestate was begun
-  pub AreMapped-lined : (lines : Lines) → map.begun ≡ false → (slot : Standing) (state : AppliedState) (taken last_time : ℕ) (built : List Built) (games : List Played) (began : List Said)
+  pub AreMapped-baselined : (baselines : Baselines) → map.begun ≡ false → (slot : Standing) (state : AppliedState) (taken last_time : ℕ) (built : List Built) (games : List Played) (began : List Said)
       (accepted : List Snapshot) (executed : List (List ℕ)) → AreMapped map slot state taken last_time built games began accepted executed
-      → AreMapped (record map { lines = lines }) slot state taken last_time built games began accepted executed
-  AreMapped-lined lines before slot state taken last_time built games began accepted executed are =
-      AreMapped-changed map slot state taken last_time built games began accepted executed (record map { lines = lines }) refl (λ e. absurd (both_ways map.begun before e)) are
+      → AreMapped (record map { baselines = baselines }) slot state taken last_time built games began accepted executed
+  AreMapped-baselined baselines before slot state taken last_time built games began accepted executed are =
+      AreMapped-changed map slot state taken last_time built games began accepted executed (record map { baselines = baselines }) refl (λ e. absurd (both_ways map.begun before e)) are
 
   -- and a gamestate was begun for another client
   pub AreMapped-begun : (slot : Standing) (state : AppliedState) (taken last_time : ℕ) (built : List Built) (games : List Played) (began : List Said)

@@ -25,7 +25,7 @@ use Rattle.q3_world.proofs.GamesParts.{cases_option, is_past, is_some_number, la
 -- a snapshot that was built for a client that played: it has its baselines, and a base of it that it accepted was accepted since its
 -- last gamestate
 pub record IsKnown (state : AppliedState) (built : List Built) (games : List Played) (accepted : List Snapshot) (n : ℕ) : Type 0 where
-  pub lines : state.lines ≡ (built_at built n).lines
+  pub baselines : state.baselines ≡ (built_at built n).baselines
   pub base : IfSome (built_at built n).base (λ base. Contains accepted base → Contains (accepted_since games accepted) base)
 
 module _ (map : MapState) (slot : Standing) (state : AppliedState) (taken last_time : ℕ) (built : List Built) (games : List Played) (began : List Said)
@@ -68,7 +68,7 @@ module _ (map : MapState) (slot : Standing) (state : AppliedState) (taken last_t
             let number : played.number ≡ g = omega (arith, low, high, e) in
             let of = MatchOption-at_some (IsFresh state) (λ (played : Played). IsOf state played executed) played some.1 are.has.shows in
             record {
-              lines = of.lines ∙ sym (under.lines played.game (subst (λ (k : ℕ). Carries built k played.game) number carries));
+              baselines = of.baselines ∙ sym (under.baselines played.game (subst (λ (k : ℕ). Carries built k played.game) number carries));
               base = some_then (built_at built n).base (λ (base : Snapshot). g < base.head.number) (λ (base : Snapshot). Contains accepted base → Contains (accepted_since games accepted) base)
                   (λ base e behind there. subst (λ (since : List Snapshot). Contains since base) (sym (since_is games accepted played some.1))
                   (since_then played base applied (omega (arith, behind, number)) there)) under.base;
@@ -255,14 +255,14 @@ module _ (map : MapState) (slot : Standing) (state : AppliedState) (taken last_t
                 id = the_id game heard.id tells;
                 slot = refl;
                 feed = refl;
-                lines = refl;
+                baselines = refl;
                 strings = strings_are game.strings (executed ++ texts);
               });
         };
         said = All-weaker (IsSaidUnder games accepted) (IsSaidUnder (games ++ next ∷ []) accepted) (λ said is. said_later games next accepted said (omega arith) is) began are.said;
         under = λ m g some begun is.
             let old = are.under m g some begun is in
-            record { was = played_more games next g old.was; below = old.below; last = old.last; lines = old.lines; base = old.base };
+            record { was = played_more games next g old.was; below = old.below; last = old.last; baselines = old.baselines; base = old.base };
         delta = elim are.delta [
           | inl none ↦ inl none
           | inr under ↦ inr (under.0, under.1, under.2, under_later games next accepted under.0 slot.delta (omega arith) under.3)

@@ -15,7 +15,7 @@ use Rattle.arrayvec.specs.ArrayVec.{ArrayVec}
 use Rattle.q3_fields.specs.States.{AreWords}
 use Rattle.q3_entity.specs.declared.state.EntityState.{EntityState}
 use Rattle.q3_entity.specs.Entities.{normal_entity}
-use Rattle.q3_entity.specs.Baselines.{with_line}
+use Rattle.q3_entity.specs.Baselines.{with_baseline}
 use Rattle.q3_text.specs.Texts.{IsText}
 use Rattle.q3_config.specs.declared.error.ConfigError.{ConfigError}
 use Rattle.q3_config.specs.Strings.{with_string, admit_fault}
@@ -62,7 +62,7 @@ use Rattle.q3_world.proofs.Given.{with_new_slot, Holds-player, Holds-area, with_
 use Rattle.q3_world.proofs.EverySlot.{LeavesClient, Holds-every}
 use Rattle.q3_world.proofs.Maps.{pieces_own}
 use Rattle.q3_world.proofs.GamesBuilt.{AreMapped-new}
-use Rattle.q3_world.proofs.GamesMaps.{AreMapped-map, AreMapped-given, AreMapped-configured, AreMapped-lined}
+use Rattle.q3_world.proofs.GamesMaps.{AreMapped-map, AreMapped-given, AreMapped-configured, AreMapped-baselined}
 use Rattle.q3_world.proofs.Mapped.{mapped_issued}
 use Rattle.q3_world.proofs.Issuing.{joined_told, Holds-spoken, Holds-typed}
 use Rattle.q3_world.proofs.Agree.{Cited, kept_of, Agree, found_or, unnoted, left_alone}
@@ -210,14 +210,14 @@ pub holds_baseline : (profile : Profile) (whole : Whole) (state : EntityState) �
 holds_baseline profile whole state cited words holds =
     let map = whole.ends.server.map in
     let entity = normal_entity profile.entity state in
-    let next = record map { lines = with_line map.lines entity } in
+    let next = record map { baselines = with_baseline map.baselines entity } in
     in_range_holds profile whole state.number (answers.Baseline state.number (Err unset.OutOfRange)) (at_server.set_baseline whole.ends.server state) holds (λ lt.
     subst (λ (p : Profile). Holds profile (with_map whole (set_baseline_at p.entity map state).map)) (sym holds.facts.by)
     (cond_both map.begun (record { map = map; answer = Err (record {}) }) (record { map = next; answer = Ok tt })
     (λ (handed : HandedMap Late). IsMap profile handed.map → Holds profile (with_map whole handed.map))
     (λ begun is. holds)
-    (λ before is. Holds-map profile whole next is (joined_stays profile map next (AreMapped-lined map (with_line map.lines entity) before)) holds)
-    (cited.below.maps.lined profile map state cited.codec lt words holds.facts.map)))
+    (λ before is. Holds-map profile whole next is (joined_stays profile map next (AreMapped-baselined map (with_baseline map.baselines entity) before)) holds)
+    (cited.below.maps.baselined profile map state cited.codec lt words holds.facts.map)))
 
 -- ---- config strings
 

@@ -142,7 +142,7 @@ served_built profile whole c slot cited lt is fits clear holds =
           let pushed = map_push bytes_of whole.sent (handed_tag c (slot_begun profile slot next) first) in
           let built = next_is_built profile whole c slot place cited lt had.1 fits clear holds in
           let kept = KeepsFrames-built cited.below.server frames whole.histories c (with_built history (Some next)) (next_snapshot map slot) lt holds.facts.histories
-          (frames_begun cited.below.server frames c history.built (telling_of profile slot) map.lines next.base (next_snapshot map slot) (omega (arith, begun, number)) are) holds.facts.frames in
+          (frames_begun cited.below.server frames c history.built (telling_of profile slot) map.baselines next.base (next_snapshot map slot) (omega (arith, begun, number)) are) holds.facts.frames in
           let mapped = mapped_snapshot map slot client history next (has_snapshot next refl) refl refl (asked_base slot next history.built (slot.sending.number + 1) base) joined.mapped in
           rw short (record {
             same = rw (count, pushed) refl;

@@ -64,20 +64,20 @@ has_snapshot {base = base} {head = head} {entities = entities} next is game e = 
     apart same = absurd cc
 
 pub mapped_snapshot : (map : MapState) (slot : SlotState) (client : ClientState) (history : History) (next : Built) → HasNone next → next.under ≡ plays_under slot.stage slot.game
-    → next.lines ≡ map.lines → IfSome next.base (λ base. (0 < base.head.number) × (base.head.number ≡ (if is_active slot.stage then slot.delta else 0))) → Mapped map slot client history
+    → next.baselines ≡ map.baselines → IfSome next.base (λ base. (0 < base.head.number) × (base.head.number ≡ (if is_active slot.stage then slot.delta else 0))) → Mapped map slot client history
     → AreMapped map (standing_of slot) client.state client.gathering.taken client.last_time (history.built ++ next ∷ []) history.games history.said history.accepted history.client_executed
-mapped_snapshot map slot client history next none under lines base mapped =
+mapped_snapshot map slot client history next none under baselines base mapped =
     AreMapped-snapshot map (standing_of slot) client.state client.gathering.taken client.last_time history.built history.games history.said history.accepted history.client_executed next none under
-    lines base mapped
+    baselines base mapped
 
 pub mapped_game : (map : MapState) (slot : SlotState) (client : ClientState) (history : History) (next : Built) (game : Gamestate) → slot.owed ≡ true → next.message.section ≡ told.Game game
-    → next.under ≡ plays_under slot.stage slot.game → Tells game map.id → game.lines ≡ map.lines → game.feed ≡ map.feed → slot.sending.number ≡ length history.built
+    → next.under ≡ plays_under slot.stage slot.game → Tells game map.id → game.baselines ≡ map.baselines → game.feed ≡ map.feed → slot.sending.number ≡ length history.built
     → client.gathering.taken ≤ length history.built → Mapped map slot client history
     → AreMapped (begins_game map) (standing_of (primed slot (slot.sending.number + 1))) client.state client.gathering.taken client.last_time (history.built ++ next ∷ []) history.games history.said
     history.accepted history.client_executed
-mapped_game map slot client history next game owed is under tells lines feed begun taken mapped =
+mapped_game map slot client history next game owed is under tells baselines feed begun taken mapped =
     AreMapped-game map (standing_of slot) client.state client.gathering.taken client.last_time history.built history.games history.said history.accepted history.client_executed next game
-    (slot.sending.number + 1) (omega (arith, begun)) owed is under tells lines feed taken
+    (slot.sending.number + 1) (omega (arith, begun)) owed is under tells baselines feed taken
     (acks_built map (standing_of slot) client.state client.gathering.taken client.last_time history.built history.games history.said history.accepted history.client_executed taken mapped) mapped
 
 -- ---- a client begins a message
@@ -113,10 +113,10 @@ mapped_known map slot client history n newer begun mapped g is =
     known_under map (standing_of slot) client.state client.gathering.taken client.last_time history.built history.games history.said history.accepted history.client_executed n g newer begun is mapped
 
 -- its baselines are the ones by which it was built
-pub mapped_lines : (map : MapState) (slot : SlotState) (client : ClientState) (history : History) (n : ℕ) → client.gathering.taken < n → n ≤ length history.built → Mapped map slot client history
-    → IfSome (built_at history.built n).under (λ game. client.state.lines ≡ (built_at history.built n).lines)
-mapped_lines map slot client history n newer begun mapped =
-    if_some (built_at history.built n).under (λ game. client.state.lines ≡ (built_at history.built n).lines) (λ g is. (mapped_known map slot client history n newer begun mapped g is).lines)
+pub mapped_baselines : (map : MapState) (slot : SlotState) (client : ClientState) (history : History) (n : ℕ) → client.gathering.taken < n → n ≤ length history.built → Mapped map slot client history
+    → IfSome (built_at history.built n).under (λ game. client.state.baselines ≡ (built_at history.built n).baselines)
+mapped_baselines map slot client history n newer begun mapped =
+    if_some (built_at history.built n).under (λ game. client.state.baselines ≡ (built_at history.built n).baselines) (λ g is. (mapped_known map slot client history n newer begun mapped g is).baselines)
 
 -- and its base was accepted since the last gamestate; of one that was built for a client that didn't play there is none
 pub mapped_base : (map : MapState) (slot : SlotState) (client : ClientState) (history : History) (n : ℕ) → client.gathering.taken < n → n ≤ length history.built → Mapped map slot client history

@@ -4,7 +4,7 @@ use Rattle.std.specs.Prelude.{◌≡◌, ◌≢◌, ℕ, ◌<◌, ◌≤◌, ◌
 use Rattle.std.specs.List.{last_or}
 use Rattle.q3_config.specs.Strings.{server_id}
 use Rattle.q3_config.specs.Changes.{after_commands}
-use Rattle.q3_entity.specs.Baselines.{no_lines}
+use Rattle.q3_entity.specs.Baselines.{no_baselines}
 use Rattle.q3_clmsg.specs.declared.moves.Move.{Move}
 use Rattle.q3_gamestate.specs.Values.{Gamestate}
 use Rattle.q3_svmsg.specs.Values as told
@@ -54,7 +54,7 @@ standing_of slot = record { stage = slot.stage; game = slot.game; owed = slot.ow
 pub record OfMaps (map : MapState) (built : List Built) : Type 0 where
   pub ids : (n id : ℕ) (game : Gamestate) → Carries built n game → Tells game id → (1 ≤ id) × (id ≤ map.id)
   pub rise : (m n x y : ℕ) (first second : Gamestate) → Carries built m first → Carries built n second → m < n → Tells first x → Tells second y → x ≤ y
-  pub same : (n : ℕ) (game : Gamestate) → Carries built n game → Tells game map.id → (map.begun ≡ true) × (game.lines ≡ map.lines) × (game.feed ≡ map.feed)
+  pub same : (n : ℕ) (game : Gamestate) → Carries built n game → Tells game map.id → (map.begun ≡ true) × (game.baselines ≡ map.baselines) × (game.feed ≡ map.feed)
 
 -- a slot whose last gamestate of the present map is that of a number: none was built behind it; or none of the map was built
 abbrev pub HasLast : MapState → List Built → Option ℕ → Type 0
@@ -89,7 +89,7 @@ pub record IsOf (state : AppliedState) (played : Played) (executed : List (List 
   pub id : Tells played.game state.id
   pub slot : state.slot ≡ played.game.slot
   pub feed : state.feed ≡ played.game.feed
-  pub lines : state.lines ≡ played.game.lines
+  pub baselines : state.baselines ≡ played.game.baselines
   pub strings : state.strings ≡ after_commands played.game.strings (drop played.executed executed)
 
 -- and of one that applied none: its strings tell no id
@@ -99,7 +99,7 @@ pub record IsFresh (state : AppliedState) : Type 0 where
   pub strings : server_id state.strings ≡ None
   pub slot : state.slot ≡ 0
   pub feed : state.feed ≡ 0
-  pub lines : state.lines ≡ no_lines
+  pub baselines : state.baselines ≡ no_baselines
 
 -- the last gamestate that was applied, if one was
 abbrev pub last_played : List Played → Option Played
@@ -176,7 +176,7 @@ pub record BuiltUnder (built : List Built) (games : List Played) (n g : ℕ) : T
   pub was : WasPlayed games g
   pub below : g < n
   pub last : (k : ℕ) (game : Gamestate) → Carries built k game → k < n → k ≤ g
-  pub lines : (game : Gamestate) → Carries built g game → (built_at built n).lines ≡ game.lines
+  pub baselines : (game : Gamestate) → Carries built g game → (built_at built n).baselines ≡ game.baselines
   pub base : IfSome (built_at built n).base (λ base. g < base.head.number)
 
 -- each message for a client that played is so

@@ -14,7 +14,7 @@ use Rattle.q3_text.specs.declared.text.Command.{Command}
 use Rattle.q3_clmsg.specs.declared.moves.Move.{Move}
 use Rattle.q3_clmsg.specs.Values.{empty_message}
 use Rattle.q3_entity_ring.specs.Snapshot.{Snapshot}
-use Rattle.q3_entity.specs.Baselines.{no_lines}
+use Rattle.q3_entity.specs.Baselines.{no_baselines}
 use Rattle.q3_config.specs.Laws.{piece_texts}
 use Rattle.q3_gamestate.specs.Values.{Gamestate}
 use Rattle.q3_svmsg.specs.Values as told
@@ -130,7 +130,7 @@ no_key = record { start = None; text = [] }
 
 -- what stands where no message was built
 abbrev pub no_message : Built
-no_message = built_of (record { ack = 0; commands = []; last = 0; under = None; key = no_key }) no_lines None (record { head = empty_head; entities = [] })
+no_message = built_of (record { ack = 0; commands = []; last = 0; under = None; key = no_key }) no_baselines None (record { head = empty_head; entities = [] })
 
 -- and where none was said
 abbrev pub no_said : Said

@@ -7,7 +7,7 @@ returns c =
     let below : Below = record {
       strings = c.strings_stay.ensures;
       texts = c.texts_stay.ensures;
-      lines = c.no_lines_are_lines.ensures;
+      baselines = c.none_are_baselines.ensures;
       read = c.read_is_spelled.ensures;
       snapshots = c.snapshots_stay.ensures;
     } in

@@ -1,11 +1,11 @@
 use Rattle.std.proofs.Common.{◌≡◌, ◌≢◌, ◌<◌, ◌++◌, ◌∷◌, [], ℕ, List, get_or, set, length, refl, subst, sym, ap, ◌∙◌, rules, arith}
 use Rattle.q3_entity.specs.declared.state.EntityState.{EntityState}
-use Rattle.q3_entity.specs.KeptBaselines.{nowhere, lines_in, AreKept}
+use Rattle.q3_entity.specs.KeptBaselines.{nowhere, baselines_in, AreKept}
 use Rattle.q3_entity.proofs.Placed.{few, place_is, replaced, added}
 use Rattle.q3_entity.proofs.baselines.put.Goals as goal
 
-pub returns-then-place-clause-lines : goal.returns-then-place-clause-lines
-returns-then-place-clause-lines c =
+pub returns-then-place-clause-baselines : goal.returns-then-place-clause-baselines
+returns-then-place-clause-baselines c =
     let places = c.args.places.now.items in
     let states = c.args.states.now.items in
     let state = c.args.state.now in
@@ -14,7 +14,7 @@ returns-then-place-clause-lines c =
     let at : c.from.result ≡ get_or places state.number nowhere = c.from.ensures ∙ read in
     let some : get_or places state.number nowhere ≢ nowhere = λ none. c.if-place.true (read ∙ none) in
     let is = replaced places states state.number state c.requires.kept c.requires.number refl some in
-    ap (λ (n : ℕ). lines_in places (set states n state)) at ∙ is.lines
+    ap (λ (n : ℕ). baselines_in places (set states n state)) at ∙ is.baselines
 
 pub overflow_cast-len : goal.overflow_cast-len
 overflow_cast-len c = omega (arith, c.len.ensures, few c.args.places.now.items c.args.states.now.items c.requires.kept)
@@ -29,8 +29,8 @@ unwrap-requires c =
     let is = added places states state.number state c.requires.kept c.requires.number refl (sym read ∙ c.if-place.false) in
     c.push.ensures.succeeds (omega (arith, is.room, c.requires.room))
 
-pub returns-clause-lines : goal.returns-clause-lines
-returns-clause-lines c =
+pub returns-clause-baselines : goal.returns-clause-baselines
+returns-clause-baselines c =
     let places = c.args.places.now.items in
     let states = c.args.states.now.items in
     let state = c.args.state.now in
@@ -39,10 +39,10 @@ returns-clause-lines c =
     let is = added places states state.number state c.requires.kept c.requires.number refl (sym read ∙ c.if-place.false) in
     let len : c.len.result ≡ length states = search rules in
     let pushed : c.push.new.self.items ≡ states ++ state ∷ [] = rw c.unwrap.ensures at c.push.ensures.items in
-    ap (λ (i : ℕ). lines_in (set places i c.len.result) c.push.new.self.items) c.from-number.ensures
-    ∙ ap (λ (n : ℕ). lines_in (set places state.number n) c.push.new.self.items) len
-    ∙ ap (λ (ss : List EntityState). lines_in (set places state.number (length states)) ss) pushed
-    ∙ is.lines
+    ap (λ (i : ℕ). baselines_in (set places i c.len.result) c.push.new.self.items) c.from-number.ensures
+    ∙ ap (λ (n : ℕ). baselines_in (set places state.number n) c.push.new.self.items) len
+    ∙ ap (λ (ss : List EntityState). baselines_in (set places state.number (length states)) ss) pushed
+    ∙ is.baselines
 
 pub returns-clause-kept : goal.returns-clause-kept
 returns-clause-kept c =

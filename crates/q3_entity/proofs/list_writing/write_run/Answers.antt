@@ -22,16 +22,16 @@ loop-entity-preserved c =
     let law = c.texts_are_written.ensures in
     let h = c.loop-entity.invariant in
     let table = c.args.table.now in
-    let lines = c.args.baselines.now in
+    let baselines = c.args.baselines.now in
     let words = c.args.w.now.words in
     let left = run_of c.loop-entity.left in
     let to = c.in-Some.entity.now in
     let others = run_of c.in-Some.others in
     let next = c.in-Some.ensures in
-    let t = is_turn words table lines c.loop-entity.w.words left to others (law.words _ _ _ _ h.written) h.base (subst (RiseFrom (end_mark table) 0) next h.now) in
-    let written = law.more _ _ _ _ _ _ _ h.written (ap (entity_list_bits words table lines left) next ∙ t.text) c.in_ok-behind.ensures.writes in
+    let t = is_turn words table baselines c.loop-entity.w.words left to others (law.words _ _ _ _ h.written) h.base (subst (RiseFrom (end_mark table) 0) next h.now) in
+    let written = law.more _ _ _ _ _ _ _ h.written (ap (entity_list_bits words table baselines left) next ∙ t.text) c.in_ok-behind.ensures.writes in
     let behind = c.in_ok-behind.ensures.left in
-    let s = is_skipped words table lines c.last_changed_is_least.ensures (left_behind to left) others _ _ (rw behind at c.skip_same-in-Some.ensures) t.rise t.rise-now in
+    let s = is_skipped words table baselines c.last_changed_is_least.ensures (left_behind to left) others _ _ (rw behind at c.skip_same-in-Some.ensures) t.rise t.rise-now in
     record {
       written = rw s.text at written;
       base = s.rise;
@@ -56,8 +56,8 @@ returns c =
     let h = c.loop-entity.invariant in
     let table = c.args.table.now in
     let words = c.args.w.now.words in
-    let lines = c.args.baselines.now in
+    let baselines = c.args.baselines.now in
     let left = run_of c.loop-entity.left in
-    let ends = ap (entity_list_bits words table lines left) c.in_default.ensures ∙ entity_list_bits-ends words table lines left h.base in
-    c.texts_are_written.ensures.then _ _ _ h.written.written (entity_list_bits words table lines (run_of c.args.base) (run_of c.args.now))
+    let ends = ap (entity_list_bits words table baselines left) c.in_default.ensures ∙ entity_list_bits-ends words table baselines left h.base in
+    c.texts_are_written.ensures.then _ _ _ h.written.written (entity_list_bits words table baselines (run_of c.args.base) (run_of c.args.now))
     (λ ws. end_bits ws table left) _ (sym h.written.parts ∙ ap (λ t. h.written.written ++ t) ends) h.written.writes c.write_end.ensures

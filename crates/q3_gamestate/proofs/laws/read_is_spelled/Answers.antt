@@ -7,7 +7,7 @@ returns c =
       put = c.read_was_put.ensures;
       string = c.string_read_is_spelled.ensures;
       no_entity = c.zero_is_normal.ensures;
-      no_lines = c.no_lines_are_lines.ensures;
-      line = c.line_is_added.ensures;
+      no_baselines = c.none_are_baselines.ensures;
+      baseline = c.baseline_is_added.ensures;
       entry = c.entry_read_is_spelled.ensures;
     })

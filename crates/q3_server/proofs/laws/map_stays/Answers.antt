@@ -1,4 +1,4 @@
-use Rattle.q3_server.proofs.KeepsMap.{map_none, map_timed, map_entered, map_removed, map_begun, map_new, map_lined, map_configured}
+use Rattle.q3_server.proofs.KeepsMap.{map_none, map_timed, map_entered, map_removed, map_begun, map_new, map_baselined, map_configured}
 use Rattle.q3_server.proofs.laws.map_stays.Goals as goal
 
 pub returns : goal.returns
@@ -11,6 +11,6 @@ returns c =
       removed = map_removed below;
       begun = map_begun;
       new_map = map_new below;
-      lined = map_lined below;
+      baselined = map_baselined below;
       configured = map_configured below;
     }

@@ -25,7 +25,7 @@ returns c =
       written =
           subst (λ (built : Built). HoldsBuilt c.args.profile.now built c.write_against.new.buffer c.write_against.result)
           (is_begun c.args.profile.now map c.args.frames.now c.build.new.frames c.args.to.slot c.args.sender.now (new_gathering (client_form None)) c.args.to.issued.now client
-          c.fill.new.head.number snapshot map.lines c.fill.ensures.number snapshot_is c.build.ensures.built refl)
+          c.fill.new.head.number snapshot map.baselines c.fill.ensures.number snapshot_is c.build.ensures.built refl)
           c.write_against.ensures;
       frames = c.build.ensures.built ∙ ap (build_at c.args.frames.now c.args.to.slot) snapshot_is;
       slots = search rules;

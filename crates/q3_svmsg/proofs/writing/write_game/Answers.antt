@@ -4,7 +4,7 @@ use Rattle.q3_svmsg.proofs.writing.write_game.Goals as goal
 
 pub returns : goal.returns
 returns c =
-    λ lines.
+    λ baselines.
     let message = c.args.message.now in
     let is = ap (λ section. record (told_of message) { section = section_of section (game_of message) message.head message.entities.value.items }) c.requires.game in
-    rw (is, ← c.game_parts_of.ensures) (c.write_game_parts.ensures lines)
+    rw (is, ← c.game_parts_of.ensures) (c.write_game_parts.ensures baselines)

@@ -24,7 +24,7 @@ returns-in-Snap-default-true-clause-state c =
     let commands : c.as_slice.result.now ≡ message.commands = search rules in
     let ran : c.as_slice-2.result.now ≡ fresh_of now.executed.executed message.commands = search rules in
     let heard = hearing now message.commands in
-    rw (← c.self.view_is, ← c.in_ok-read_server_message.ensures.reads, held, c.accept-snap.ensures.held, c.accept-snap.ensures.lines, c.execute.ensures.window, commands, c.execute-2.ensures, ran)
+    rw (← c.self.view_is, ← c.in_ok-read_server_message.ensures.reads, held, c.accept-snap.ensures.held, c.accept-snap.ensures.baselines, c.execute.ensures.window, commands, c.execute-2.ensures, ran)
     (snap_state heard c.args.number base (record { head = message.head; entities = message.entities.value.items }) (is_stale now.held c.args.number))
 
 pub returns-in-Snap-default-false-clause-state : goal.returns-in-Snap-default-false-clause-state
@@ -65,7 +65,7 @@ invariant_of-self-in-Snap-default-true c =
     let heard = hearing now message.commands in
     record {
       applied = stands_as (state_behind now (apply_at now c.args.number c.args.message.now)) _ (c.apply_stays.ensures.apply now c.args.number c.args.message.now fits c.self.invariant.applied)
-          (rw (← c.in_ok-read_server_message.ensures.reads, held, c.accept-snap.ensures.held, c.accept-snap.ensures.lines, c.execute.ensures.window, commands, c.execute-2.ensures, ran)
+          (rw (← c.in_ok-read_server_message.ensures.reads, held, c.accept-snap.ensures.held, c.accept-snap.ensures.baselines, c.execute.ensures.window, commands, c.execute-2.ensures, ran)
           (snap_state heard c.args.number base (record { head = message.head; entities = message.entities.value.items }) (is_stale now.held c.args.number)));
       none = c.accept-snap.ensures.none;
     }
@@ -97,6 +97,6 @@ invariant_of-self-in-Game c =
     let ran : c.as_slice-2.result.now ≡ fresh_of now.executed.executed message.commands = search rules in
     record {
       applied = stands_as (state_behind now (apply_at now c.args.number c.args.message.now)) _ (c.apply_stays.ensures.apply now c.args.number c.args.message.now fits c.self.invariant.applied)
-          (rw (← c.in_ok-read_server_message.ensures.reads, game, c.start.ensures.settings, c.start-in-Game.ensures.held, c.start-in-Game.ensures.lines, c.start.ensures.lines, c.jump.ensures, c.execute.ensures.window, commands, c.execute-2.ensures, ran) refl);
+          (rw (← c.in_ok-read_server_message.ensures.reads, game, c.start.ensures.settings, c.start-in-Game.ensures.held, c.start-in-Game.ensures.baselines, c.start.ensures.baselines, c.jump.ensures, c.execute.ensures.window, commands, c.execute-2.ensures, ran) refl);
       none = c.start-in-Game.ensures.none;
     }

@@ -1,7 +1,7 @@
 use Rattle.std.proofs.Common.{rules, ◌<◌, sym, subst}
 use Rattle.q3_fields.specs.Kinds.{end_mark}
 use Rattle.q3_server.specs.Server.{ServerState}
-use Rattle.q3_server.proofs.KeepsServer.{server_lined}
+use Rattle.q3_server.proofs.KeepsServer.{server_baselined}
 use Rattle.q3_server.proofs.server.Server.set_baseline.Goals as goal
 
 pub invariant_of-self : goal.invariant_of-self
@@ -14,5 +14,5 @@ invariant_of-self c =
       search rules,
       search rules,
       search rules,
-      server_lined c.self.inside.profile c.self.inside.map c.set_baseline.new.self c.self.inside.slots.items c.below.ensures c.args.state.now c.set_baseline.result below c.are_words.ensures c.set_baseline.ensures was.5,
+      server_baselined c.self.inside.profile c.self.inside.map c.set_baseline.new.self c.self.inside.slots.items c.below.ensures c.args.state.now c.set_baseline.result below c.are_words.ensures c.set_baseline.ensures was.5,
     )
