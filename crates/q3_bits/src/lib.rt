@@ -7,11 +7,13 @@ pub mod laws;
 mod lengths;
 pub mod reader;
 pub mod report;
+pub mod widths;
 pub mod words;
 pub mod writer;
 
 pub use code::{Code, NoMemory};
 pub use reader::{ReadError, Reader};
 pub use report::bits_word;
+pub use widths::{BIT, BYTE, LONG, SHORT};
 pub use words::CodeError;
-pub use writer::{Overflow, Writer};
+pub use writer::{LONGEST_MESSAGE, Overflow, Writer};

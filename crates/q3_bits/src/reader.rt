@@ -8,6 +8,7 @@ ghost use Rattle.q3_bits.specs.Unread.{bits_ahead, found_ahead, IsFull};
 
 use crate::ahead::Ahead;
 use crate::code::Code;
+use crate::widths::BYTE;
 use std::marker::Model;
 
 /// Why no value could be read.
@@ -195,7 +196,7 @@ impl<'a> Reader<'a> {
         ensures reads { Reads self.old self.new (field_at self.old.words 8 self.old.left) result }
         ensures err { OnErr result (self.new ≡ self.old) }
     {
-        Ok(self.get_each(8)? as u8)
+        Ok(self.get_each(BYTE)? as u8)
     }
 
     /// Reads a field whose bits were gathered and whose words are short; where they aren't, nothing.

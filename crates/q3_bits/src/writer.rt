@@ -11,6 +11,9 @@ ghost use Rattle.std.specs.Int.{w64, to_le_bytes};
 use crate::code::{Code, Word};
 use std::marker::Model;
 
+/// The longest message, in bytes, the engine's `MAX_MSGLEN` (qcommon.h).
+pub const LONGEST_MESSAGE: usize = 16_384;
+
 /// The field doesn't fit the room of the message.
 #[derive(Clone, Copy, Debug, PartialEq, Eq)]
 pub struct Overflow;
@@ -21,7 +24,7 @@ pub struct Writer<'a> {
     code: &'a Code,
     room: usize,
     count: usize,
-    bytes: [u8; 16_384],
+    bytes: [u8; LONGEST_MESSAGE],
 }
 
 impl<'a> Model for Writer<'a> {
@@ -350,7 +353,7 @@ fn two_words(low: Word, high: Word) -> Gathered
 }
 
 /// Writes bits behind those that lie in the bytes, `place` of them.
-fn store(bytes: &mut [u8; 16_384], place: usize, bits: u64, count: u32)
+fn store(bytes: &mut [u8; LONGEST_MESSAGE], place: usize, bits: u64, count: u32)
     requires few { count ≤ 56 }
     requires fits { bits < 2 ^ count }
     requires within { (place + count) / 8 < 16384 }
@@ -380,7 +383,7 @@ fn store_eight(bytes: &mut [u8], first: usize, number: u64)
 /// The same as `store`, byte by byte.
 #[cold]
 #[inline(never)]
-fn store_each(bytes: &mut [u8; 16_384], place: usize, bits: u64, count: u32)
+fn store_each(bytes: &mut [u8; LONGEST_MESSAGE], place: usize, bits: u64, count: u32)
     requires few { count ≤ 56 }
     requires fits { bits < 2 ^ count }
     requires within { (place + count) / 8 < 16384 }

@@ -15,7 +15,7 @@ ghost use Rattle.q3_built.specs.Built.{is_unclear};
 ghost use Rattle.q3_built.specs.Writing.{HoldsMessage, HoldsScrambled, game_message_in, snapshot_in};
 
 use crate::parts::{SnapshotParts, TellingParts, Written};
-use q3_bits::Overflow;
+use q3_bits::{LONG, Overflow};
 use q3_chan::{Side, scramble_server};
 use q3_entity::Run;
 use q3_gamestate::Numbers;
@@ -27,7 +27,7 @@ use q3_svmsg::{GameParts, SnapParts, write_game_parts, write_parts};
 pub fn is_unclear(profile: &Profile, ack: u32) -> bool
     ensures { result ≡ is_unclear profile.now ack }
 {
-    let bits = profile.code.row_length(&[(ack, 32)]);
+    let bits = profile.code.row_length(&[(ack, LONG)]);
     q3_chan::is_unclear(profile.protocol, Side::Server, bits)
 }
 

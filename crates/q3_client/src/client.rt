@@ -16,7 +16,7 @@ ghost use Rattle.q3_client.specs.Client.{new_client, type_at, take_at, is_accept
 ghost use Rattle.q3_client.specs.Moves.{add_move_at};
 ghost use Rattle.q3_client.specs.Sending.{emit_at, emit_new, wants_delta, IsSaid};
 
-use crate::moves::{Issued, MOST_MOVES, carry, is_issuable};
+use crate::moves::{Issued, carry, is_issuable};
 use crate::receiving::{gather, receive};
 use crate::saying::{is_unclear, write_scrambled};
 use arrayvec::ArrayVec;
@@ -25,7 +25,7 @@ use q3_bits::NoMemory;
 use q3_chan::{
     Datagram, Gathered, Gatherer, LONGEST_MESSAGE, SEQUENCE_END, Sender, Side, check_for,
 };
-use q3_clmsg::Move;
+use q3_clmsg::{MOST_MOVES, Move};
 use q3_clstate::{Applied, ClState, Log, SnapOutcome};
 use q3_profile::Profile;
 use q3_rings::SnapView;
@@ -128,7 +128,7 @@ pub struct Client {
     /// The time of the last move that it issued on any map, in milliseconds, 0 for none.
     last_time: u32,
     /// A place for the moves of a message.
-    carried: ArrayVec<Move, 32>,
+    carried: ArrayVec<Move, MOST_MOVES>,
     /// A place for the bytes of a message that is written: 16,384.
     buffer: Vec<u8>,
 }

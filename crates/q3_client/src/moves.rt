@@ -8,11 +8,8 @@ ghost use Rattle.q3_client.specs.Moves.{most_moves, is_issuable, is_carried, car
 
 use arrayvec::ArrayVec;
 use circular_buffer::HeapCircularBuffer;
-use q3_clmsg::Move;
 use q3_clmsg::laws::is_held_move;
-
-/// How many of the newest moves a client keeps, and how many a message may carry.
-pub(crate) const MOST_MOVES: usize = 32;
+use q3_clmsg::{MOST_MOVES, Move};
 
 /// A move that was issued.
 #[derive(Clone, Copy, Debug, PartialEq, Eq)]
@@ -48,7 +45,7 @@ pub(crate) fn carry(
     moves: &HeapCircularBuffer<Issued>,
     number: u32,
     dup: u8,
-    into: &mut ArrayVec<Move, 32>,
+    into: &mut ArrayVec<Move, MOST_MOVES>,
 )
     requires { moves.now.capacity ≡ most_moves }
     ensures carried { into.new.items ≡ carried number dup moves.now.items }

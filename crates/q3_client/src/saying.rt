@@ -17,7 +17,7 @@ ghost use Rattle.q3_client.specs.Moves.{most_moves};
 ghost use Rattle.q3_client.specs.Sending.{message_with};
 ghost use Rattle.q3_client.specs.Saying.{FillsScrambled};
 
-use q3_bits::Overflow;
+use q3_bits::{LONG, Overflow};
 use q3_chan::{Side, scramble_client};
 use q3_clmsg::{Move, SaidParts, message_key, write_said};
 use q3_clstate::ClState;
@@ -28,7 +28,11 @@ use q3_window::Outgoing;
 pub(crate) fn is_unclear(state: &ClState, acknowledged: u32) -> bool
     ensures { result ≡ is_unclear state.now.profile.protocol Client (length (row_bits state.now.profile.code ((state.now.id, 32) ∷ (acknowledged, 32) ∷ (state.now.executed.executed, 32) ∷ []))) }
 {
-    let longs = [(state.id(), 32), (acknowledged, 32), (state.executed(), 32)];
+    let longs = [
+        (state.id(), LONG),
+        (acknowledged, LONG),
+        (state.executed(), LONG),
+    ];
     let profile = state.profile();
     q3_chan::is_unclear(
         profile.protocol,

@@ -6,7 +6,7 @@ ghost use Rattle.q3_bits.specs.Bits.{bits_of};
 ghost use Rattle.q3_bits.specs.Streams.{Reads};
 ghost use Rattle.q3_clmsg.specs.Reading.{heads_at, heads_in};
 
-use q3_bits::{Code, ReadError, Reader};
+use q3_bits::{Code, LONG, ReadError, Reader};
 
 /// What a message says before its operations, and how many bits that takes.
 #[derive(Clone, Copy, Debug, PartialEq, Eq)]
@@ -34,9 +34,9 @@ pub(crate) fn heads_from(r: &mut Reader) -> Result<Heads, ReadError>
     requires { r.old.place ≡ 0 }
     ensures { Reads r.old r.new (heads_at r.old.words r.old.left) result }
 {
-    let id = r.get(32)?;
-    let acknowledged = r.get(32)?;
-    let command = r.get(32)?;
+    let id = r.get(LONG)?;
+    let acknowledged = r.get(LONG)?;
+    let command = r.get(LONG)?;
     Ok(Heads {
         id,
         acknowledged,

@@ -15,7 +15,7 @@ pub mod writing;
 pub use error::ClientIllegible;
 pub use heads::{Heads, read_heads};
 pub use message::{ClientMessage, SaidParts};
-pub use moves::{Move, message_key};
+pub use moves::{MOST_MOVES, Move, message_key};
 pub use print::print_move;
 pub use reading::read_client_message;
 pub use writing::{write_client_message, write_said};

@@ -2,7 +2,7 @@
 
 ghost use Rattle.std.specs.Prelude.{◌≡◌, IfOk};
 
-use crate::moves::Move;
+use crate::moves::{MOST_MOVES, Move};
 use arrayvec::ArrayVec;
 use q3_bits::NoMemory;
 use q3_text::{CommandRun, Commands};
@@ -21,7 +21,7 @@ pub struct ClientMessage {
     pub commands: Commands,
     /// Whether the server may write snapshots against the one of the newest message. It is false without moves.
     pub delta: bool,
-    pub moves: ArrayVec<Move, 32>,
+    pub moves: ArrayVec<Move, MOST_MOVES>,
 }
 
 /// A message whose parts are lent by those who keep them. Each part is as in `ClientMessage`.

@@ -8,8 +8,11 @@ ghost use Rattle.q3_bits.specs.Streams.{Reads, Writes, holding};
 ghost use Rattle.q3_clmsg.specs.Moves.{message_key as key_of_message, AreFields, move_widths, no_move, fields_of, move_of, step_of, hidden as hidden_by, time_bits, field_delta, changed_bits, fields_bits, move_delta, moves_bits, time_at, field_over, fields_at, move_at, moves_at};
 
 use arrayvec::ArrayVec;
-use q3_bits::{Overflow, ReadError, Reader, Writer, laws};
+use q3_bits::{BIT, BYTE, LONG, Overflow, ReadError, Reader, Writer, laws};
 use q3_text::{Text, hash_key};
+
+/// How many moves a message may carry, the engine's `MAX_PACKET_USERCMDS` (qcommon.h); a client keeps as many of its newest.
+pub const MOST_MOVES: usize = 32;
 
 /// How many fields a move has beside its time.
 const FIELDS: usize = 8;
@@ -154,9 +157,9 @@ fn write_time(w: &mut Writer, from: u32, to: u32) -> Result<(), Overflow>
 {
     let difference = to.wrapping_sub(from);
     if difference < 256 {
-        return w.put_all(&[(1, 1), (difference, 8)]);
+        return w.put_all(&[(1, BIT), (difference, BYTE)]);
     }
-    w.put_all(&[(0, 1), (to, 32)])
+    w.put_all(&[(0, BIT), (to, LONG)])
 }
 
 /// Writes a mark, and behind a mark of change the fields.
@@ -170,9 +173,9 @@ fn write_changed(
 {
     laws::texts_are_written();
     if from == to {
-        return w.put(0, 1);
+        return w.put(0, BIT);
     }
-    w.put(1, 1)?;
+    w.put(1, BIT)?;
     write_fields(w, key, from, to)
 }
 
@@ -201,9 +204,9 @@ fn write_field(w: &mut Writer, key: u32, width: u32, from: u32, to: u32) -> Resu
     ensures { Writes w.old w.new (field_delta w.old.words key width from to) result }
 {
     if from == to {
-        return w.put(0, 1);
+        return w.put(0, BIT);
     }
-    w.put_all(&[(1, 1), (hidden(key, width, to), width)])
+    w.put_all(&[(1, BIT), (hidden(key, width, to), width)])
 }
 
 /// Reads so many moves, each behind the one before, the first behind none.
@@ -211,7 +214,7 @@ pub(crate) fn read_moves(
     r: &mut Reader,
     key: u32,
     count: u32,
-    into: &mut ArrayVec<Move, 32>,
+    into: &mut ArrayVec<Move, MOST_MOVES>,
 ) -> Result<(), ReadError>
     requires { count ≤ 32 }
     ensures { Reads r.old r.new (moves_at r.old.words key count no_move r.old.left) (holding into.new.items result) }
@@ -231,7 +234,7 @@ fn read_move(r: &mut Reader, key: u32, from: &Move) -> Result<Move, ReadError>
     ensures { Reads r.old r.new (move_at r.old.words key from.now r.old.left) result }
 {
     let time = read_time(r, from.time)?;
-    if r.get(1)? == 0 {
+    if r.get(BIT)? == 0 {
         return Ok(Move { time, ..*from });
     }
     let mut fields = fields(from);
@@ -244,10 +247,10 @@ fn read_move(r: &mut Reader, key: u32, from: &Move) -> Result<Move, ReadError>
 fn read_time(r: &mut Reader, from: u32) -> Result<u32, ReadError>
     ensures { Reads r.old r.new (time_at r.old.words from r.old.left) result }
 {
-    if r.get(1)? == 0 {
-        return r.get(32);
+    if r.get(BIT)? == 0 {
+        return r.get(LONG);
     }
-    Ok(from.wrapping_add(r.get(8)?))
+    Ok(from.wrapping_add(r.get(BYTE)?))
 }
 
 /// Reads the fields over those that stand there.
@@ -272,7 +275,7 @@ fn read_field(r: &mut Reader, key: u32, width: u32, from: u32) -> Result<u32, Re
     ensures reads { Reads r.old r.new (field_over r.old.words key width from r.old.left) result }
     ensures fits { IfOk result (λ field. field < 2 ^ width) }
 {
-    if r.get(1)? == 0 {
+    if r.get(BIT)? == 0 {
         return Ok(from);
     }
     Ok(hidden(key, width, r.get(width)?))

@@ -12,10 +12,10 @@ ghost use Rattle.q3_clmsg.specs.Reading.{section_at, moved_at, operations_at, cl
 use crate::error::ClientIllegible;
 use crate::heads::heads_from;
 use crate::message::ClientMessage;
-use crate::moves::{Move, read_moves};
+use crate::moves::{MOST_MOVES, Move, read_moves};
 use crate::operations::{CLIENT_COMMAND, EOF, MOVE, MOVE_NO_DELTA};
 use arrayvec::ArrayVec;
-use q3_bits::{Code, Reader};
+use q3_bits::{BYTE, Code, Reader};
 use q3_strings::{read_ending, read_row};
 
 /// Reads the moves behind their operation, and how many there are.
@@ -23,11 +23,11 @@ use q3_strings::{read_ending, read_row};
 fn read_section(
     r: &mut Reader,
     key: u32,
-    into: &mut ArrayVec<Move, 32>,
+    into: &mut ArrayVec<Move, MOST_MOVES>,
 ) -> Result<(), ClientIllegible>
     ensures { Reads r.old r.new (section_at r.old.words key r.old.left) (holding into.new.items result) }
 {
-    let count = r.get(8)?;
+    let count = r.get(BYTE)?;
     if count < 1 || count > 32 {
         return Err(ClientIllegible::MoveCount(count as u8));
     }

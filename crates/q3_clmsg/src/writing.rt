@@ -9,7 +9,7 @@ ghost use Rattle.q3_clmsg.specs.Texts.{move_operation, move_section_bits, client
 use crate::message::{ClientMessage, SaidParts};
 use crate::moves::{Move, write_moves};
 use crate::operations::{CLIENT_COMMAND, EOF, MOVE, MOVE_NO_DELTA};
-use q3_bits::{Code, Overflow, Writer, laws};
+use q3_bits::{BYTE, Code, LONG, Overflow, Writer, laws};
 use q3_strings::write_commands;
 use q3_text::CommandRun;
 
@@ -73,13 +73,13 @@ fn write_message(w: &mut Writer, parts: SaidParts, key: u32) -> Result<(), Overf
 {
     laws::texts_are_written();
     w.put_all(&[
-        (parts.id, 32),
-        (parts.acknowledged, 32),
-        (parts.command, 32),
+        (parts.id, LONG),
+        (parts.acknowledged, LONG),
+        (parts.command, LONG),
     ])?;
     write_commands(w, CLIENT_COMMAND as u8, parts.commands)?;
     write_section(w, key, parts.delta, parts.moves)?;
-    w.put_all(&[(EOF, 8)])
+    w.put_all(&[(EOF, BYTE)])
 }
 
 /// Writes the moves, and before them their operation and how many they are; nothing where there are none.
@@ -94,7 +94,7 @@ fn write_section(w: &mut Writer, key: u32, delta: bool, moves: &[Move]) -> Resul
         return Ok(());
     }
     let count = moves.len() as u32;
-    w.put_all(&[(operation_of(delta), 8), (count, 8)])?;
+    w.put_all(&[(operation_of(delta), BYTE), (count, BYTE)])?;
     write_moves(w, key, moves)
 }
 

@@ -9,15 +9,12 @@ ghost use Rattle.q3_config.specs.Changes.{after_command};
 ghost use Rattle.q3_clstate.specs.State.{id_in, settled, tells_id, after_texts};
 
 use q3_bits::NoMemory;
-use q3_config::{Configs, shape};
+use q3_config::{Configs, SYSTEM_INFO, shape};
 use q3_svmsg::ServerMessage;
 use q3_text::{Command, Text};
 use std::alloc::Global;
 use std::marker::Model;
 use std::mem::swap;
-
-/// The index of the config string that tells the map's id, the engine's `CS_SYSTEMINFO` (q_shared.h).
-const SYSTEM_INFO: u32 = 1;
 
 /// What gamestates and commands told of the map.
 #[derive(Drop)]

@@ -12,16 +12,14 @@ ghost use Rattle.q3_config.specs.Changes.{unchanged, make_change, go_on, after_c
 ghost use Rattle.q3_config.specs.Parts.{meant, finished};
 
 use crate::error::ConfigError;
-use crate::pending::{LONGEST, Pending};
+use crate::limits::{LONGEST_STRING, STRINGS, SYSTEM_INFO};
+use crate::pending::Pending;
 use crate::shapes::{Change, Word, change_of};
-use crate::table::{PLACES, Table};
+use crate::table::Table;
 use q3_bits::NoMemory;
 use q3_text::{Text, decimal, info_value};
 use std::alloc::Global;
 use std::marker::Model;
-
-/// The index of the string that tells the server's settings, the engine's `CS_SYSTEMINFO` (q_shared.h).
-const SYSTEM_INFO: u32 = 1;
 
 /// 1,024 strings, each of at most 8,191 bytes and together of a size of at most 16,000, and the big text that is
 /// pending, if one is. It has memory of its own, which `new` takes and no other call does. Bytes are kept as texts have
@@ -122,7 +120,7 @@ impl Configs {
         ensures index { OnOk result (index < places) }
         ensures chars { OnOk result (All (λ byte. IsTrue (is_config_byte byte)) text.now) }
     {
-        if index as usize >= PLACES {
+        if index >= STRINGS {
             return Err(ConfigError::Index);
         }
         if let Some(byte) = first_refused(text) {
@@ -196,7 +194,7 @@ impl Configs {
         if other != index {
             return false;
         }
-        if before.len() + text.len() > LONGEST {
+        if before.len() + text.len() > LONGEST_STRING {
             self.pending.end();
             return false;
         }

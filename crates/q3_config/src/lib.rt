@@ -4,6 +4,7 @@
 pub mod configs;
 pub mod error;
 pub mod laws;
+pub mod limits;
 mod pending;
 mod shapes;
 mod table;
@@ -11,5 +12,6 @@ mod writing;
 
 pub use configs::Configs;
 pub use error::ConfigError;
+pub use limits::{LONGEST_STRING, MOST_SIZE, STRINGS, SYSTEM_INFO};
 pub use shapes::shape;
 pub use writing::{piece, pieces};

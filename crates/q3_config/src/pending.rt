@@ -3,12 +3,10 @@
 ghost use Rattle.std.specs.Prelude.{◌≡◌, ◌+◌, ◌≤◌, ◌++◌, length, None, Some, IfOk, IfSome, option_map, vec_capacity};
 ghost use Rattle.q3_config.specs.Strings.{longest_string};
 
+use crate::limits::LONGEST_STRING;
 use q3_bits::NoMemory;
 use std::alloc::Global;
 use std::marker::Model;
-
-/// The longest string.
-pub(crate) const LONGEST: usize = 8_191;
 
 /// The text that is pending, if one is.
 #[derive(Drop)]
@@ -35,7 +33,7 @@ impl Pending {
     {
         Ok(Pending {
             index: None,
-            bytes: Vec::with_capacity(alloc, LONGEST)?,
+            bytes: Vec::with_capacity(alloc, LONGEST_STRING)?,
         })
     }
 

@@ -7,6 +7,7 @@ ghost use Rattle.q3_config.specs.Strings.{places};
 ghost use Rattle.q3_config.specs.Commands.{spelled, word_in, quoted_in, change_in};
 ghost use Rattle.q3_config.specs.Parts.{meant, told};
 
+use crate::limits::STRINGS;
 use q3_text::{Text, cut_at, decimal_within};
 
 /// What a command begins with: the word of a whole change, or of the first, a middle or the last piece of one.
@@ -59,7 +60,7 @@ pub(crate) fn change_of(text: &[u8]) -> Option<Change<'_>>
     let (word, behind) = cut_at(text, b' ')?;
     let word = word_of(word)?;
     let (index, behind) = cut_at(behind, b' ')?;
-    let index = decimal_within(index, 0, 1_023)?;
+    let index = decimal_within(index, 0, STRINGS - 1)?;
     let text = quoted(behind)?;
     Some(Change { word, index, text })
 }

@@ -12,18 +12,12 @@ ghost use Rattle.q3_config.specs.Parts.{strings_with, attempted};
 ghost use Rattle.q3_config.specs.Table.{room, text_in, texts_in, LieWithin};
 
 use crate::error::ConfigError;
-use crate::pending::LONGEST;
+use crate::limits::{LONGEST_STRING, MOST_SIZE, STRINGS};
 use q3_bits::NoMemory;
 use q3_text::translate;
 use std::alloc::Global;
 use std::marker::Model;
 use std::mem::swap;
-
-/// How many strings there are.
-pub(crate) const PLACES: usize = 1_024;
-
-/// The greatest size: the bytes of each string that isn't empty and one more, and one for all.
-const MOST_SIZE: usize = 16_000;
 
 /// How many bytes there is room for: those of strings of the greatest size, and of as many texts that have others in
 /// their place by now.
@@ -75,7 +69,7 @@ impl Table {
         Ok(Table {
             bytes: Vec::with_capacity(alloc, ROOM)?,
             spare: Vec::with_capacity(alloc, ROOM)?,
-            places: vec![in alloc; NOWHERE; PLACES]?,
+            places: vec![in alloc; NOWHERE; STRINGS as usize]?,
             size: 1,
         })
     }
@@ -85,7 +79,7 @@ impl Table {
         requires { length self.now ≡ places }
         ensures { result.now ≡ slice_index_or self.now index [] }
     {
-        if (index as usize) < PLACES {
+        if index < STRINGS {
             self.get(index as usize)
         } else {
             &[]
@@ -138,7 +132,7 @@ impl Table {
         requires { index < length self.now }
         ensures { (pending : Option Pending) → result ≡ refused (room_fault (strings_with pending self.now) index text.now) }
     {
-        if text.len() > LONGEST {
+        if text.len() > LONGEST_STRING {
             return Err(ConfigError::Long);
         }
         if self.fits(index, text) {
@@ -154,7 +148,7 @@ impl Table {
         requires { length self.now ≡ places }
         ensures { (pending : Option Pending) → result ≡ refused (set_fault (strings_with pending self.now) index text.now) }
     {
-        if index as usize >= PLACES {
+        if index >= STRINGS {
             return Err(ConfigError::Index);
         }
         self.check_room(index as usize, text)

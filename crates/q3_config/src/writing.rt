@@ -11,16 +11,13 @@ ghost use Rattle.q3_config.specs.Parts.{meant};
 use crate::shapes::Word;
 use arrayvec::ArrayVec;
 use itoa::Buffer;
-use q3_text::Text;
+use q3_text::{LONGEST_TEXT, Text};
 
 /// A text below this length goes whole.
 const WHOLE_BELOW: usize = 1_000;
 
 /// So many bytes a piece has, but the last may have fewer.
 const PIECE_SIZE: usize = 999;
-
-/// The most bytes of a text.
-const MOST_BYTES: usize = 1_023;
 
 /// How many commands a change to a text of so many bytes takes.
 #[tactic(auto, unfolding(crate::specs::Commands::piece_count))]
@@ -94,7 +91,7 @@ fn part_at(text: &[u8], k: usize) -> &[u8]
 }
 
 /// Puts a text behind bytes.
-fn extend(bytes: &mut ArrayVec<u8, MOST_BYTES>, text: &[u8])
+fn extend(bytes: &mut ArrayVec<u8, LONGEST_TEXT>, text: &[u8])
     requires { array_vec_len bytes.old + length text.now ≤ most_bytes }
     ensures items { bytes.new.items ≡ bytes.old.items ++ text.now }
     ensures length { array_vec_len bytes.new ≡ array_vec_len bytes.old + length text.now }

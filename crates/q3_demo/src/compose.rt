@@ -7,7 +7,7 @@ ghost use Rattle.q3_rings.specs.Rings.{view_at};
 ghost use Rattle.q3_demo.specs.Records.{longest_record};
 ghost use Rattle.q3_demo.specs.Recording.{game_bits, front_at, fronted, whole_of, whole_bits};
 
-use q3_bits::{Overflow, Reader};
+use q3_bits::{LONG, Overflow, Reader};
 use q3_clstate::ClState;
 use q3_gamestate::Numbers;
 use q3_strings::{OperationError, read_row};
@@ -86,7 +86,7 @@ fn read_front(
 {
     commands.clear();
     let mut r = Reader::new(&state.profile().code, message);
-    let ack = r.get(32)?;
+    let ack = r.get(LONG)?;
     read_row(&mut r, SERVER_COMMAND, commands)?;
     Ok(ack)
 }

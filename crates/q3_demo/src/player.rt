@@ -19,7 +19,7 @@ use std::alloc::Global;
 use std::marker::Model;
 
 /// How many records are played at most.
-const MOST_RECORDS: u32 = 1_048_576;
+pub(crate) const MOST_RECORDS: u32 = 1_048_576;
 
 /// How far a demo was played. After `new` and `behind` no call takes memory.
 #[derive(Drop)]

@@ -10,14 +10,11 @@ ghost use Rattle.q3_demo.specs.Steps.{TakesStep, behind_limit};
 
 use crate::error::DemoError;
 use crate::lines::print_record;
-use crate::player::Player;
+use crate::player::{MOST_RECORDS, Player};
 use crate::state::print_state;
 use q3_io::{Failed, Files, Sink, laws};
 use q3_profile::Profile;
 use std::alloc::Global;
-
-/// How many records are played at most.
-const MOST_RECORDS: u32 = 1_048_576;
 
 /// Plays a demo: prints the lines of each record, and after the last what they left. The file is read as it plays, and memory is
 /// taken before that alone. `Err` is the first record that is refused, as `next_record` says, or `Message` exactly where its

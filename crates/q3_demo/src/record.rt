@@ -10,10 +10,11 @@ ghost use Rattle.q3_demo.specs.Steps.{Fills, FindsHead};
 
 use crate::error::DemoError;
 use byteorder::{ByteOrder, LittleEndian};
+use q3_bits::LONGEST_MESSAGE;
 use q3_io::Files;
 
 /// The longest message of a record, in bytes.
-pub const LONGEST_RECORD: usize = 16_384;
+pub const LONGEST_RECORD: usize = LONGEST_MESSAGE;
 
 /// A record's number and length, in bytes.
 const HEAD_BYTES: usize = 8;

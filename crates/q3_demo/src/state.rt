@@ -13,12 +13,10 @@ ghost use Rattle.q3_clstate.specs.Report.{snapshot_text};
 ghost use Rattle.q3_demo.specs.Report.{state_text, count_text, map_text, indexed_text, pending_text, config_text, configs_text, baseline_text, held_text, held_texts, newest_text};
 
 use q3_clstate::{ClState, print_snapshot};
+use q3_config::STRINGS;
 use q3_entity::{Baselines, EntityState, MOST_BASELINES, Run, print_fields};
 use q3_io::{Failed, Piece, Sink, laws, print_all};
 use q3_rings::{Held, SnapView};
-
-/// How many config strings there are, the engine's `MAX_CONFIGSTRINGS` (q_shared.h).
-const STRINGS: u32 = 1024;
 
 /// Prints what the messages of so many records left: the map, the text that is pending, the config strings and the baselines that
 /// are set, the snapshots that are held, and the newest. `Failed` comes where the sink failed, after a front of the text.

@@ -8,10 +8,7 @@ ghost use Rattle.q3_entity.specs.Walking.{count_after as count_of};
 
 use crate::error::EntityError;
 use crate::reading::Entry;
-use crate::state::{EntityState, List};
-
-/// The most entities of a list.
-pub(crate) const MOST: usize = 256;
+use crate::state::{EntityState, List, MOST_ENTITIES};
 
 /// How many entities there are with one behind whose number an entry was read. `Removes` comes where an entity is
 /// removed that the base doesn't have, and `Many` where there would be a 257th.
@@ -37,7 +34,7 @@ fn one_more(count: usize) -> Result<usize, EntityError>
     requires { count ≤ most_entities }
     ensures { result ≡ (if nat_lt count most_entities then Ok (count + 1) else Err Many) }
 {
-    if count == MOST {
+    if count == MOST_ENTITIES {
         return Err(EntityError::Many);
     }
     Ok(count + 1)

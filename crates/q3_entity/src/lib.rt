@@ -20,5 +20,5 @@ pub use list_writing::{write_list, write_run};
 pub use print::print_fields;
 pub use reading::{Entry, read_entity};
 pub use run::count_same;
-pub use state::{EntityState, List, Run};
+pub use state::{EntityState, List, MOST_ENTITIES, Run};
 pub use writing::{write_entity, write_removal};

@@ -13,10 +13,10 @@ ghost use Rattle.q3_entity.specs.Walking.{kept_below, KeepsFront, next_at, entry
 
 use crate::baselines::Baselines;
 use crate::error::EntityError;
-use crate::filling::{MOST, count_after, make_place, put_part};
+use crate::filling::{count_after, make_place, put_part};
 use crate::reading::read_entity;
 use crate::run::{count_below, take_number};
-use crate::state::{EntityState, List, Run};
+use crate::state::{EntityState, List, MOST_ENTITIES, Run};
 use q3_bits::{ReadError, Reader, laws};
 use q3_fields::Table;
 
@@ -177,8 +177,8 @@ fn read_entry(
     ensures within { IfOk result (λ now. now ≤ length into.new.items) }
 {
     // there are never more
-    prove!(into.len() <= MOST);
-    if count == MOST {
+    prove!(into.len() <= MOST_ENTITIES);
+    if count == MOST_ENTITIES {
         return read_beyond(r, table, from, in_base, number);
     }
     make_place(into, count, from);
@@ -224,7 +224,7 @@ fn read_beyond(
         words: from.words,
     };
     let entry = read_entity(r, table, from, &mut beyond)?;
-    count_after(entry, in_base, number, MOST)
+    count_after(entry, in_base, number, MOST_ENTITIES)
 }
 
 /// Reads the next number of a list, which is at least this one.

@@ -7,7 +7,7 @@ ghost use Rattle.q3_entity.specs.Delta.{entity_at, with_words};
 
 use crate::error::EntityError;
 use crate::state::EntityState;
-use q3_bits::Reader;
+use q3_bits::{BIT, Reader};
 use q3_fields::{StateKind, Table, read_counted};
 
 /// What stands behind an entity's number.
@@ -34,10 +34,10 @@ pub fn read_entity(
     ensures number { into.new.number ≡ into.old.number }
 {
     into.words = from.words;
-    if r.get(1)? != 0 {
+    if r.get(BIT)? != 0 {
         return Ok(Entry::Removed);
     }
-    if r.get(1)? == 0 {
+    if r.get(BIT)? == 0 {
         return Ok(Entry::Same);
     }
     read_counted(r, StateKind::Entity, table, &mut into.words)?;

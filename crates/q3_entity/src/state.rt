@@ -15,8 +15,11 @@ pub struct EntityState {
     pub words: [u32; 64],
 }
 
-/// Up to 256 entities, by rising number.
-pub type List = ArrayVec<EntityState, 256>;
+/// How many entities a list may have, the engine's `MAX_ENTITIES_IN_SNAPSHOT` (cg_public.h).
+pub const MOST_ENTITIES: usize = 256;
+
+/// Entities by rising number.
+pub type List = ArrayVec<EntityState, MOST_ENTITIES>;
 
 /// Entities by rising number in two pieces, as a ring lends them: `head`, and behind it `tail`.
 #[derive(Clone, Copy)]

@@ -6,7 +6,7 @@ ghost use Rattle.q3_entity.specs.Delta.{opening, entity_delta, removal};
 ghost use Rattle.q3_entity.specs.Changed.{changed_delta};
 
 use crate::state::EntityState;
-use q3_bits::{Overflow, Writer, laws};
+use q3_bits::{BIT, Overflow, Writer, laws};
 use q3_fields::{StateKind, Table, changed_count, write_numbered};
 
 /// The marks of an entity that is there and didn't change, and of one that did: first a bit for its removal, then one for
@@ -79,5 +79,5 @@ fn write_opening(w: &mut Writer, table: &Table, number: u16, marks: u32) -> Resu
 pub fn write_removal(w: &mut Writer, table: &Table, number: u16) -> Result<(), Overflow>
     ensures { Writes w.old w.new (removal w.old.words table.now number) result }
 {
-    w.put_all(&[(u32::from(number), u32::from(table.bits())), (1, 1)])
+    w.put_all(&[(u32::from(number), u32::from(table.bits())), (1, BIT)])
 }

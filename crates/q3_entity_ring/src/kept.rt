@@ -10,7 +10,7 @@ use q3_player::SnapHead;
 use std::alloc::{AllocError as NoMemory, Global};
 use std::marker::Model;
 
-/// How many snapshots are kept.
+/// How many snapshots are kept, the engine's `PACKET_BACKUP` (qcommon.h).
 pub const PLACES: u32 = 32;
 
 /// A snapshot whose entities lie in a ring.

@@ -5,5 +5,5 @@ pub mod kept;
 pub mod laws;
 pub mod ring;
 
-pub use kept::{Kept, Places, copy_head};
+pub use kept::{Kept, PLACES, Places, copy_head};
 pub use ring::Ring;

@@ -14,7 +14,7 @@ use crate::kind::{Kind, norm};
 use crate::reading::{read_entity_field, read_player_field};
 use crate::table::Table;
 use crate::writing::{write_marked, write_marked_entity_field};
-use q3_bits::{Overflow, ReadError, Reader, Writer, laws};
+use q3_bits::{BIT, BYTE, Overflow, ReadError, Reader, Writer, laws};
 
 /// How many words are compared at a time.
 const BLOCK: usize = 16;
@@ -136,7 +136,7 @@ pub fn write_counted(
     ensures { Writes w.old w.new (counted_bits state w.old.words table.now.kinds count from.now to.now) result }
 {
     laws::texts_are_written();
-    w.put(count as u32, 8)?;
+    w.put(count as u32, BYTE)?;
     write_fields(w, state, table, count, from, to)
 }
 
@@ -160,7 +160,7 @@ pub fn write_numbered(
     ensures { Writes w.old w.new (field_bits w.old.words number.1 number.0 ++ (field_bits w.old.words mark.1 mark.0 ++ counted_bits state w.old.words table.now.kinds count from.now to.now)) result }
 {
     laws::texts_are_written();
-    w.put_three(number, mark, (count as u32, 8))?;
+    w.put_three(number, mark, (count as u32, BYTE))?;
     write_fields(w, state, table, count, from, to)
 }
 
@@ -198,7 +198,7 @@ fn write_field(
     ensures { Writes w.old w.new (marked_field_bits state w.old.words kind from to) result }
 {
     if from == to {
-        return w.put(0, 1);
+        return w.put(0, BIT);
     }
     write_changed(w, state, kind, to)
 }

@@ -11,7 +11,7 @@ ghost use Rattle.q3_fields.specs.Texts.{float_at, integer_at, player_field_at, e
 
 use crate::float::{pattern_of, unbiased};
 use crate::kind::{Kind, positive_zero, sign_extended};
-use q3_bits::{ReadError, Reader};
+use q3_bits::{BIT, LONG, ReadError, Reader};
 
 /// Reads a changed field of a player delta, in normal form. `Err` is the first fault in reading order; the reader then
 /// stands anywhere.
@@ -35,7 +35,7 @@ pub fn read_entity_field(r: &mut Reader, kind: Kind) -> Result<u32, ReadError>
     requires { IsKind kind }
     ensures { Reads r.old r.new (entity_field_at r.old.words kind r.old.left) result }
 {
-    if r.get(1)? == 0 {
+    if r.get(BIT)? == 0 {
         return Ok(0);
     }
     read_player_field(r, kind)
@@ -47,11 +47,11 @@ pub fn read_entity_field(r: &mut Reader, kind: Kind) -> Result<u32, ReadError>
 fn read_float(r: &mut Reader) -> Result<u32, ReadError>
     ensures { Reads r.old r.new (float_at r.old.words r.old.left) result }
 {
-    if r.get(1)? == 0 {
+    if r.get(BIT)? == 0 {
         let value = r.get_fixed(13)?;
         return Ok(pattern_of(unbiased(value)));
     }
-    let word = r.get_fixed(32)?;
+    let word = r.get_fixed(LONG)?;
     Ok(positive_zero(word))
 }
 
@@ -65,7 +65,7 @@ fn read_unsigned(r: &mut Reader, width: u8) -> Result<u32, ReadError>
     let width = u32::from(width);
     if width == 32 {
         // the literal, so that no loop is left
-        return r.get_fixed(32);
+        return r.get_fixed(LONG);
     }
     r.get(width)
 }

@@ -10,7 +10,7 @@ ghost use Rattle.q3_fields.specs.Texts.{biased, float_bits, player_field, entity
 
 use crate::float::{biased, small_of};
 use crate::kind::{Kind, norm};
-use q3_bits::{Overflow, Writer, laws};
+use q3_bits::{BIT, Overflow, Writer, laws};
 
 /// Writes a changed field of a player delta.
 /// `Overflow` comes exactly where the text doesn't fit the writer's room; a front of it was then written.
@@ -30,7 +30,7 @@ pub fn write_entity_field(w: &mut Writer, kind: Kind, word: u32) -> Result<(), O
     ensures { Writes w.old w.new (entity_field w.old.words kind word) result }
 {
     if norm(kind, word) == 0 {
-        return w.put(0, 1);
+        return w.put(0, BIT);
     }
     write_marked(w, 1, 1, kind, word)
 }

@@ -11,17 +11,14 @@ use crate::error::GamestateError;
 use crate::numbers::Numbers;
 use crate::operations::{BASELINE, CONFIG_STRING, EOF};
 use arrayvec::ArrayVec;
-use q3_bits::{Reader, laws};
-use q3_config::{ConfigError, Configs};
+use q3_bits::{BYTE, LONG, Reader, SHORT, laws};
+use q3_config::{ConfigError, Configs, LONGEST_STRING, STRINGS};
 use q3_entity::{Baselines, EntityError, EntityState, Entry, laws as entity, read_entity};
 use q3_profile::Profile;
 use q3_strings::{laws as strings, read_string};
 
-/// How many config strings there are.
-const STRINGS: u32 = 1_024;
-
 /// Room for a config string that is read.
-pub type BigString = ArrayVec<u8, 8_191>;
+pub type BigString = ArrayVec<u8, LONGEST_STRING>;
 
 /// Reads a gamestate behind its operation: its config strings and baselines, each of which stands for an earlier one of
 /// its place, are those of `configs` and `baselines` alone, and its numbers are answered. `string` is room for one string
@@ -44,13 +41,13 @@ pub fn read_gamestate(
 {
     configs.clear();
     baselines.clear();
-    let command = r.get(32)?;
+    let command = r.get(LONG)?;
     read_settings(r, profile, configs, baselines, string)?;
     if configs.server_id().is_none() {
         return Err(GamestateError::NoServerId);
     }
-    let slot = r.get(32)?;
-    let feed = r.get(32)?;
+    let slot = r.get(LONG)?;
+    let feed = r.get(LONG)?;
     Ok(Numbers {
         command,
         slot,
@@ -78,7 +75,7 @@ fn read_settings(
     // it is a table
     prove!(profile.entity.count() > 0);
     loop {
-        match r.get(8)? {
+        match r.get(BYTE)? {
             CONFIG_STRING => read_config(r, configs, string)?,
             BASELINE => read_baseline(r, profile, baselines)?,
             EOF => return Ok(()),
@@ -97,7 +94,7 @@ fn read_config(
 ) -> Result<(), GamestateError>
     ensures { Reads r.old r.new (config_at r.old.words configs.old r.old.left) (holding configs.new result) }
 {
-    let index = r.get(16)?;
+    let index = r.get(SHORT)?;
     if index >= STRINGS {
         return Err(GamestateError::Config(ConfigError::Index));
     }

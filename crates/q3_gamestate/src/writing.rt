@@ -9,15 +9,12 @@ ghost use Rattle.q3_gamestate.specs.Texts.{config_bits, baseline_bits, numbered,
 
 use crate::numbers::Numbers;
 use crate::operations::{BASELINE, CONFIG_STRING, EOF, GAMESTATE};
-use q3_bits::{Overflow, Writer, laws};
-use q3_config::Configs;
+use q3_bits::{BYTE, LONG, Overflow, SHORT, Writer, laws};
+use q3_config::{Configs, STRINGS};
 use q3_entity::{Baselines, EntityState, MOST_BASELINES, write_entity};
 use q3_fields::Table;
 use q3_profile::Profile;
 use q3_strings::write_string;
-
-/// How many config strings there are.
-const STRINGS: u32 = 1_024;
 
 /// Writes a gamestate with its operation: the last server command's number, the config strings that aren't empty, the
 /// baselines that are set, and the end, the slot and the feed. `Overflow` comes exactly where the text doesn't fit the
@@ -33,10 +30,10 @@ pub fn write_gamestate(
     ensures { Writes w.old w.new (gamestate_bits (record profile.now { code = w.old.words }) (gamestate_of numbers configs.now baselines.now)) result }
 {
     laws::texts_are_written();
-    w.put_all(&[(GAMESTATE, 8), (numbers.command, 32)])?;
+    w.put_all(&[(GAMESTATE, BYTE), (numbers.command, LONG)])?;
     write_configs(w, configs)?;
     write_baselines(w, &profile.entity, baselines)?;
-    w.put_all(&[(EOF, 8), (numbers.slot, 32), (numbers.feed, 32)])
+    w.put_all(&[(EOF, BYTE), (numbers.slot, LONG), (numbers.feed, LONG)])
 }
 
 /// Writes config strings, by index.
@@ -62,7 +59,7 @@ fn write_config(w: &mut Writer, index: u32, text: &[u8]) -> Result<(), Overflow>
         prove!(w.length() > 0);
         return Ok(());
     }
-    w.put_all(&[(CONFIG_STRING, 8), (index, 16)])?;
+    w.put_all(&[(CONFIG_STRING, BYTE), (index, SHORT)])?;
     write_string(w, text)
 }
 
@@ -94,6 +91,6 @@ fn write_baseline(
         prove!(w.length() > 0);
         return Ok(());
     };
-    w.put_all(&[(BASELINE, 8)])?;
+    w.put_all(&[(BASELINE, BYTE)])?;
     write_entity(w, table, &EntityState::zero(state.number), state, true)
 }

@@ -7,10 +7,7 @@ ghost use Rattle.q3_entity.specs.Entities.{RiseFrom, most_entities};
 ghost use Rattle.q3_fields.specs.Kinds.{most_end};
 ghost use Rattle.q3_map.specs.Map.{with_entity, without_entity};
 
-use q3_entity::EntityState;
-
-/// How many entities a snapshot may have.
-const MOST_ENTITIES: usize = 256;
+use q3_entity::{EntityState, MOST_ENTITIES};
 
 /// Puts an entity at its place by number, for the one that has its number, if there is one.
 pub(crate) fn put_entity(entities: &mut Vec<EntityState>, entity: EntityState)

@@ -13,14 +13,11 @@ use crate::entities::{drop_entity, front, put_entity};
 use arrayvec::ArrayVec;
 use itoa::Buffer;
 use q3_bits::NoMemory;
-use q3_config::Configs;
+use q3_config::{Configs, SYSTEM_INFO};
 use q3_entity::{Baselines, EntityState};
 use q3_fields::{MOST_END, Table};
 use std::alloc::Global;
 use std::marker::Model;
-
-/// The index of the config string that tells the map's id, the engine's `CS_SYSTEMINFO` (q_shared.h).
-const SYSTEM_INFO: u32 = 1;
 
 /// For how many bytes there is room in the text that tells a map's id.
 const MOST_BYTES: usize = 32;

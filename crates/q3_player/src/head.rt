@@ -5,6 +5,9 @@ ghost use Rattle.std.specs.Prelude.{◌≡◌};
 use crate::state::PlayerState;
 use arrayvec::ArrayVec;
 
+/// How many area bytes a snapshot has at most, the engine's `MAX_MAP_AREA_BYTES` (q_shared.h).
+pub const MOST_AREA: usize = 32;
+
 /// What a snapshot says besides its entities.
 #[derive(Debug, PartialEq, Eq, Drop)]
 pub struct SnapHead {
@@ -15,7 +18,7 @@ pub struct SnapHead {
     /// 1 for a delayed rate, 2 for a client that isn't active, 4 for the server's count.
     pub flags: u8,
     /// A bit for each area of the map: 0 where the client sees into it.
-    pub area: ArrayVec<u8, 32>,
+    pub area: ArrayVec<u8, MOST_AREA>,
     pub player: PlayerState,
 }
 

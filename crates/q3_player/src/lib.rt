@@ -8,7 +8,7 @@ pub mod reading;
 pub mod state;
 pub mod writing;
 
-pub use head::SnapHead;
+pub use head::{MOST_AREA, SnapHead};
 pub use print::print_words;
 pub use reading::{PlayerError, read_player};
 pub use state::PlayerState;

@@ -7,7 +7,7 @@ ghost use Rattle.q3_fields.specs.Kinds.{IsKind};
 ghost use Rattle.q3_player.specs.Delta.{value_at, values_at, array_at, shorts_at, all_arrays_at, marked_arrays_at, player_at};
 
 use crate::state::{PlayerState, patterns, shorts};
-use q3_bits::{ReadError, Reader, laws};
+use q3_bits::{BIT, ReadError, Reader, SHORT, laws};
 use q3_fields::{DeltaError, Kind, StateKind, Table, read_counted, read_player_field};
 
 /// Why no player could be read: the first fault in reading order. `Bits` where the bits don't read, also those of the
@@ -35,7 +35,7 @@ pub fn read_player(
 fn read_arrays(r: &mut Reader, into: &mut PlayerState) -> Result<(), ReadError>
     ensures { Reads r.old r.new (marked_arrays_at r.old.words into.old r.old.left) (holding into.new result) }
 {
-    if r.get(1)? == 0 {
+    if r.get(BIT)? == 0 {
         return Ok(());
     }
     read_each(r, into)
@@ -68,10 +68,10 @@ fn read_array(r: &mut Reader, kind: Kind, values: &mut [u32; 16]) -> Result<(), 
     requires { IsKind kind }
     ensures { Reads r.old r.new (array_at r.old.words kind values.old r.old.left) (holding values.new result) }
 {
-    if r.get(1)? == 0 {
+    if r.get(BIT)? == 0 {
         return Ok(());
     }
-    let mask = r.get(16)?;
+    let mask = r.get(SHORT)?;
     read_values(r, kind, mask, values)
 }
 

@@ -9,7 +9,7 @@ ghost use Rattle.q3_player.specs.Arrays.{changes, mask_of, player_changes};
 ghost use Rattle.q3_player.specs.Delta.{is_empty, values_bits, array_bits, arrays_bits, player_delta};
 
 use crate::state::{PlayerState, patterns};
-use q3_bits::{Overflow, Writer, laws};
+use q3_bits::{BIT, Overflow, SHORT, Writer, laws};
 use q3_fields::{Kind, StateKind, Table, changed_count, write_counted, write_player_field};
 
 /// Writes what changed from one state to another: a byte for how many fields follow, a mark for each of them and the
@@ -37,9 +37,9 @@ fn write_arrays(w: &mut Writer, from: &PlayerState, to: &PlayerState) -> Result<
 {
     laws::texts_are_written();
     if same_arrays(from, to) {
-        return w.put(0, 1);
+        return w.put(0, BIT);
     }
-    w.put(1, 1)?;
+    w.put(1, BIT)?;
     write_each(w, from, to)
 }
 
@@ -99,10 +99,10 @@ fn write_array(w: &mut Writer, kind: Kind, from: &[u32; 16], to: &[u32; 16]) -> 
     laws::texts_are_written();
     let mask = changed_mask(from, to);
     if mask == 0 {
-        return w.put(0, 1);
+        return w.put(0, BIT);
     }
-    w.put(1, 1)?;
-    w.put(mask, 16)?;
+    w.put(1, BIT)?;
+    w.put(mask, SHORT)?;
     write_values(w, kind, from, to)
 }
 

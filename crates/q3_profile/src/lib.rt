@@ -11,4 +11,4 @@ mod read;
 
 pub use error::{Key, ProfileError};
 pub use profile::Profile;
-pub use read::read_profile;
+pub use read::{LONGEST_PROFILE, read_profile};

@@ -22,7 +22,7 @@ use q3_fields::{LEAST_NUMBER_BITS, Table, TableError};
 use std::alloc::Global;
 
 /// The longest file, in bytes.
-const LONGEST: usize = 1_048_576;
+pub const LONGEST_PROFILE: usize = 1_048_576;
 
 /// The profile of a file's bytes, a TOML document in UTF-8 of at most 1,048,576 bytes. Unknown keys are passed over.
 /// `Err` is the first rule that fails, or want of memory: the length, the document, and then the keys in the order
@@ -36,7 +36,7 @@ pub fn read_profile(alloc: Global, bytes: &[u8]) -> Result<Profile, ProfileError
     ensures rule { IfErr result (λ e. (e ≡ errors.NoMemory) ⊎ NamesRule e) }
     ensures is_profile { IfOk result IsProfile }
 {
-    if bytes.len() > LONGEST {
+    if bytes.len() > LONGEST_PROFILE {
         return Err(ProfileError::Limit(Key::File));
     }
     let document = document(alloc, bytes)?;

@@ -13,7 +13,7 @@ use crate::views::Held;
 use q3_entity::Run;
 
 /// How many snapshots are held at most.
-const PLACES: u8 = 32;
+const PLACES: u8 = q3_entity_ring::PLACES as u8;
 
 impl Rings {
     /// How many snapshots are held.

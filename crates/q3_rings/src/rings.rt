@@ -8,15 +8,12 @@ ghost use Rattle.q3_rings.specs.Rings.{AreHeldSnapshots, CanPutBack, no_rings, h
 ghost use Rattle.q3_rings.specs.ByNumber.{GoneAreEmpty};
 
 use crate::views::{Held, SnapView};
-use q3_entity::{EntityState, Run};
+use q3_entity::{EntityState, MOST_ENTITIES, Run};
 use q3_entity_ring::laws::{others_stay, placed_is_there, put_is_next, put_leaves_others};
 use q3_entity_ring::{Kept, Places, Ring, copy_head};
 use q3_player::SnapHead;
 use std::alloc::{AllocError as NoMemory, Global};
 use std::marker::Model;
-
-/// How many entities a snapshot may have.
-const MOST_ENTITIES: u64 = 256;
 
 /// Why a snapshot isn't held.
 #[derive(Clone, Copy, Debug, PartialEq, Eq)]
@@ -97,7 +94,7 @@ impl Rings {
             return Err(NoBase::Overwritten(kept.head.number));
         }
         let age = self.ring.placed() - kept.first;
-        if age > self.ring.room() as u64 - MOST_ENTITIES {
+        if age > (self.ring.room() - MOST_ENTITIES) as u64 {
             return Err(NoBase::EntitiesGone(age));
         }
         Ok(view_of(kept, self.ring.lend(kept.first, kept.count)))

@@ -29,14 +29,14 @@ use q3_rings::{Held, Rings};
 /// The greatest number of a message.
 pub(crate) const LAST_NUMBER: u32 = (1 << 31) - 1;
 
-/// How many snapshots are held at most, the engine's `PACKET_BACKUP` (qcommon.h).
-const PLACES: u8 = 32;
+/// How many snapshots are held at most.
+const PLACES: u8 = q3_entity_ring::PLACES as u8;
 
 /// How many entities a snapshot may have.
-const MOST_ENTITIES: u32 = 256;
+const MOST_ENTITIES: u32 = q3_entity::MOST_ENTITIES as u32;
 
 /// How many bytes an area has at most.
-const MOST_AREA: u8 = 32;
+const MOST_AREA: u8 = q3_player::MOST_AREA as u8;
 
 /// Writes the snapshots that are held.
 pub(crate) fn write_snapshots<O: Sink>(

@@ -23,13 +23,10 @@ use q3_entity::Baselines;
 use q3_io::{Failed, Sink, laws};
 use q3_profile::Profile;
 use q3_rings::Rings;
-use q3_text::Text;
 use q3_text::laws::texts_are_texts;
+use q3_text::{LONGEST_TEXT, Text};
 use q3_window::Incoming;
 use std::alloc::Global;
-
-/// The most bytes of a text.
-const LONGEST_TEXT: u16 = 1_023;
 
 /// A state to be written.
 #[derive(Clone, Copy)]
@@ -176,7 +173,7 @@ fn read_start(cursor: &mut Cursor) -> Result<Start, usize>
     let slot = cursor.long(0, u32::MAX)?;
     let feed = cursor.long(0, u32::MAX)?;
     let executed = cursor.long(0, u32::MAX)?;
-    let length = cursor.short(0, LONGEST_TEXT)?;
+    let length = cursor.short(0, LONGEST_TEXT as u16)?;
     let text = cursor.text(usize::from(length))?;
     Ok(Start {
         number,

@@ -12,14 +12,14 @@ use crate::writing::{write_byte, write_long, write_short};
 use q3_config::Configs;
 use q3_io::{Failed, Sink, laws};
 
-/// How many config strings there are, the engine's `MAX_CONFIGSTRINGS` (q_shared.h).
-const STRINGS: u16 = 1024;
+/// How many config strings there are.
+const STRINGS: u16 = q3_config::STRINGS as u16;
 
 /// The longest of them.
-const LONGEST: u16 = 8_191;
+const LONGEST: u16 = q3_config::LONGEST_STRING as u16;
 
 /// The greatest size of all.
-const MOST_SIZE: u32 = 16_000;
+const MOST_SIZE: u32 = q3_config::MOST_SIZE as u32;
 
 /// Writes the config strings that aren't empty.
 pub(crate) fn write_strings<O: Sink>(configs: &Configs, out: &mut O) -> Result<(), Failed>

@@ -4,7 +4,7 @@ use arrayvec::ArrayVec;
 use q3_clmsg::Move;
 use q3_entity::EntityState;
 use q3_io::Address;
-use q3_player::PlayerState;
+use q3_player::{MOST_AREA, PlayerState};
 use q3_text::Text;
 use q3_words::{Bytes, Name};
 
@@ -51,7 +51,7 @@ pub enum Event {
     /// The area bytes of a client's snapshots, a bit for each area of the map: 1 where the client can't see it.
     Area {
         c: u8,
-        area: ArrayVec<u8, 32>,
+        area: ArrayVec<u8, MOST_AREA>,
     },
     /// The server's time, in milliseconds.
     Time {

@@ -11,4 +11,4 @@ mod script;
 
 pub use cause::{ScriptError, ScriptKind};
 pub use event::Event;
-pub use script::read_script;
+pub use script::{LONGEST_SCRIPT, read_script};

@@ -14,7 +14,7 @@ use q3_words::LineCause;
 use std::alloc::Global;
 
 /// The longest script, in bytes.
-const LONGEST_SCRIPT: usize = 67_108_864;
+pub const LONGEST_SCRIPT: usize = 67_108_864;
 
 /// How many events a script may have.
 const MOST_EVENTS: usize = 65_536;

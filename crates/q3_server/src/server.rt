@@ -21,7 +21,7 @@ use crate::slots::{begin_map, first_without_room, tell_all};
 use q3_bits::NoMemory;
 use q3_chan::{Datagram, LONGEST_MESSAGE, NoQport, is_checked, qport_of};
 use q3_clmsg::ClientMessage;
-use q3_config::{ConfigError, Configs};
+use q3_config::{ConfigError, Configs, SYSTEM_INFO};
 use q3_entity::EntityState;
 use q3_fields::laws::are_words;
 use q3_frames::Frames;
@@ -49,9 +49,6 @@ pub enum SlotError {
     /// The client in this slot, and in none below it, has the same host and qport.
     Twin(u8),
 }
-
-/// The config string that tells the map's id, the engine's `CS_SYSTEMINFO` (q_shared.h), which the server alone changes.
-const OWN_STRING: u32 = 1;
 
 /// Why a config string can't be changed: the first of these, in this order. An index above 1,023 isn't 1, so that the first
 /// two never come together.
@@ -207,7 +204,7 @@ impl Server {
         ensures { set_config_at self.old index text.now ≡ record { server = self.new; answer = result } }
     {
         below();
-        if index == OWN_STRING {
+        if index == SYSTEM_INFO {
             return Err(ConfigRefused::Own);
         }
         if let Err(error) = self.map.configs().admit(index, text) {

@@ -33,7 +33,7 @@ use q3_clmsg::{ClientIllegible, ClientMessage, Heads, Move, read_heads};
 use q3_entity::EntityState;
 use q3_io::Address;
 use q3_map::Map;
-use q3_player::{PlayerState, SnapHead};
+use q3_player::{MOST_AREA, PlayerState, SnapHead};
 use q3_profile::Profile;
 use q3_window::{Incoming, Outgoing};
 
@@ -74,7 +74,7 @@ pub(crate) struct Joined {
     /// In normal form.
     pub player: PlayerState,
     /// The area bytes.
-    pub area: ArrayVec<u8, 32>,
+    pub area: ArrayVec<u8, MOST_AREA>,
     /// Whether its snapshots are delayed by rate control.
     pub delayed: bool,
 }
@@ -386,7 +386,7 @@ fn flags_of(count: bool, delayed: bool, stage: ClientStage) -> u8
     late + waiting + if count { SERVER_COUNT } else { 0 }
 }
 
-fn copy_area(from: &[u8], into: &mut ArrayVec<u8, 32>)
+fn copy_area(from: &[u8], into: &mut ArrayVec<u8, MOST_AREA>)
     requires { length from.now ≤ 32 }
     ensures { into.new.items ≡ from.now }
 {

@@ -28,7 +28,7 @@ use q3_bits::NoMemory;
 use q3_built::is_unclear;
 use q3_chan::{Datagram, Gathered, Gatherer, Sender, Side, check_for};
 use q3_clmsg::ClientMessage;
-use q3_config::{piece, pieces, shape};
+use q3_config::{SYSTEM_INFO, piece, pieces, shape};
 use q3_frames::Frames;
 use q3_io::Address;
 use q3_map::Map;
@@ -38,9 +38,6 @@ use q3_text::Text;
 use q3_window::{Incoming, Outgoing, WindowFull};
 use std::alloc::Global;
 use std::marker::Model;
-
-/// The config string that tells the map's id, which the server alone changes.
-const OWN_STRING: u32 = 1;
 
 /// A place, and the client in it, once one has joined. After `new` no call takes memory.
 #[derive(Drop)]
@@ -426,7 +423,7 @@ fn changes_own(text: &Text) -> bool
     ensures { result ≡ changes_own text.now }
 {
     match shape(text) {
-        Some(index) => index == OWN_STRING,
+        Some(index) => index == SYSTEM_INFO,
         None => false,
     }
 }

@@ -16,7 +16,9 @@ ghost use Rattle.q3_slot.specs.Taking.{ack_taken, came_under, said_under, with_h
 use arrayvec::ArrayVec;
 use q3_bits::NoMemory;
 use q3_chan::scramble_client;
-use q3_clmsg::{ClientIllegible, ClientMessage, Heads, Move, message_key, read_client_message};
+use q3_clmsg::{
+    ClientIllegible, ClientMessage, Heads, MOST_MOVES, Move, message_key, read_client_message,
+};
 use q3_map::Map;
 use q3_profile::Profile;
 use q3_text::{Commands, Text};
@@ -60,7 +62,7 @@ pub struct Heard {
     /// By rising number.
     pub commands: Commands,
     /// By rising time.
-    pub moves: ArrayVec<Move, 32>,
+    pub moves: ArrayVec<Move, MOST_MOVES>,
     /// The time of the move with which the client entered the map, in milliseconds, if it did.
     pub entered: Option<u32>,
     /// Whether a gamestate is owed to the client.
@@ -193,7 +195,7 @@ pub(crate) fn execute_commands(
 }
 
 /// Puts the moves that run after the last one into a list that is empty, and answers the time of the last one run.
-pub(crate) fn run_moves(last: u32, moves: &[Move], into: &mut ArrayVec<Move, 32>) -> u32
+pub(crate) fn run_moves(last: u32, moves: &[Move], into: &mut ArrayVec<Move, MOST_MOVES>) -> u32
     requires few { length moves.now ≤ 32 }
     requires empty { into.old.items ≡ [] }
     ensures moves { into.new.items ≡ runs last moves.now }

@@ -11,10 +11,7 @@ ghost use Rattle.q3_strings.specs.Reading.{string_bytes_at, bounded_string_at, c
 use crate::error::StringError;
 use arrayvec::ArrayVec;
 use q3_bits::{ReadError, Reader};
-use q3_text::{Command, Text, translate};
-
-/// The most bytes of a text.
-const MOST_BYTES: usize = 1_023;
+use q3_text::{Command, LONGEST_TEXT, Text, translate};
 
 /// Reads so many bytes, as they are. After a refusal `into` may hold any.
 /// `End` and `NoWord` come as in `Reader::get`.
@@ -70,7 +67,7 @@ pub fn read_text(r: &mut Reader, into: &mut Text) -> Result<(), StringError>
 {
     into.clear();
     let mut own = r.copy();
-    for _ in 0..MOST_BYTES {
+    for _ in 0..LONGEST_TEXT {
         let byte = own.get_byte()?;
         if byte == 0 {
             *r = own;

@@ -8,7 +8,7 @@ ghost use Rattle.q3_text.specs.Commands.{commands_of};
 ghost use Rattle.q3_strings.specs.Texts.{bytes_row, string_bits, command_bits};
 ghost use Rattle.q3_strings.specs.Commands.{issued_bits, commands_bits};
 
-use q3_bits::{Overflow, Writer, laws};
+use q3_bits::{BYTE, LONG, Overflow, Writer, laws};
 use q3_text::{Command, CommandRun};
 
 /// Writes bytes, four at a time as far as there are four.
@@ -32,7 +32,7 @@ fn write_fours(w: &mut Writer, bytes: &[u8], count: usize) -> Result<(), Overflo
     prove!(w.length() > 0);
     for k in 0..count {
         let four = four_at(bytes, 4 * k);
-        w.put(four, 32)?;
+        w.put(four, LONG)?;
     }
     Ok(())
 }
@@ -58,7 +58,7 @@ fn write_each(w: &mut Writer, bytes: &[u8]) -> Result<(), Overflow>
     // what stands there fits the room
     prove!(w.length() > 0);
     for byte in bytes {
-        w.put(u32::from(*byte), 8)?;
+        w.put(u32::from(*byte), BYTE)?;
     }
     Ok(())
 }
@@ -69,7 +69,7 @@ pub fn write_string(w: &mut Writer, text: &[u8]) -> Result<(), Overflow>
 {
     laws::texts_are_written();
     write_bytes(w, text)?;
-    w.put_all(&[(0, 8)])
+    w.put_all(&[(0, BYTE)])
 }
 
 /// Writes a command behind its operation: its number, and its string. `Overflow` comes as in `write_bytes`.
@@ -77,7 +77,7 @@ pub fn write_command(w: &mut Writer, command: &Command) -> Result<(), Overflow>
     ensures { Writes w.old w.new (command_bits w.old.words command.now) result }
 {
     laws::texts_are_written();
-    w.put_all(&[(command.number, 32)])?;
+    w.put_all(&[(command.number, LONG)])?;
     write_string(w, command.text.bytes())
 }
 
@@ -109,6 +109,6 @@ fn write_issued(w: &mut Writer, operation: u8, command: &Command) -> Result<(), 
     ensures { Writes w.old w.new (issued_bits w.old.words operation command.now) result }
 {
     laws::texts_are_written();
-    w.put_all(&[(u32::from(operation), 8)])?;
+    w.put_all(&[(u32::from(operation), BYTE)])?;
     write_command(w, command)
 }

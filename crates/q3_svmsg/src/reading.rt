@@ -16,11 +16,11 @@ use crate::error::Illegible;
 use crate::message::{Section, ServerMessage};
 use crate::operations::{SERVER_COMMAND, SNAPSHOT};
 use arrayvec::ArrayVec;
-use q3_bits::{Code, ReadError, Reader};
+use q3_bits::{BYTE, Code, LONG, ReadError, Reader};
 use q3_entity::{Baselines, List, read_list, skip_list};
 use q3_gamestate::operations::{EOF, GAMESTATE};
 use q3_gamestate::read_gamestate;
-use q3_player::{PlayerState, SnapHead, read_player};
+use q3_player::{MOST_AREA, PlayerState, SnapHead, read_player};
 use q3_profile::Profile;
 use q3_strings::{read_bytes, read_ending, read_row};
 
@@ -30,16 +30,16 @@ pub fn read_ack(code: &Code, bytes: &[u8]) -> Result<(u32, usize), ReadError>
     ensures { result ≡ ack_at code.now (bits_of bytes.now) }
 {
     let mut r = Reader::new(code, bytes);
-    let ack = r.get(32)?;
+    let ack = r.get(LONG)?;
     Ok((ack, r.place()))
 }
 
 /// Reads the area bytes and how many there are.
 #[tactic(auto, unfolding(crate::specs::Reading::area_at))]
-fn read_area(r: &mut Reader, into: &mut ArrayVec<u8, 32>) -> Result<(), Illegible>
+fn read_area(r: &mut Reader, into: &mut ArrayVec<u8, MOST_AREA>) -> Result<(), Illegible>
     ensures { Reads r.old r.new (area_at r.old.words r.old.left) (holding into.new.items result) }
 {
-    let count = r.get(8)?;
+    let count = r.get(BYTE)?;
     if count > 32 {
         return Err(Illegible::Area(count as u8));
     }
@@ -144,9 +144,9 @@ fn read_section<B: Bases>(
 {
     *head = SnapHead::new();
     head.number = number;
-    head.time = r.get(32)?;
-    let distance = r.get(8)?;
-    head.flags = r.get(8)? as u8;
+    head.time = r.get(LONG)?;
+    let distance = r.get(BYTE)?;
+    head.flags = r.get(BYTE)? as u8;
     read_area(r, &mut head.area)?;
     let base = base_at(number, distance);
     read_against(r, profile, distance, base, bases, head, entities)
@@ -260,6 +260,6 @@ pub fn read_server_message<B: Bases>(
     let mut r = Reader::new(&profile.code, bytes);
     into.commands.clear();
     into.section = Section::Nothing;
-    into.ack = r.get(32)?;
+    into.ack = r.get(LONG)?;
     read_operations(&mut r, profile, number, bases, into)
 }

@@ -14,7 +14,7 @@ ghost use Rattle.q3_svmsg.specs.Texts.{head_bits, snapshot_bits, server_message_
 use crate::bases::{BaseView, base_or};
 use crate::message::{GameParts, Section, ServerMessage, SnapParts};
 use crate::operations::{SERVER_COMMAND, SNAPSHOT};
-use q3_bits::{Overflow, Writer, laws};
+use q3_bits::{BYTE, LONG, Overflow, Writer, laws};
 use q3_entity::{Baselines, Run, write_run};
 use q3_gamestate::operations::EOF;
 use q3_gamestate::{Numbers, write_gamestate};
@@ -180,7 +180,7 @@ fn write_snap_bits(
         parts.head,
         parts.entities,
     )?;
-    w.put_all(&[(EOF, 8)])
+    w.put_all(&[(EOF, BYTE)])
 }
 
 /// Writes a message with a gamestate: the front, the gamestate, and the end.
@@ -191,7 +191,7 @@ fn write_game_bits(w: &mut Writer, profile: &Profile, parts: GameParts) -> Resul
     laws::texts_are_written();
     write_front(w, parts.ack, parts.commands)?;
     write_gamestate(w, profile, parts.numbers, parts.configs, parts.baselines)?;
-    w.put_all(&[(EOF, 8)])
+    w.put_all(&[(EOF, BYTE)])
 }
 
 /// Writes what begins each message: the last client command executed, and the commands.
@@ -199,7 +199,7 @@ fn write_front(w: &mut Writer, ack: u32, commands: CommandRun) -> Result<(), Ove
     ensures { Writes w.old w.new (row_bits w.old.words ((ack, 32) ∷ []) ++ commands_bits w.old.words 5 (commands_of commands.entry)) result }
 {
     laws::texts_are_written();
-    w.put_all(&[(ack, 32)])?;
+    w.put_all(&[(ack, LONG)])?;
     write_commands(w, SERVER_COMMAND as u8, commands)
 }
 
@@ -235,11 +235,11 @@ fn write_head(w: &mut Writer, base: u32, head: &SnapHead) -> Result<(), Overflow
 {
     laws::texts_are_written();
     w.put_all(&[
-        (SNAPSHOT, 8),
-        (head.time, 32),
-        (distance(head.number, base), 8),
-        (u32::from(head.flags), 8),
-        (head.area.len() as u32, 8),
+        (SNAPSHOT, BYTE),
+        (head.time, LONG),
+        (distance(head.number, base), BYTE),
+        (u32::from(head.flags), BYTE),
+        (head.area.len() as u32, BYTE),
     ])?;
     write_bytes(w, &head.area)
 }

@@ -15,4 +15,4 @@ pub use cut::{cut_at, place_of};
 pub use info::info_value;
 pub use key::hash_key;
 pub use number::{decimal, decimal_within};
-pub use text::{Command, CommandRun, Text, TextError, translate};
+pub use text::{Command, CommandRun, LONGEST_TEXT, Text, TextError, translate};

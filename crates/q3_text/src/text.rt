@@ -9,7 +9,7 @@ use arrayvec::ArrayVec;
 use std::marker::Model;
 
 /// The most bytes of a text: the engine's buffer has 1,024, and the last is its end.
-const MOST_BYTES: usize = 1_023;
+pub const LONGEST_TEXT: usize = 1_023;
 
 /// Why bytes are no text: the first of these.
 #[derive(Clone, Copy, Debug, PartialEq, Eq)]
@@ -23,7 +23,7 @@ pub enum TextError {
 /// A string of a message: at most 1,023 bytes, each 1 to 127 and none a `%`. To a caller it is the list of its bytes.
 #[derive(Debug, PartialEq, Eq, Drop)]
 pub struct Text {
-    bytes: ArrayVec<u8, MOST_BYTES>,
+    bytes: ArrayVec<u8, LONGEST_TEXT>,
 }
 
 impl Model for Text {
@@ -101,7 +101,7 @@ impl Text {
     pub fn of(bytes: &[u8]) -> Result<Text, TextError>
         ensures exact { result ≡ text_of bytes.now }
     {
-        if bytes.len() > MOST_BYTES {
+        if bytes.len() > LONGEST_TEXT {
             return Err(TextError::Long);
         }
         if let Some(place) = place_of(0, bytes) {

@@ -8,10 +8,8 @@ use crate::bytes::Bytes;
 use crate::words::is;
 use arrayvec::ArrayVec;
 use q3_bits::NoMemory;
+use q3_player::MOST_AREA;
 use std::alloc::Global;
-
-/// The most area bytes of a snapshot.
-const MOST_AREA: usize = 32;
 
 /// The most bytes that are handed to an end.
 const MOST_HANDED: usize = 16_400;

@@ -9,11 +9,8 @@ use crate::cause::LineCause;
 use crate::words::{behind, is};
 use arrayvec::ArrayVec;
 use q3_bits::NoMemory;
-use q3_text::Text;
+use q3_text::{LONGEST_TEXT, Text};
 use std::alloc::Global;
-
-/// The most bytes of a text.
-const MOST_BYTES: usize = 1_023;
 
 /// The most bytes of the text of a config string in a script.
 const MOST_CONFIG: usize = 9_000;
@@ -148,6 +145,6 @@ pub fn config_bytes(alloc: Global, word: &[u8]) -> Result<Option<Bytes>, NoMemor
 pub fn text_word(word: &[u8]) -> Result<Text, LineCause>
     ensures { result ≡ text_word word.now }
 {
-    let bytes = unquoted::<MOST_BYTES>(word).ok_or(LineCause::Text)?;
+    let bytes = unquoted::<LONGEST_TEXT>(word).ok_or(LineCause::Text)?;
     Text::of(&bytes).ok().ok_or(LineCause::Text)
 }

@@ -14,7 +14,7 @@ ghost use Rattle.q3net.specs.Run.{EndsAsPlays, Executes, LeavesFiles, PrintsAll}
 
 use crate::fault::Fault;
 use crate::input::{find_file, load_profile};
-use q3_bits::Reader;
+use q3_bits::{BIT, Reader};
 use q3_clstate::ClState;
 use q3_demo::{DemoError, print_state};
 use q3_index::{Built, build_index, open_index};
@@ -149,7 +149,7 @@ fn codec_stands(profile: &Profile)
     ensures mark { profile.now.mark < 2 ^ 64 }
 {
     let _mark = profile.mark;
-    let _bit = Reader::new(&profile.code, &[]).get(1);
+    let _bit = Reader::new(&profile.code, &[]).get(BIT);
     let _entity = profile.entity.copy();
     let _player = profile.player.copy();
 }

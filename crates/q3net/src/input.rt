@@ -11,18 +11,12 @@ ghost use Rattle.q3net.specs.Verdict.{GetsFrom, profile_in, events_in, with_even
 
 use crate::fault::Fault;
 use q3_io::Files;
-use q3_profile::{Profile, read_profile};
-use q3_script::{Event, ScriptKind, read_script};
+use q3_profile::{LONGEST_PROFILE, Profile, read_profile};
+use q3_script::{Event, LONGEST_SCRIPT, ScriptKind, read_script};
 use std::alloc::Global;
 
 /// How many bytes are asked for at a time.
 const PIECE: usize = 65_536;
-
-/// A profile's limit in bytes.
-const LONGEST_PROFILE: usize = 1_048_576;
-
-/// A script's limit in bytes.
-const LONGEST_SCRIPT: usize = 67_108_864;
 
 /// Reads the profile of this name, and checks it.
 pub fn load_profile<F: Files>(alloc: Global, name: &str, files: &mut F) -> Result<Profile, Fault>
