@@ -8,7 +8,7 @@ use Rattle.q3_bits.specs.Streams.{Writing}
 abbrev pub bits_within : List ℕ → ℕ → List Bool
 bits_within bytes count = bits_of (take (count / 8) bytes) ++ low_bits (count % 8) (slice_index bytes (count / 8))
 
--- every bit behind so many is 0
+-- every bit after so many is 0
 pub record IsClear (bytes : List ℕ) (count : ℕ) : Type 0 where
   pub part : slice_index bytes (count / 8) < 2 ^ (count % 8)
   pub behind : (k : ℕ) → count / 8 < k → slice_index bytes k ≡ 0

@@ -4,7 +4,7 @@ use Rattle.q3_bits.specs.ResultBind.{◌>>=◌}
 use Rattle.q3_bits.specs.Streams.{Reading}
 use Rattle.q3_bits.specs.declared.reader.ReadError.{ReadError}
 
--- what is read of a list: its new values, and the bits behind them
+-- what is read of a list: its new values, and the bits after them
 abbrev pub ListRead : Type 0
 ListRead = Result (List ℕ × List Bool) ReadError
 
@@ -12,7 +12,7 @@ ListRead = Result (List ℕ × List Bool) ReadError
 abbrev pub with_front : List ℕ → ListRead → ListRead
 with_front front read = read >>= λ x. Ok (front ++ x.0, x.1)
 
--- a value, and what is read behind it
+-- a value, and what is read after it
 abbrev pub with_first : ℕ → ListRead → ListRead
 with_first y read = read >>= λ x. Ok (y ∷ x.0, x.1)
 

@@ -34,7 +34,7 @@ PlainBitsEnd = (width : ℕ) (bits : List Bool) (e : ReadError) → field_at pla
 -- what holds of fields of fewer than eight bits, which have no code words
 pub record MarksAreJoined : Type 0 where
   pub none : (words : List (List Bool)) (value : ℕ) → field_bits words 0 value ≡ []
-  -- one behind another is one field
+  -- one after another is one field
   pub join : (words : List (List Bool)) (first second mark other : ℕ) → first + second < 8 → mark < 2 ^ first
       → field_bits words (first + second) (mark + other * 2 ^ first) ≡ field_bits words first mark ++ field_bits words second other
 
@@ -47,7 +47,7 @@ pub record MarksAreBits : Type 0 where
 pub record TextsAreWritten : Type 0 where
   -- nothing is written where what stands there fits
   pub nothing : (w : Writing) → ¬ IsOverlong w [] → Writes w w [] (Ok tt)
-  -- a text behind a text is both
+  -- a text after a text is both
   pub then : (start mid now : Writing) (first whole : List Bool) (second : List (List Bool) → List Bool) (result : Result (Unit {0}) Overflow)
       → whole ≡ first ++ second start.words → Writes start mid first (Ok tt) → Writes mid now (second mid.words) result → Writes start now whole result
   -- where a text is refused, so is one that begins with it
@@ -56,7 +56,7 @@ pub record TextsAreWritten : Type 0 where
   -- the same for rows, whose text grows at its end: a text more, given as a function of the words
   pub next : {start mid now : Writing} {first : List Bool} {result : Result (Unit {0}) Overflow} (second : List (List Bool) → List Bool)
       → Writes start mid first (Ok tt) → Writes mid now (second mid.words) result → Writes start now (first ++ second start.words) result
-  -- and where a text is refused, so is the row that goes on behind it
+  -- and where a text is refused, so is the row that goes on after it
   pub refused : {start now : Writing} {first : List Bool} {e : Overflow} (others : List Bool)
       → Writes start now first (Err e) → Writes start now (first ++ others) (Err e)
   -- a whole is written text by text

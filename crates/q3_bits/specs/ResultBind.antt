@@ -27,12 +27,12 @@ pub map_err_ok : {A E D : Type 0} (f : E → D) (r : Result A E) (x : A) → res
 map_err_ok f (Ok y) x e = cc
 map_err_ok f (Err d) x e = absurd cc
 
--- where the steps behind an answer agree, so do the rows
+-- where the steps after an answer agree, so do the rows
 pub bind_same : {A B E : Type 0} (r : Result A E) (f g : A → Result B E) → ((x : A) → r ≡ Ok x → f x ≡ g x) → (r >>= f) ≡ (r >>= g)
 bind_same (Ok x) f g same = same x refl
 bind_same (Err e) f g same = refl
 
--- a row behind a row is one row
+-- a row after a row is one row
 pub bind_assoc : {A B C E : Type 0} (r : Result A E) (f : A → Result B E) (g : B → Result C E) → ((r >>= f) >>= g) ≡ (r >>= λ x. f x >>= g)
 bind_assoc (Ok x) f g = refl
 bind_assoc (Err e) f g = refl
@@ -41,7 +41,7 @@ bind_assoc (Err e) f g = refl
 pub bind_is : {A B E : Type 0} (r : Result A E) (f : A → Result B E) (x : A) (y : Result B E) → r ≡ Ok x → f x ≡ y → (r >>= f) ≡ y
 bind_is r f x y is e = rw is e
 
--- what is behind an answer, or its fault
+-- what follows an answer, or its fault
 abbrev pub left_of : {A E : Type 0} → Result (A × List Bool) E → Result (List Bool) E
 left_of (Ok x) = Ok x.1
 left_of (Err e) = Err e
@@ -65,7 +65,7 @@ bind_alike (Err d) (Err d') f g e alike =
     let is : d ≡ d' = cc in
     ap (λ d. Err d) is
 
--- and so do rows behind one answer
+-- and so do rows after one answer
 pub bind_behind : {A C D E : Type 0} (r : Result A E) (f : A → Result (C × List Bool) E) (g : A → Result (D × List Bool) E) → ((x : A) → left_of (f x) ≡ left_of (g x))
     → left_of (r >>= f) ≡ left_of (r >>= g)
 bind_behind (Ok x) f g alike = alike x

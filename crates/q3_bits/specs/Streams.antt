@@ -15,11 +15,11 @@ pub record Reading : Type 0 where
   pub left : List Bool
   pub place : ℕ
 
--- with this text behind what was written, the message is longer than its room
+-- with this text after what was written, the message is longer than its room
 abbrev pub IsOverlong : Writing → List Bool → Type 0
 IsOverlong w text = w.room < message_length (length w.bits + length text)
 
--- a front of the text was written behind what stood there
+-- a front of the text was written after what stood there
 abbrev pub Extends : Writing → Writing → List Bool → Type 0
 Extends old new text = (written : List Bool) × (rest : List Bool) × (written ++ rest ≡ text)
     × (new ≡ record old { bits = old.bits ++ written })
@@ -30,20 +30,20 @@ pub record Writes (old new : Writing) (text : List Bool) (result : Result (Unit 
   pub ok : OnOk result (new ≡ record old { bits = old.bits ++ text })
   pub front : Extends old new text
 
--- a front of a whole was written behind what stood at the start, and the rest is left
+-- a front of a whole was written after what stood at the start, and the rest is left
 pub record HasWritten (start now : Writing) (left whole : List Bool) : Type 0 where
   pub written : List Bool
   pub parts : written ++ left ≡ whole
   pub writes : Writes start now written (Ok tt)
 
--- a message's bytes stand at the front of a buffer, and what is behind them stays; it is refused exactly where they
+-- a message's bytes stand at the front of a buffer, and what follows them stays; it is refused exactly where they
 -- don't fit
 pub record Fills (old new : List ℕ) (text : List Bool) (result : Result ℕ Overflow) : Type 0 where
   pub refused : IsErr result ↔ (length old < message_length (length text))
   pub ok : IfOk result (λ count. (count ≡ message_length (length text)) × (new ≡ message_bytes text ++ drop count old))
   pub long : length new ≡ length old
 
--- an answer, with what is left to read behind it
+-- an answer, with what is left to read after it
 abbrev pub with_rest : {T : Type 0} → {E : Type 0} → List Bool → Result T E → Result (T × List Bool) E
 with_rest left (Ok value) = Ok (value, left)
 with_rest left (Err e) = Err e
@@ -53,7 +53,7 @@ abbrev pub holding : {T : Type 0} → {E : Type 0} → T → Result (Unit {0}) E
 holding value (Ok done) = Ok value
 holding value (Err e) = Err e
 
--- the reader answered this value and stands behind its text, or answered this fault
+-- the reader answered this value and stands after its text, or answered this fault
 pub record Reads {T E : Type 0} (old new : Reading) (answer : Result (T × List Bool) E) (result : Result T E) : Type 0 where
   pub value : with_rest new.left result ≡ answer
   pub words : new.words ≡ old.words

@@ -7,7 +7,7 @@ use Rattle.q3_bits.specs.Bits.{low_bits, bits_of}
 use Rattle.q3_bits.specs.Words.{IsCode}
 use Rattle.q3_bits.specs.Streams.{Reading}
 
--- the bits that are left: those that were gathered, and those of the bytes behind them
+-- the bits that are left: those that were gathered, and those of the bytes after them
 abbrev pub bits_ahead : Ahead → List Bool
 bits_ahead ahead = low_bits ahead.count ahead.bits ++ bits_of ahead.rest.now
 
@@ -15,7 +15,7 @@ bits_ahead ahead = low_bits ahead.count ahead.bits ++ bits_of ahead.rest.now
 abbrev pub IsFull : Ahead → Type 0
 IsFull ahead = (25 ≤ ahead.count) ⊎ (length ahead.rest.now ≡ 0)
 
--- a value and what is behind it, by its bits
+-- a value and what follows it, by its bits
 abbrev pub found_ahead : Result (ℕ × Ahead) ReadError → Result (ℕ × List Bool) ReadError
 found_ahead (Ok found) = Ok (found.0, bits_ahead found.1)
 found_ahead (Err e) = Err e

@@ -29,15 +29,15 @@ bytes_bits words (suc count) value = word_of words (value % 256) ++ bytes_bits w
 unfoldable pub field_bits : List (List Bool) → ℕ → ℕ → List Bool
 field_bits words width value = low_bits (width % 8) value ++ bytes_bits words (width / 8) (value / 2 ^ (width % 8))
 
--- a row of fields, each a value and its width, one behind the other
+-- a row of fields, each a value and its width, one after the other
 unfoldable pub row_bits : List (List Bool) → List (ℕ × ℕ) → List Bool
 row_bits words fields = flat_map (λ field. field_bits words field.1 field.0) fields
 
--- so many raw bits from the front, as a number, and what is behind them
+-- so many raw bits from the front, as a number, and what follows them
 unfoldable pub raw_at : ℕ → List Bool → Result (ℕ × List Bool) ReadError
 raw_at count bits = if nat_lt (length bits) count then Err End else Ok (number_of (take count bits), drop count bits)
 
--- what is behind a word that begins the bits
+-- what follows a word that begins the bits
 unfoldable pub behind : List Bool → List Bool → Option (List Bool)
 behind [] bits = Some bits
 behind (w ∷ word) [] = None
@@ -45,7 +45,7 @@ behind (true ∷ word) (true ∷ bits) = behind word bits
 behind (false ∷ word) (false ∷ bits) = behind word bits
 behind (w ∷ word) (b ∷ bits) = None
 
--- the first of these bytes whose word begins the bits, counted from `byte`, and what is behind the word
+-- the first of these bytes whose word begins the bits, counted from `byte`, and what follows the word
 unfoldable pub byte_from : ℕ → List (List Bool) → List Bool → Option (ℕ × List Bool)
 byte_from byte [] bits = None
 byte_from byte (word ∷ words) bits = option_or (option_map (λ rest. (byte, rest)) (behind word bits)) (byte_from (byte + 1) words bits)
@@ -66,14 +66,14 @@ bytes_at words (suc count) bits = do
   others ← bytes_at words count first.1
   Ok (first.0 + 256 * others.0, others.1)
 
--- the value of a field of so many bits at the front, and what is behind it; or why there is none
+-- the value of a field of so many bits at the front, and what follows it; or why there is none
 unfoldable pub field_at : List (List Bool) → ℕ → List Bool → Result (ℕ × List Bool) ReadError
 field_at words width bits = do
   raw ← raw_at (width % 8) bits
   bytes ← bytes_at words (width / 8) raw.1
   Ok (raw.0 + 2 ^ (width % 8) * bytes.0, bytes.1)
 
--- how many marks of 0 stand at the front, up to a limit, and what is behind them and behind the mark of 1 that ends them
+-- how many marks of 0 stand at the front, up to a limit, and what follows them and the mark of 1 that ends them
 unfoldable pub run_at : ℕ → List Bool → Result (ℕ × List Bool) ReadError
 run_at zero bits = Ok (0, bits)
 run_at (suc limit) [] = Err End

@@ -3,7 +3,7 @@
 ghost use Rattle.std.specs.Prelude.{◌≡◌, ◌+◌, ◌*◌, ◌<◌, ◌≤◌, ◌^◌, length, take, drop, MatchOption};
 ghost use Rattle.q3_bits.specs.Bits.{bits_of, number_of};
 
-/// The next bits, so many, as a number, the first of them least, and the bytes behind them.
+/// The next bits, so many, as a number, the first of them least, and the bytes after them.
 #[derive(Clone, Copy)]
 pub(crate) struct Ahead<'a> {
     pub(crate) bits: u64,
@@ -57,7 +57,7 @@ impl<'a> Ahead<'a> {
         ensures full { (56 ≤ self.new.count) ⊎ (length self.new.rest.now ≡ 0) }
     {
         let room = (63 - self.count) / 8;
-        // all but the last seven of a message's bytes have seven behind them
+        // all but the last seven of a message's bytes have seven after them
         if let Some(word) = first_eight(self.rest) {
             *self = self.with(word, room);
             return;
@@ -138,7 +138,7 @@ impl<'a> Ahead<'a> {
         self.count.min(25)
     }
 
-    /// The number that the next 24 bits spell, with zeros behind the last.
+    /// The number that the next 24 bits spell, with zeros after the last.
     pub(crate) fn window(self) -> u32
         requires { IsFull self }
         ensures bits { result ≡ number_of (take 24 (bits_ahead self.entry)) }
@@ -162,7 +162,7 @@ impl<'a> Ahead<'a> {
         Some(Marks { zeros, length })
     }
 
-    /// What is behind the next bits, so many.
+    /// What follows the next bits, so many.
     pub(crate) fn skip(self, count: u32) -> Ahead<'a>
         requires { count ≤ self.count }
         ensures { bits_ahead result ≡ drop count (bits_ahead self.entry) }
@@ -175,7 +175,7 @@ impl<'a> Ahead<'a> {
     }
 }
 
-/// What stands behind so many bytes.
+/// What follows so many bytes.
 fn behind(bytes: &[u8], count: usize) -> &[u8]
     requires { count ≤ length bytes.now }
     ensures { result.now ≡ drop count bytes.now }
@@ -203,7 +203,7 @@ fn last_seven(bytes: &[u8]) -> u64
     u64::from(first_four(bytes)) + (u64::from(high) << 32)
 }
 
-/// The number that the bits of the first four bytes spell, with zeros behind the last byte.
+/// The number that the bits of the first four bytes spell, with zeros after the last byte.
 fn first_four(bytes: &[u8]) -> u32
     ensures { result ≡ number_of (take 32 (bits_of bytes.now)) }
 {

@@ -20,7 +20,7 @@ pub enum ReadError {
     NoWord,
 }
 
-/// Reads fields of bits, one behind the other, from the bytes of a message.
+/// Reads fields of bits, one after the other, from the bytes of a message.
 #[derive(Drop)]
 pub struct Reader<'a> {
     code: &'a Code,
@@ -131,7 +131,7 @@ impl<'a> Reader<'a> {
         }
     }
 
-    /// Passes over marks of 0, at most `limit` (up to 56), and, where there are fewer, over the mark of 1 behind them, as
+    /// Passes over marks of 0, at most `limit` (up to 56), and, where there are fewer, over the mark of 1 after them, as
     /// the marks of a delta's fields stand: how many were 0. `MSG_ReadDeltaEntity` reads them one by one.
     /// `End` comes exactly where the bits end before; the reader then stays as it was.
     #[inline]
@@ -323,7 +323,7 @@ fn field_in(code: &Code, bits: u64, raw: u32, bytes: u32) -> Option<Spelled>
     Some(Spelled { value, length })
 }
 
-/// So many raw bits as a number, and what is behind them.
+/// So many raw bits as a number, and what follows them.
 fn raw_from(ahead: Ahead, count: u32) -> Result<(u32, Ahead), ReadError>
     requires few { count ≤ 24 }
     requires full { IsFull ahead }
@@ -338,7 +338,7 @@ fn raw_from(ahead: Ahead, count: u32) -> Result<(u32, Ahead), ReadError>
     Ok((ahead.window() % (1 << count), ahead.skip(count)))
 }
 
-/// The byte whose word comes next, and what is behind the word. Short words are found by the next 12 bits, others one by
+/// The byte whose word comes next, and what follows the word. Short words are found by the next 12 bits, others one by
 /// one.
 fn byte_from<'a>(code: &Code, ahead: Ahead<'a>) -> Result<(u8, Ahead<'a>), ReadError>
     ensures byte { found_ahead result ≡ byte_at code.now (bits_ahead ahead.entry) }
@@ -361,7 +361,7 @@ fn byte_from<'a>(code: &Code, ahead: Ahead<'a>) -> Result<(u8, Ahead<'a>), ReadE
     }
 }
 
-/// So many bytes by their words, least byte first, and what is behind them.
+/// So many bytes by their words, least byte first, and what follows them.
 fn bytes_from<'a>(code: &Code, ahead: Ahead<'a>, count: u32) -> Result<(u32, Ahead<'a>), ReadError>
     requires few { count ≤ 4 }
     ensures bytes_at { found_ahead result ≡ bytes_at code.now count (bits_ahead ahead.entry) }

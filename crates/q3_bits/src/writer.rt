@@ -18,7 +18,7 @@ pub const LONGEST_MESSAGE: usize = 16_384;
 #[derive(Clone, Copy, Debug, PartialEq, Eq)]
 pub struct Overflow;
 
-/// Writes fields of bits, each behind the last, into a message of at most `room` bytes.
+/// Writes fields of bits, each after the last, into a message of at most `room` bytes.
 #[derive(Drop)]
 pub struct Writer<'a> {
     code: &'a Code,
@@ -71,7 +71,7 @@ impl<'a> Writer<'a> {
         }
     }
 
-    /// Writes the low `width` bits of a value, 1 to 32, behind what is written:
+    /// Writes the low `width` bits of a value, 1 to 32, after what is written:
     /// the bits over whole bytes raw, least bit first, then the bytes as their words, least byte first.
     /// `Overflow` comes exactly where the message would be longer than its room; the writer then stays as it was.
     #[inline]
@@ -88,7 +88,7 @@ impl<'a> Writer<'a> {
         self.put_words(value % (1 << raw), raw, value >> raw, width / 8)
     }
 
-    /// Writes a mark of up to 7 bits, and a field of 1 to 32 behind it, each as `put` writes it, at once.
+    /// Writes a mark of up to 7 bits, and a field of 1 to 32 after it, each as `put` writes it, at once.
     /// `Overflow` comes exactly where the message would be longer than its room; the writer then stays as it was.
     pub fn put_marked(
         &mut self,
@@ -108,7 +108,7 @@ impl<'a> Writer<'a> {
         self.put_words(bits, count + raw, value >> raw, width / 8)
     }
 
-    /// Writes a field, a mark of up to 7 bits behind it, and another field behind that, each a value and its width, as
+    /// Writes a field, a mark of up to 7 bits after it, and another field after that, each a value and its width, as
     /// `put` writes them: at once where 56 bits are enough. The fields have at most 15 bits.
     /// `Overflow` comes exactly where the message would be longer than its room; a front of the three then stands there.
     pub fn put_three(
@@ -138,7 +138,7 @@ impl<'a> Writer<'a> {
         Ok(())
     }
 
-    /// The same, one behind the other.
+    /// The same, one after the other.
     #[cold]
     #[inline(never)]
     fn put_apart(
@@ -172,7 +172,7 @@ impl<'a> Writer<'a> {
         Ok(())
     }
 
-    /// Writes raw bits, so many, given as the number that they spell, and behind them the words of a value's bytes, so
+    /// Writes raw bits, so many, given as the number that they spell, and after them the words of a value's bytes, so
     /// many.
     #[inline(never)]
     fn put_words(&mut self, raw: u32, count: u32, value: u32, bytes: u32) -> Result<(), Overflow>
@@ -192,7 +192,7 @@ impl<'a> Writer<'a> {
         Ok(())
     }
 
-    /// Writes a row of fields, each a value and its width, one behind the other, each as `put` writes it.
+    /// Writes a row of fields, each a value and its width, one after the other, each as `put` writes it.
     /// `Overflow` comes exactly where the message would be longer than its room; a front of the row then stands there.
     pub fn put_all(&mut self, fields: &[(u32, u32)]) -> Result<(), Overflow>
         requires widths { All (λ field. (1 ≤ field.1) × (field.1 ≤ 32)) fields.now }
@@ -240,7 +240,7 @@ impl<'a> Writer<'a> {
         (self.count + count as usize) / 8 < self.room
     }
 
-    /// Writes raw bits, so many, given as the number that they spell, and words behind them: at once where 56 bits are
+    /// Writes raw bits, so many, given as the number that they spell, and words after them: at once where 56 bits are
     /// enough.
     fn push_words(&mut self, raw: u32, count: u32, low: Gathered, high: Gathered)
         requires few { count ≤ 14 }
@@ -261,7 +261,7 @@ impl<'a> Writer<'a> {
         self.push_each(raw, count, low, high);
     }
 
-    /// The same, one behind the other.
+    /// The same, one after the other.
     #[cold]
     #[inline(never)]
     fn push_each(&mut self, raw: u32, count: u32, low: Gathered, high: Gathered)
@@ -318,7 +318,7 @@ pub(crate) fn gather(code: &Code, value: u32, count: u32) -> Gathered
     two_words(low, code.word((value / 256 % 256) as u8))
 }
 
-/// A mark of up to 7 bits, and a field of at most 15 behind it, each a value and its width.
+/// A mark of up to 7 bits, and a field of at most 15 after it, each a value and its width.
 fn short_field(code: &Code, mark: (u32, u32), field: (u32, u32)) -> Gathered
     requires short { mark.1 ≤ 7 }
     requires most { field.1 ≤ 15 }
@@ -337,7 +337,7 @@ fn short_field(code: &Code, mark: (u32, u32), field: (u32, u32)) -> Gathered
     }
 }
 
-/// Two words, one behind the other.
+/// Two words, one after the other.
 fn two_words(low: Word, high: Word) -> Gathered
     requires low { IsWord low }
     requires high { IsWord high }
@@ -352,7 +352,7 @@ fn two_words(low: Word, high: Word) -> Gathered
     }
 }
 
-/// Writes bits behind those that lie in the bytes, `place` of them.
+/// Writes bits after those that lie in the bytes, `place` of them.
 fn store(bytes: &mut [u8; LONGEST_MESSAGE], place: usize, bits: u64, count: u32)
     requires few { count ≤ 56 }
     requires fits { bits < 2 ^ count }
@@ -362,7 +362,7 @@ fn store(bytes: &mut [u8; LONGEST_MESSAGE], place: usize, bits: u64, count: u32)
     ensures clear { IsClear bytes.new (place + count) }
 {
     let first = place / 8;
-    // all but the last bytes have seven behind them, and what is behind those that are written is 0
+    // all but the last bytes have seven after them, and what follows those that are written is 0
     if first > 16_376 {
         return store_each(bytes, place, bits, count);
     }

@@ -145,7 +145,7 @@ abbrev pub has_bad_check : Side → Option ℕ → List ℕ → Bool
 has_bad_check side None bytes = false
 has_bad_check side (Some challenge) bytes = not (check_in side bytes == check_of challenge (number_in bytes))
 
--- where a fragment's piece starts, how long it is said to be, and the bytes that stand behind the header
+-- where a fragment's piece starts, how long it is said to be, and the bytes that stand after the header
 abbrev pub start_in : Form → List ℕ → ℕ
 start_in form bytes = little_number 2 (drop (short_of form) bytes)
 

@@ -49,7 +49,7 @@ gathering_of g number = if number == g.number then g else record g { number = nu
 abbrev pub take_whole : Gathering → ℕ → List ℕ → Took
 take_whole g number message = if nat_lt longest_message (length message) then answers g BadFragment else arrives g number message
 
--- a piece behind what was gathered: one that is shorter than a piece may be completes the message
+-- a piece after what was gathered: one that is shorter than a piece may be completes the message
 abbrev pub add_piece : Gathering → List ℕ → Took
 add_piece g piece =
     if nat_lt (length piece) fragment_size then arrives (emptied g) g.number (g.bytes ++ piece)

@@ -48,7 +48,7 @@ abbrev pub scrambled_by : ℕ → Option ℕ → List ℕ → List ℕ → List 
 scrambled_by from None text bytes = bytes
 scrambled_by from (Some start) text bytes = scrambled from start text bytes
 
--- a message of an end, scrambled behind its leading longs
+-- a message of an end, scrambled after its leading longs
 abbrev pub side_scrambled : Side → Key → List ℕ → List ℕ
 side_scrambled side key bytes = scrambled_by (clear_bytes side) key.start key.text bytes
 

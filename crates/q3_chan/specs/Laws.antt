@@ -12,7 +12,7 @@ use Rattle.q3_chan.specs.Tags.{tagged, tagged_all, Came, PieceDoes}
 use Rattle.q3_chan.specs.Scrambling.{scrambled}
 use Rattle.q3_chan.specs.Keys.{Key, clear_bytes, side_scrambled}
 
--- the pieces of a message, one behind the other, are the message
+-- the pieces of a message, one after the other, are the message
 abbrev pub PiecesAreWhole : Type 0
 PiecesAreWhole = (message : List ℕ) → concat (pieces message) ≡ message
 

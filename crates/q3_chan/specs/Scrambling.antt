@@ -22,18 +22,18 @@ scrambled from start text bytes = take from bytes ++ keyed (key_at from start te
 
 -- ---- a key that goes on from place to place
 
--- a key and the bytes of a text behind it: each key is the one before it, XORed with the text's byte, shifted by one at odd
+-- a key and the bytes of a text after it: each key is the one before it, XORed with the text's byte, shifted by one at odd
 -- places
 pub record GoesOn (keys : ℕ → ℕ) (place : ℕ) (key : ℕ) (text : List ℕ) : Type 0 where
   pub here : keys place ≡ key
   pub next : (k : ℕ) → k < length text → keys (place + k + 1) ≡ bit_xor (keys (place + k)) (slice_index text k * 2 ^ ((place + k) % 2))
 
--- the bytes from a place on up to another are XORed, each with the key behind it, and the last of these keys is told
+-- the bytes from a place on up to another are XORed, each with the key after it, and the last of these keys is told
 pub record Went (keys : ℕ → ℕ) (place : ℕ) (old : List ℕ) (to : ℕ) (key : ℕ) (new : List ℕ) : Type 0 where
   pub key_is : keys to ≡ key
   pub bytes : take to new ++ keyed (λ k. keys (k + 1)) to (drop to new) ≡ take place old ++ keyed (λ k. keys (k + 1)) place (drop place old)
 
--- a text so many times, one behind the other
+-- a text so many times, one after the other
 pub record Repeats (text all : List ℕ) : Type 0 where
   pub some : 0 < length all
   pub whole : length all % length text ≡ 0

@@ -8,7 +8,7 @@ use Rattle.q3_chan.specs.Datagrams.{Header, sequence_end, piece_count, is_fragme
 use Rattle.q3_chan.specs.Gathering.{is_connectionless}
 use Rattle.q3_chan.specs.Laws.{IsSendable}
 
--- the qport behind the number of a client's message
+-- the qport after the number of a client's message
 abbrev pub qport_in : List ℕ → ℕ
 qport_in bytes = little_number 2 (drop 4 bytes)
 

@@ -26,7 +26,7 @@ IsIdle s = s.under_way ≡ None
 abbrev pub started : Sending → List ℕ → Sending
 started s message = record s { number = s.number + 1; under_way = Some (record { message = message; next = 0 }) }
 
--- what is left behind a piece
+-- what is left after a piece
 abbrev pub left_of : UnderWay → Option UnderWay
 left_of left =
     if nat_lt (left.next + 1) (piece_count (length left.message)) then Some (record left { next = left.next + 1 }) else None
@@ -47,7 +47,7 @@ hand_out s (Some left) = record {
 unfoldable pub next_of : Sending → Handed
 next_of s = hand_out s s.under_way
 
--- the datagrams of so many pieces that are handed out one after the other, and the end behind them
+-- the datagrams of so many pieces that are handed out one by one, and the end after them
 unfoldable pub handed_out : ℕ → Sending → List (List ℕ)
 handed_out zero s = []
 handed_out (suc count) s = (next_of s).datagram ∷ handed_out count (next_of s).sending

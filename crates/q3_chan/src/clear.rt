@@ -56,7 +56,7 @@ pub fn scramble_client(
     scramble_side(Side::Client, bytes, protocol, start, text);
 }
 
-/// Scrambles a message of an end behind its leading longs, by a protocol that scrambles.
+/// Scrambles a message of an end after its leading longs, by a protocol that scrambles.
 fn scramble_side(side: Side, bytes: &mut [u8], protocol: u32, start: u8, text: &Text)
     ensures { bytes.new ≡ side_scrambled side (record { start = start_by protocol start; text = text.now }) bytes.old }
 {

@@ -190,7 +190,7 @@ impl Gatherer {
         self.take_piece(count, there, into)
     }
 
-    /// Takes a piece behind what was gathered, which is said to have so many of the bytes there.
+    /// Takes a piece after what was gathered, which is said to have so many of the bytes there.
     fn take_piece(&mut self, count: usize, there: &[u8], into: &mut [u8]) -> Gathered
         requires { length into.old ≡ longest_message }
         ensures gathering { self.new ≡ (take_piece self.old count there.now).gathering }
@@ -203,7 +203,7 @@ impl Gatherer {
         self.add_piece(&there[..count], into)
     }
 
-    /// Puts a piece behind what was gathered. One that is shorter than a piece may be completes the message.
+    /// Puts a piece after what was gathered. One that is shorter than a piece may be completes the message.
     fn add_piece(&mut self, piece: &[u8], into: &mut [u8]) -> Gathered
         requires room { length into.old ≡ longest_message }
         requires most { length self.old.bytes + length piece.now ≤ longest_message }
@@ -219,7 +219,7 @@ impl Gatherer {
         }
     }
 
-    /// Puts bytes behind those gathered.
+    /// Puts bytes after those gathered.
     fn append(&mut self, piece: &[u8])
         requires { length self.old.bytes + length piece.now ≤ longest_message }
         ensures { self.new ≡ record self.old { bytes = self.old.bytes ++ piece.now } }

@@ -16,7 +16,7 @@ use std::marker::Model;
 /// What is added to the number of a message in its fragments: the top bit, the engine's `FRAGMENT_BIT`.
 const FRAGMENT_MARK: u32 = 0x8000_0000;
 
-/// Puts bytes behind those of a datagram.
+/// Puts bytes after those of a datagram.
 pub(crate) fn put_bytes(out: &mut Datagram, bytes: &[u8])
     requires { length out.old.items + length bytes.now ≤ DATAGRAM_ROOM }
     ensures { out.new.items ≡ out.old.items ++ bytes.now }
@@ -25,7 +25,7 @@ pub(crate) fn put_bytes(out: &mut Datagram, bytes: &[u8])
     prove!(put.is_ok());
 }
 
-/// Puts a number of 32 bits behind the bytes of a datagram.
+/// Puts a number of 32 bits after the bytes of a datagram.
 fn put_long(out: &mut Datagram, number: u32)
     requires { length out.old.items + 4 ≤ DATAGRAM_ROOM }
     ensures { out.new.items ≡ out.old.items ++ little_bytes 4 number }
@@ -35,7 +35,7 @@ fn put_long(out: &mut Datagram, number: u32)
     put_bytes(out, &bytes);
 }
 
-/// Puts a number of 16 bits behind the bytes of a datagram.
+/// Puts a number of 16 bits after the bytes of a datagram.
 pub(crate) fn put_short(out: &mut Datagram, number: u16)
     requires { length out.old.items + 2 ≤ DATAGRAM_ROOM }
     ensures { out.new.items ≡ out.old.items ++ little_bytes 2 number }
@@ -203,7 +203,7 @@ fn check_in(side: Side, datagram: &[u8]) -> u32
     LittleEndian::read_u32(&datagram[before_check(side)..])
 }
 
-/// The bytes behind the header.
+/// The bytes after the header.
 pub(crate) fn behind_header(form: Form, datagram: &[u8]) -> &[u8]
     requires number { 4 ≤ length datagram.now }
     requires header { length_of form (is_fragment datagram.now) ≤ length datagram.now }

@@ -4,7 +4,7 @@
 ghost use Rattle.q3_chan.specs.Laws.{PiecesAreWhole, HandsOutAll, SentIsTagged, TaggedDoes, PiecesAreTagged, FirstArePartial, PiecesComeWhole, FirstComePartial, GatheredIsOne, WholeArePieces, EndsGather, EndsSend, TwiceIsNone, FrontStays, BytesStayBytes, SideTwiceIsNone, SideFrontStays, SideBytesStay};
 ghost use Rattle.q3_chan.specs.Senders.{QportIsTold};
 
-/// The pieces of a message, one behind the other, are the message.
+/// The pieces of a message, one after the other, are the message.
 pub fn pieces_are_whole()
     ensures { PiecesAreWhole }
 {}
@@ -49,13 +49,13 @@ pub fn whole_are_pieces()
     ensures { WholeArePieces }
 {}
 
-/// What an end that receives has taken and gathers was begun: so at first, behind each piece of a message that was begun, and
+/// What an end that receives has taken and gathers was begun: so at first, after each piece of a message that was begun, and
 /// where more are begun.
 pub fn ends_gather()
     ensures { EndsGather }
 {}
 
-/// What an end that sends has under way is the message under its number: so at first, behind each that is begun, and behind
+/// What an end that sends has under way is the message under its number: so at first, after each that is begun, and after
 /// each piece that is handed out.
 pub fn ends_send()
     ensures { EndsSend }

@@ -35,7 +35,7 @@ pub fn qport_of(checked: bool, datagram: &[u8]) -> Result<u16, NoQport>
     Ok(qport_in(datagram))
 }
 
-/// The qport behind the number of a client's message.
+/// The qport after the number of a client's message.
 fn qport_in(datagram: &[u8]) -> u16
     requires { 6 ≤ length datagram.now }
     ensures { result ≡ qport_in datagram.now }

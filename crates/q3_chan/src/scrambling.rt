@@ -15,7 +15,7 @@ const SHORT: usize = 16;
 
 /// Scrambles a message from a place on, or clears it: twice is the identity. Both ends call it, a server from byte 4 on and
 /// a client from byte 12. The start is the low byte of what the sides agree on, and the text that of a command which both
-/// know. A place behind the end changes nothing.
+/// know. A place after the end changes nothing.
 pub fn scramble(bytes: &mut [u8], from: usize, start: u8, text: &Text)
     ensures { bytes.new ≡ scrambled from start text.now bytes.old }
 {
@@ -78,7 +78,7 @@ fn add_text(bytes: &mut [u8], from: usize, start: u8, text: &[u8])
     }
 }
 
-/// Goes through the text once, from a place on. Answers the key behind.
+/// Goes through the text once, from a place on. Answers the key after it.
 fn add_part(bytes: &mut [u8], place: usize, key: u8, text: &[u8]) -> u8
     requires some { 0 < length text.now }
     requires room { place + length text.now ≤ length bytes.old }
@@ -93,7 +93,7 @@ fn add_part(bytes: &mut [u8], place: usize, key: u8, text: &[u8]) -> u8
     add_pairs(bytes, place + 1, key, &text[1..])
 }
 
-/// Goes through the text once, from an even place on, by two bytes at a time. Answers the key behind.
+/// Goes through the text once, from an even place on, by two bytes at a time. Answers the key after it.
 fn add_pairs(bytes: &mut [u8], place: usize, key: u8, text: &[u8]) -> u8
     requires even { place % 2 ≡ 0 }
     requires room { place + length text.now ≤ length bytes.old }

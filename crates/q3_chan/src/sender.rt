@@ -128,7 +128,7 @@ fn write_datagram(out: &mut Datagram, header: Header, number: u32, message: &[u8
     }
 }
 
-/// Puts the piece of a message at an index behind the bytes of a datagram: where it starts, how long it is, and its bytes.
+/// Puts the piece of a message at an index after the bytes of a datagram: where it starts, how long it is, and its bytes.
 fn put_piece(out: &mut Datagram, message: &[u8], index: usize)
     requires room { length out.old.items ≤ 10 }
     requires most { length message.now ≤ longest_message }
@@ -152,7 +152,7 @@ fn piece_of(message: &[u8], index: usize) -> &[u8]
     &behind[..behind.len().min(FRAGMENT_SIZE)]
 }
 
-/// The index of the piece of a message behind one, if there is one.
+/// The index of the piece of a message after one, if there is one.
 fn index_behind(message: &[u8], index: usize) -> Option<usize>
     ensures { result ≡ (if nat_lt (index + 1) (piece_count (length message.now)) then Some (index + 1) else None) }
 {

@@ -92,7 +92,7 @@ hidden key width field = bit_xor field (key % 2 ^ width)
 
 -- ---- what is written
 
--- how far a time is behind another, modulo 2^32
+-- how far a time is after another, modulo 2^32
 abbrev pub behind : ℕ → ℕ → ℕ
 behind from to = (to + 2 ^ 32 - from) % 2 ^ 32
 
@@ -116,19 +116,19 @@ abbrev pub changed_bits : List (List Bool) → ℕ → List ℕ → List ℕ →
 changed_bits words key from to =
     if bytes_eq from to then field_bits words 1 0 else field_bits words 1 1 ++ fields_bits words key move_widths from to
 
--- a move behind another: its time, and what else changed
+-- a move after another: its time, and what else changed
 unfoldable pub move_delta : List (List Bool) → ℕ → Move → Move → List Bool
 move_delta words key from to =
     time_bits words from.time to.time ++ changed_bits words (move_key key to.time) (fields_of from) (fields_of to)
 
--- moves, each behind the one before
+-- moves, each after the one before
 unfoldable pub moves_bits : List (List Bool) → ℕ → Move → List Move → List Bool
 moves_bits words key from [] = []
 moves_bits words key from (one ∷ moves) = move_delta words key from one ++ moves_bits words key one moves
 
 -- ---- what is read
 
--- a time behind another
+-- a time after another
 unfoldable pub time_at : List (List Bool) → ℕ → List Bool → Result (ℕ × List Bool) ReadError
 time_at words from bits = do
   near ← field_at words 1 bits
@@ -152,7 +152,7 @@ fields_at words key (width ∷ widths) (a ∷ from) bits = do
   Ok (field.0 ∷ others.0, others.1)
 fields_at words key widths from bits = Ok ([], bits)
 
--- a move behind another
+-- a move after another
 unfoldable pub move_at : List (List Bool) → ℕ → Move → List Bool → Result (Move × List Bool) ReadError
 move_at words key from bits = do
   time ← time_at words from.time bits
@@ -161,7 +161,7 @@ move_at words key from bits = do
     fields ← fields_at words (move_key key time.0) move_widths (fields_of from) changed.1
     Ok (move_of time.0 fields.0, fields.1))
 
--- so many moves, each behind the one before
+-- so many moves, each after the one before
 unfoldable pub moves_at : List (List Bool) → ℕ → ℕ → Move → List Bool → Result (List Move × List Bool) ReadError
 moves_at words key zero from bits = Ok ([], bits)
 moves_at words key (suc count) from bits = do

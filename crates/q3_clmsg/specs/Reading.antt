@@ -36,20 +36,20 @@ heads_at words bits = do
 abbrev pub heads_in : List (List Bool) → List Bool → Result Heads ReadError
 heads_in words bits = heads_at words bits >>= λ read. Ok read.0
 
--- the moves behind their operation: 1 to 32
+-- the moves after their operation: 1 to 32
 unfoldable pub section_at : List (List Bool) → ℕ → List Bool → Result (List Move × List Bool) ClientIllegible
 section_at words key bits = do
   count ← field_read words 8 bits
   if nat_le 1 count.0 && nat_le count.0 32 then fault_as Bits (moves_at words key count.0 no_move count.1) else Err (MoveCount count.0)
 
--- a message with its moves, and what is behind its end
+-- a message with its moves, and what follows its end
 unfoldable pub moved_at : List (List Bool) → ℕ → Bool → Message → List Bool → Result (Message × List Bool) ClientIllegible
 moved_at words key delta message bits = do
   moves ← section_at words key bits
   ending ← fault_as operation_error (ending_at words 5 (length moves.1) moves.1)
   Ok (record message { delta = delta; moves = moves.0 }, ending.1)
 
--- a message behind its commands, by the operation behind them: the end, or the moves
+-- a message after its commands, by the operation that follows them: the end, or the moves
 unfoldable pub rest_at : List (List Bool) → ℕ → ℕ → Message → List Bool → Result (Message × List Bool) ClientIllegible
 rest_at words key operation message bits =
     if operation == 5 then Ok (message, bits) else
@@ -57,13 +57,13 @@ rest_at words key operation message bits =
     if operation == 3 then moved_at words key false message bits
     else Err (BadOp operation)
 
--- behind the leading longs: nops and commands, and the end of the message or its moves
+-- after the leading longs: nops and commands, and the end of the message or its moves
 unfoldable pub operations_at : List (List Bool) → ℕ → Message → List Bool → Result (Message × List Bool) ClientIllegible
 operations_at words key message bits = do
   row ← fault_as operation_error (row_at words 4 (length bits) message.commands bits)
   rest_at words key row.0.operation (record message { commands = row.0.commands }) row.1
 
--- a client's message by its key: its value, and what is behind its end
+-- a client's message by its key: its value, and what follows its end
 unfoldable pub client_message_at : List (List Bool) → ℕ → List Bool → Result (Message × List Bool) ClientIllegible
 client_message_at words key bits = do
   heads ← fault_as Bits (heads_at words bits)

@@ -13,7 +13,7 @@ move_words one =
     decimal one.time ∷ map decimal one.angles
     ++ signed_decimal one.forward ∷ signed_decimal one.right ∷ signed_decimal one.up ∷ decimal one.buttons ∷ decimal one.weapon ∷ []
 
--- words, each behind a space
+-- words, each after a space
 abbrev pub spaced : List (List ℕ) → List ℕ
 spaced words = flat_map (λ word. codes " " ++ word) words
 
@@ -30,7 +30,7 @@ cause_word causes.TextLong = codes "text"
 cause_word causes.Commands = codes "commands"
 cause_word (causes.Ack number) = codes "ack"
 
--- the number behind it, if it has one
+-- the number after it, if it has one
 abbrev pub cause_number : ClientIllegible → Option ℕ
 cause_number (causes.Bits e) = None
 cause_number (causes.BadOp byte) = Some byte

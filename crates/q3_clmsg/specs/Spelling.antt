@@ -8,7 +8,7 @@ use Rattle.q3_clmsg.specs.Moves.{no_move, move_widths, fields_of, move_of, move_
 use Rattle.q3_clmsg.specs.Texts.{move_operation}
 use Rattle.q3_clmsg.specs.Values.{Message}
 
--- a time behind another
+-- a time after another
 abbrev pub SpellsTime : List (List Bool) → ℕ → ℕ → List Bool → Type 0
 SpellsTime words from to bits =
     ((difference : ℕ) × (difference < 256) × (to ≡ (from + difference) % 2 ^ 32) × (bits ≡ row_bits words ((1, 1) ∷ (difference, 8) ∷ [])))
@@ -22,7 +22,7 @@ SpellsFields words key (width ∷ widths) (a ∷ from) to bits =
     × SpellsFields words key widths from others rest
 SpellsFields words key widths from to bits = (to ≡ []) × (bits ≡ [])
 
--- a move behind another
+-- a move after another
 pub record SpellsMove (words : List (List Bool)) (key : ℕ) (from to : Move) (bits : List Bool) : Type 0 where
   pub time : List Bool
   pub rest : List Bool
@@ -32,7 +32,7 @@ pub record SpellsMove (words : List (List Bool)) (key : ℕ) (from to : Move) (b
       × SpellsFields words (move_key key to.time) move_widths (fields_of from) fields text × (rest ≡ field_bits words 1 1 ++ text))
   pub whole : bits ≡ time ++ rest
 
--- moves, each behind the one before
+-- moves, each after the one before
 abbrev pub SpellsMoves : List (List Bool) → ℕ → Move → List Move → List Bool → Type 0
 SpellsMoves words key from [] bits = bits ≡ []
 SpellsMoves words key from (one ∷ moves) bits =

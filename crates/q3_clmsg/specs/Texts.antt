@@ -11,7 +11,7 @@ abbrev pub move_operation : Bool → ℕ
 move_operation true = 2
 move_operation false = 3
 
--- the moves: the operation, how many, and each behind the one before, the first behind none; without moves there is nothing
+-- the moves: the operation, how many, and each after the one before, the first after none; without moves there is nothing
 abbrev pub move_section_bits : List (List Bool) → ℕ → Bool → List Move → List Bool
 move_section_bits words key delta [] = []
 move_section_bits words key delta moves =

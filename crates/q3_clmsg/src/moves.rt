@@ -126,7 +126,7 @@ fn move_from(time: u32, fields: &[u32; FIELDS]) -> Move
     }
 }
 
-/// Writes moves, each behind the one before, the first behind none.
+/// Writes moves, each after the one before, the first after none.
 pub(crate) fn write_moves(w: &mut Writer, key: u32, moves: &[Move]) -> Result<(), Overflow>
     ensures { Writes w.old w.new (moves_bits w.old.words key no_move moves.now) result }
 {
@@ -141,7 +141,7 @@ pub(crate) fn write_moves(w: &mut Writer, key: u32, moves: &[Move]) -> Result<()
     Ok(())
 }
 
-/// Writes a move behind another: its time, and what else changed.
+/// Writes a move after another: its time, and what else changed.
 #[tactic(auto, unfolding(crate::specs::Moves::move_delta))]
 fn write_move(w: &mut Writer, key: u32, from: &Move, to: &Move) -> Result<(), Overflow>
     ensures { Writes w.old w.new (move_delta w.old.words key from.now to.now) result }
@@ -151,7 +151,7 @@ fn write_move(w: &mut Writer, key: u32, from: &Move, to: &Move) -> Result<(), Ov
     write_changed(w, key ^ to.time, &fields(from), &fields(to))
 }
 
-/// Writes a time behind another: in 8 bits how far they are apart, if it is below 256, or else in 32.
+/// Writes a time after another: in 8 bits how far they are apart, if it is below 256, or else in 32.
 fn write_time(w: &mut Writer, from: u32, to: u32) -> Result<(), Overflow>
     ensures { Writes w.old w.new (time_bits w.old.words from to) result }
 {
@@ -162,7 +162,7 @@ fn write_time(w: &mut Writer, from: u32, to: u32) -> Result<(), Overflow>
     w.put_all(&[(0, BIT), (to, LONG)])
 }
 
-/// Writes a mark, and behind a mark of change the fields.
+/// Writes a mark, and after a mark of change the fields.
 fn write_changed(
     w: &mut Writer,
     key: u32,
@@ -197,7 +197,7 @@ fn write_fields(
     Ok(())
 }
 
-/// Writes a mark, and behind a mark of change the field, hidden.
+/// Writes a mark, and after a mark of change the field, hidden.
 fn write_field(w: &mut Writer, key: u32, width: u32, from: u32, to: u32) -> Result<(), Overflow>
     requires some { 1 ≤ width }
     requires most { width ≤ 16 }
@@ -209,7 +209,7 @@ fn write_field(w: &mut Writer, key: u32, width: u32, from: u32, to: u32) -> Resu
     w.put_all(&[(1, BIT), (hidden(key, width, to), width)])
 }
 
-/// Reads so many moves, each behind the one before, the first behind none.
+/// Reads so many moves, each after the one before, the first after none.
 pub(crate) fn read_moves(
     r: &mut Reader,
     key: u32,
@@ -228,7 +228,7 @@ pub(crate) fn read_moves(
     Ok(())
 }
 
-/// Reads a move behind another.
+/// Reads a move after another.
 #[tactic(auto, unfolding(crate::specs::Moves::move_at))]
 fn read_move(r: &mut Reader, key: u32, from: &Move) -> Result<Move, ReadError>
     ensures { Reads r.old r.new (move_at r.old.words key from.now r.old.left) result }
@@ -242,7 +242,7 @@ fn read_move(r: &mut Reader, key: u32, from: &Move) -> Result<Move, ReadError>
     Ok(move_from(time, &fields))
 }
 
-/// Reads a time behind another.
+/// Reads a time after another.
 #[tactic(auto, unfolding(crate::specs::Moves::time_at))]
 fn read_time(r: &mut Reader, from: u32) -> Result<u32, ReadError>
     ensures { Reads r.old r.new (time_at r.old.words from r.old.left) result }
@@ -266,7 +266,7 @@ fn read_fields(r: &mut Reader, key: u32, fields: &mut [u32; FIELDS]) -> Result<(
     Ok(())
 }
 
-/// Reads a mark, and behind a mark of change the field.
+/// Reads a mark, and after a mark of change the field.
 #[tactic(auto, using(crate::proofs::Keys::hidden_fits))]
 fn read_field(r: &mut Reader, key: u32, width: u32, from: u32) -> Result<u32, ReadError>
     requires some { 1 ≤ width }

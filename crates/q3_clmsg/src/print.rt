@@ -9,8 +9,8 @@ ghost use Rattle.q3_clmsg.specs.Report.{move_words, spaced};
 use crate::moves::Move;
 use q3_io::{Failed, Piece, Sink, laws, print_all};
 
-/// Prints the words of a move, each behind a space: its time, its angles, how fast it goes forward, right and up, its buttons and
-/// its weapon. `Failed` comes where the sink failed, behind a front of them.
+/// Prints the words of a move, each after a space: its time, its angles, how fast it goes forward, right and up, its buttons and
+/// its weapon. `Failed` comes where the sink failed, after a front of them.
 pub fn print_move<O: Sink>(one: Move, out: &mut O) -> Result<(), Failed>
     ensures adds { Adds (O.written out.old) (O.written out.new) (spaced (move_words one)) result }
     ensures cause { HasCause (O.faults out.old) (O.faults out.new) result }

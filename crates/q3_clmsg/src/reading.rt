@@ -18,7 +18,7 @@ use arrayvec::ArrayVec;
 use q3_bits::{BYTE, Code, Reader};
 use q3_strings::{read_ending, read_row};
 
-/// Reads the moves behind their operation, and how many there are.
+/// Reads the moves after their operation, and how many there are.
 #[tactic(auto, unfolding(crate::specs::Reading::section_at))]
 fn read_section(
     r: &mut Reader,
@@ -35,7 +35,7 @@ fn read_section(
     Ok(())
 }
 
-/// Reads the moves behind their operation, and the message to its end.
+/// Reads the moves after their operation, and the message to its end.
 #[tactic(auto, unfolding(crate::specs::Reading::moved_at))]
 fn read_moved(
     r: &mut Reader,
@@ -52,7 +52,7 @@ fn read_moved(
     Ok(())
 }
 
-/// Reads what is behind the leading longs: nops and commands, and the end of the message or its moves.
+/// Reads what follows the leading longs: nops and commands, and the end of the message or its moves.
 #[tactic(auto, unfolding(crate::specs::Reading::rest_at, crate::specs::Reading::operations_at))]
 fn read_operations(
     r: &mut Reader,
@@ -74,8 +74,8 @@ fn read_operations(
 /// refusal `into` may hold anything.
 ///
 /// `Err` is the first fault in reading order: `Bits` where the bits don't read; `BadOp` for an operation that may not
-/// stand there: before the moves others than nop, command, moves and the end, and behind them others than nop and the
-/// end; `Commands` for a 65th command; `TextLong` where the byte behind 1,023 of a string isn't 0; `MoveCount` for no
+/// stand there: before the moves others than nop, command, moves and the end, and after them others than nop and the
+/// end; `Commands` for a 65th command; `TextLong` where the byte after 1,023 of a string isn't 0; `MoveCount` for no
 /// move or more than 32.
 #[tactic(auto, unfolding(crate::specs::Reading::client_message_at))]
 pub fn read_client_message(

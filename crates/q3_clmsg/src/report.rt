@@ -20,7 +20,7 @@ pub fn cause_word(cause: ClientIllegible) -> &'static [u8]
     }
 }
 
-/// The number that is printed behind the word of a cause.
+/// The number that is printed after the word of a cause.
 pub fn cause_number(cause: ClientIllegible) -> Option<u32>
     ensures { result ≡ number_of_cause cause }
 {

@@ -13,7 +13,7 @@ use q3_bits::{BYTE, Code, LONG, Overflow, Writer, laws};
 use q3_strings::write_commands;
 use q3_text::CommandRun;
 
-/// Writes a message to the front of a buffer of 1 to 16,384 bytes, and answers how many bytes it has; those behind it
+/// Writes a message to the front of a buffer of 1 to 16,384 bytes, and answers how many bytes it has; those after it
 /// stay. `key` is that of its moves, as `message_key` gives it. Without moves `delta` isn't written.
 /// `Overflow` comes exactly where the message is longer than the buffer.
 pub fn write_client_message(

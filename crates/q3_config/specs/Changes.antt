@@ -34,12 +34,12 @@ make_change strings index text =
     if bytes_eq (string_at strings index) (map translated text) then unchanged strings
     else change_or strings index text (set_fault strings index text)
 
--- a pending text with one piece more: behind the last the change is made, and nothing is pending
+-- a pending text with one piece more: after the last the change is made, and nothing is pending
 abbrev pub finish : Strings → Word → ℕ → List ℕ → Applied
 finish strings Last index text = make_change (without_pending strings) index text
 finish strings other index text = unchanged (with_pending strings index text)
 
--- a piece behind what is pending, which ends where it would get too long
+-- a piece after what is pending, which ends where it would get too long
 abbrev pub grow : Strings → Word → ℕ → List ℕ → Applied
 grow strings word index text =
     if nat_lt longest_string (length text) then unchanged (without_pending strings) else finish strings word index text

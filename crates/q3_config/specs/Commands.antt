@@ -40,7 +40,7 @@ piece_size = 999
 unfoldable pub piece_count : ℕ → ℕ
 piece_count bytes = if nat_lt bytes whole_below then 1 else (bytes + 998) / piece_size
 
--- the word of a piece: the last is the one behind which nothing is left
+-- the word of a piece: the last is the one after which nothing is left
 unfoldable pub word_of : ℕ → ℕ → Word
 word_of count k = if count == 1 then Whole else if k == 0 then First else if k + 1 == count then Last else Middle
 
@@ -66,12 +66,12 @@ word_in text =
     if bytes_eq text (codes "bcs1") then Some Middle else
     if bytes_eq text (codes "bcs2") then Some Last else None
 
--- what stands before a quote, where nothing or a newline stands behind it
+-- what stands before a quote, where nothing or a newline follows it
 abbrev pub closed_in : Option (List ℕ × List ℕ) → Option (List ℕ)
 closed_in None = None
 closed_in (Some cut) = if bytes_eq cut.1 [] || bytes_eq cut.1 (codes "\n") then Some cut.0 else None
 
--- what stands between the quotes, where the text begins with one, and nothing or a newline stands behind the next
+-- what stands between the quotes, where the text begins with one, and nothing or a newline follows the next
 unfoldable pub quoted_in : List ℕ → Option (List ℕ)
 quoted_in [] = None
 quoted_in (first ∷ text) = if first == 34 then closed_in (cut_at 34 text) else None

@@ -16,7 +16,7 @@ abbrev pub attempted : Option Pending → List (List ℕ) → Option Bool → Ap
 attempted pending texts (Some changed) = record { strings = strings_with pending texts; changed = changed }
 attempted pending texts None = unchanged (strings_with None texts)
 
--- what is still to be done where a piece came behind the pending text
+-- what is still to be done where a piece came after the pending text
 abbrev pub finished : Strings → Word → Option Pending → Applied
 finished strings word None = unchanged strings
 finished strings word (Some pending) = finish strings word pending.index pending.text

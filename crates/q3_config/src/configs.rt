@@ -183,7 +183,7 @@ impl Configs {
         }
     }
 
-    /// Puts a piece behind the pending text of its index, which ends where it would get too long, and says whether it did.
+    /// Puts a piece after the pending text of its index, which ends where it would get too long, and says whether it did.
     fn grow(&mut self, index: u32, text: &[u8]) -> bool
         ensures { (word : commands.Word) → go_on self.old word index text.now self.old.pending
             ≡ (if result then finished self.new word self.new.pending else unchanged self.new) }

@@ -54,7 +54,7 @@ impl Pending {
         extend(&mut self.bytes, text);
     }
 
-    /// Puts a piece behind the text that is pending.
+    /// Puts a piece after the text that is pending.
     pub fn push(&mut self, text: &[u8])
         requires { IfSome self.old (λ pending. length pending.text + length text.now ≤ longest_string) }
         ensures { self.new ≡ option_map (λ pending. record { index = pending.index; text = pending.text ++ text.now }) self.old }
@@ -72,7 +72,7 @@ impl Pending {
     }
 }
 
-/// Puts a text behind bytes.
+/// Puts a text after bytes.
 fn extend(bytes: &mut Vec<u8>, text: &[u8])
     requires { length bytes.old.items + length text.now ≤ vec_capacity bytes.old }
     ensures items { bytes.new.items ≡ bytes.old.items ++ text.now }

@@ -42,7 +42,7 @@ pub(crate) struct Change<'a> {
 }
 
 /// The index of a text that has the shape of a config command: one of the four words, an index from 0 to 1,023 in
-/// decimal, and a text in quotes with no quote in it, with one space between them, and nothing or a newline behind.
+/// decimal, and a text in quotes with no quote in it, with one space between them, and nothing or a newline at the end.
 /// `None` for every other text.
 pub fn shape(text: &Text) -> Option<u32>
     ensures { result ≡ option_map (λ change. change.index) (change_in text.now) }
@@ -83,7 +83,7 @@ fn word_of(text: &[u8]) -> Option<Word>
     }
 }
 
-/// What stands between the quotes, where the text begins with one and nothing or a newline stands behind the next.
+/// What stands between the quotes, where the text begins with one and nothing or a newline follows the next.
 #[tactic(auto, unfolding(crate::specs::Commands::quoted_in))]
 fn quoted(text: &[u8]) -> Option<&[u8]>
     ensures quoted { option_map (λ body. body.now) result ≡ quoted_in text.now }

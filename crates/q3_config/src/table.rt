@@ -1,5 +1,5 @@
-//! The strings themselves. Each lies somewhere in one piece of memory, and a new one goes behind all others: so what it
-//! costs to set a string doesn't grow with the other strings. The engine's `gameState_t` (q_shared.h) has them one behind
+//! The strings themselves. Each lies somewhere in one piece of memory, and a new one goes after all others: so what it
+//! costs to set a string doesn't grow with the other strings. The engine's `gameState_t` (q_shared.h) has them one after
 //! the other, and is made anew for each change.
 
 ghost use Rattle.std.specs.Prelude.{◌≡◌, ℕ, ◌+◌, ◌≤◌, ◌<◌, ◌^◌, [], ◌++◌, length, map, replicate, nat_le, slice_index_or, slice_set, vec_capacity, IfOk, Option};
@@ -253,7 +253,7 @@ fn make_room(bytes: &mut Vec<u8>, spare: &mut Vec<u8>, places: &mut Vec<Place>, 
     }
 }
 
-/// Copies all strings, one behind the other, and says where each lies then.
+/// Copies all strings, one after the other, and says where each lies then.
 fn gather(bytes: &[u8], into: &mut Vec<u8>, places: &mut Vec<Place>)
     requires within { LieWithin bytes.now places.old.items }
     requires room { length (concat (texts_in bytes.now places.old.items)) ≤ vec_capacity into.old }
@@ -268,7 +268,7 @@ fn gather(bytes: &[u8], into: &mut Vec<u8>, places: &mut Vec<Place>)
     }
 }
 
-/// Copies a string behind others, and says where it lies there.
+/// Copies a string after others, and says where it lies there.
 fn copy(bytes: &[u8], into: &mut Vec<u8>, place: Place) -> Place
     requires within { place.start + place.length ≤ length bytes.now }
     requires room { length into.old.items + place.length ≤ vec_capacity into.old }
@@ -300,7 +300,7 @@ fn put_at(bytes: &mut Vec<u8>, places: &mut Vec<Place>, index: usize, text: &[u8
     extend(bytes, text);
 }
 
-/// Puts a text behind bytes, each byte translated.
+/// Puts a text after bytes, each byte translated.
 fn extend(bytes: &mut Vec<u8>, text: &[u8])
     requires { length bytes.old.items + length text.now ≤ vec_capacity bytes.old }
     ensures items { bytes.new.items ≡ bytes.old.items ++ map translated text.now }

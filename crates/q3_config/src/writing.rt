@@ -33,7 +33,7 @@ pub fn pieces(length: usize) -> usize
 
 /// The command at an index k of those that change a string to this text: `cs INDEX "TEXT"` and a newline where the text
 /// has fewer than 1,000 bytes. A longer text goes in pieces of 999 bytes, with `bcs0` for the first, `bcs2` for the one
-/// behind which nothing is left, and `bcs1` between. Each `%` goes out as `.`.
+/// after which nothing is left, and `bcs1` between. Each `%` goes out as `.`.
 pub fn piece(index: u32, text: &[u8], k: usize) -> Text
     requires index { index < places }
     requires chars { All (λ byte. IsTrue (is_config_byte byte)) text.now }
@@ -90,7 +90,7 @@ fn part_at(text: &[u8], k: usize) -> &[u8]
     &rest[..rest.len().min(PIECE_SIZE)]
 }
 
-/// Puts a text behind bytes.
+/// Puts a text after bytes.
 fn extend(bytes: &mut ArrayVec<u8, LONGEST_TEXT>, text: &[u8])
     requires { array_vec_len bytes.old + length text.now ≤ most_bytes }
     ensures items { bytes.new.items ≡ bytes.old.items ++ text.now }

@@ -1,4 +1,4 @@
--- The entity delta: the one text that is written, and what a reader answers behind an entity's number.
+-- The entity delta: the one text that is written, and what a reader answers after an entity's number.
 use Rattle.std.specs.Prelude.{ℕ, ◌==◌, Bool, if◌then◌else◌, List, [], ◌∷◌, ◌++◌, Result, Ok, Err}
 use Rattle.q3_bits.specs.ResultBind.{◌>>=◌, fault_as}
 use Rattle.q3_bits.specs.Words.{field_at, row_bits}
@@ -59,7 +59,7 @@ present_at words table from bits = do
   changed ← bits_read (field_at words 1 bits)
   if changed.0 == 0 then Ok ((Same, from), changed.1) else delta_at words table from changed.1
 
--- what stands behind an entity's number, against the words that it changed from: whether it is removed, changed or the
+-- what follows an entity's number, against the words that it changed from: whether it is removed, changed or the
 -- same, and its words; a removed one keeps them
 unfoldable pub entity_at : List (List Bool) → Layout → List ℕ → List Bool → Result ((Entry × List ℕ) × List Bool) EntityError
 entity_at words table from bits = do

@@ -46,6 +46,6 @@ AreNormal table entities = All (IsNormal table) entities
 abbrev pub with_number : ℕ → List EntityState → Option EntityState
 with_number number entities = find (λ entity. entity.number == number) entities
 
--- the entities of a run: two pieces, one behind the other
+-- the entities of a run: two pieces, one after the other
 abbrev pub run_of : Run → List EntityState
 run_of run = run.head.now ++ run.tail.now

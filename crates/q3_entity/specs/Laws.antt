@@ -32,7 +32,7 @@ abbrev pub BaselineIsAdded : Type 0
 BaselineIsAdded = (table : Layout) (baselines : Baselines) (state : EntityState) → AreBaselines table baselines → state.number < end_mark table
     → AreWords 64 state.words → IsNormal table state → AreBaselines table (with_baseline baselines state)
 
--- what is written of an entity against a state in normal form is read back: its number, and behind it the words in
+-- what is written of an entity against a state in normal form is read back: its number, and after it the words in
 -- normal form, as those of an entity that is the same exactly where no word changed
 abbrev pub EntityWrittenIsRead : Type 0
 EntityWrittenIsRead = (words : List (List Bool)) (table : Layout) (from to : EntityState) (force : Bool) (rest : List Bool) → IsCode words → IsTable table
@@ -54,14 +54,14 @@ ForcedIsSpelled = (words : List (List Bool)) (table : Layout) (from to : EntityS
     → AreWords 64 from.words → IsNormal table from → AreWords 64 to.words
     → SpellsEntry words table from.words (record { number = to.number; words = Some (normal_entity table to).words }) (entity_delta words table from to true)
 
--- what is read behind a number was spelled so, and its words are in normal form where those that it changed from are
+-- what is read after a number was spelled so, and its words are in normal form where those that it changed from are
 abbrev pub EntryReadIsSpelled : Type 0
 EntryReadIsSpelled = (words : List (List Bool)) (table : Layout) (from to : List ℕ) (kind : Entry) (number : ℕ) (bits rest : List Bool) → IsCode words
     → IsTable table → AreWords 64 from → entity_at words table from bits ≡ Ok ((kind, to), rest)
     → AreWords 64 to × (normal_words table.kinds from ≡ from → normal_words table.kinds to ≡ to) × (own : List Bool) × (bits ≡ own ++ rest)
     × SpellsEntry words table from (record { number = number; words = words_there kind to }) (field_bits words table.number_bits number ++ own)
 
--- an entry that is spelled so is read: its number, and what stands behind it, with whatever follows
+-- an entry that is spelled so is read: its number, and what stands after it, with whatever follows
 abbrev pub EntrySpelledIsRead : Type 0
 EntrySpelledIsRead = (words : List (List Bool)) (table : Layout) (from : List ℕ) (entry : Entered) (text rest : List Bool) → IsCode words → IsTable table
     → AreWords 64 from → entry.number < end_mark table → SpellsEntry words table from entry text

@@ -67,13 +67,13 @@ numbers_at words table baselines base (suc left) number next entities bits =
       kept ← stays entities (with_number number base)
       numbers_at words table baselines base left (number + 1) next kept bits)
 
--- the entities after a list against a base, and what is behind it, or the first fault in reading order
+-- the entities after a list against a base, and what follows it, or the first fault in reading order
 unfoldable pub entity_list_at : List (List Bool) → Layout → Baselines → List EntityState → List Bool → Result (List EntityState × List Bool) EntityError
 entity_list_at words table baselines base bits = do
   first ← number_at words table 0 bits
   numbers_at words table baselines base (end_mark table) 0 first.0 [] first.1
 
--- what is behind a list whose base isn't there: its bits, counts and rising numbers are looked at alone
+-- what follows a list whose base isn't there: its bits, counts and rising numbers are looked at alone
 unfoldable pub numbers_skipped : List (List Bool) → Layout → ℕ → ℕ → ℕ → List Bool → Result (Unit {0} × List Bool) EntityError
 numbers_skipped words table zero number next bits = Ok (tt, bits)
 numbers_skipped words table (suc left) number next bits =

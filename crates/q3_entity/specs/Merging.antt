@@ -14,7 +14,7 @@ unfoldable pub removals : List (List Bool) → Layout → ℕ → List EntitySta
 removals words table number [] = []
 removals words table number (entity ∷ base) = if nat_lt entity.number number then removal words table entity.number ++ removals words table number base else []
 
--- an entity that there is now, behind what is gone below it
+-- an entity that there is now, after what is gone below it
 abbrev pub entry_bits : List (List Bool) → Layout → Baselines → List EntityState → EntityState → List Bool
 entry_bits words table baselines base to =
     removals words table to.number base ++ piece words table baselines to.number (taken to.number (from_number to.number base)).0 (Some to)
@@ -23,7 +23,7 @@ entry_bits words table baselines base to =
 abbrev pub end_bits : List (List Bool) → Layout → List EntityState → List Bool
 end_bits words table base = removals words table (end_mark table) base ++ field_bits words table.number_bits (end_mark table)
 
--- what is left of the base behind an entity's number
+-- what is left of the base after an entity's number
 abbrev pub left_behind : EntityState → List EntityState → List EntityState
 left_behind to base = (taken to.number (from_number to.number base)).1
 

@@ -31,7 +31,7 @@ SpellsEntry words table from entry text =
     ⊎ ((to : List ℕ) × (delta : List Bool) × (entry.words ≡ Some to) × SpellsWords Entity words table.kinds from to delta
     × (text ≡ opening words table entry.number ((0, 1) ∷ (1, 1) ∷ []) ++ delta))
 
--- the entries one behind the other, and the end mark
+-- the entries one after the other, and the end mark
 abbrev pub SpellsEntries : List (List Bool) → Layout → Baselines → List EntityState → List Entered → List Bool → Type 0
 SpellsEntries words table baselines base [] text = text ≡ field_bits words table.number_bits (end_mark table)
 SpellsEntries words table baselines base (entry ∷ entries) text =

@@ -40,32 +40,32 @@ next_at words table least base entities bits = do
   kept ← kept_below number.0 entities base
   Ok (record { next = number.0; base = kept.1; entities = kept.0 }, number.1)
 
--- the entities with what stands behind a number
+-- the entities with what follows a number
 unfoldable pub entry_at : List (List Bool) → Layout → List ℕ → Bool → ℕ → List EntityState → List Bool → Result (List EntityState × List Bool) EntityError
 entry_at words table from in_base number entities bits = do
   entry ← entity_at words table from bits
   now ← entered entities in_base number entry.0.0 entry.0.1
   Ok (now, entry.1)
 
--- the entry of the next number, and what comes behind it
+-- the entry of the next number, and what comes after it
 unfoldable pub turn_at : List (List Bool) → Layout → Baselines → Reached → List Bool → Result (Reached × List Bool) EntityError
 turn_at words table baselines at bits = do
   entry ← entry_at words table (words_from baselines at.next (taken at.next at.base).0) (is_some (taken at.next at.base).0) at.next at.entities bits
   next_at words table (at.next + 1) (taken at.next at.base).1 entry.0 entry.1
 
--- what is behind the entry of a number: the number of the next
+-- what follows the entry of a number: the number of the next
 unfoldable pub skipped_at : List (List Bool) → Layout → List ℕ → ℕ → List Bool → Result (ℕ × List Bool) EntityError
 skipped_at words table from number bits = do
   entry ← entity_at words table from bits
   number_at words table (number + 1) entry.1
 
--- how many entities there are behind an entry that was read: only what the base has may be removed, and any other counts
+-- how many entities there are after an entry that was read: only what the base has may be removed, and any other counts
 -- as one entity
 abbrev pub count_after : ℕ → Bool → ℕ → Entry → Result ℕ EntityError
 count_after count in_base number Removed = if in_base then Ok count else Err (Removes number)
 count_after count in_base number other = if nat_lt count most_entities then Ok (count + 1) else Err Many
 
--- the answer of a call that puts entities behind the first of those that are there, and counts them
+-- the answer of a call that puts entities after the first of those that are there, and counts them
 abbrev pub first_of : List EntityState → Result ℕ EntityError → Result (List EntityState) EntityError
 first_of items (Ok count) = Ok (take count items)
 first_of items (Err e) = Err e

@@ -102,7 +102,7 @@ fn no_places(alloc: Global, count: usize) -> Result<Vec<u16>, NoMemory>
     vec![in alloc; NOWHERE; count]
 }
 
-/// Puts a state over that of its number, or behind all others.
+/// Puts a state over that of its number, or after all others.
 fn put(places: &mut Vec<u16>, states: &mut Vec<EntityState>, state: &EntityState)
     requires number { state.now.number < most_baselines }
     requires kept { AreKept places.old.items states.old.items }

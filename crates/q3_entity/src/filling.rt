@@ -1,5 +1,5 @@
 //! Puts entities into a list from its front on, over those that it holds, so that none is blanked first. How many of the
-//! first ones are the new list's is counted by the caller; what stands behind them is of no account.
+//! first ones are the new list's is counted by the caller; what follows them is of no account.
 
 ghost use Rattle.std.specs.Prelude.{◌≡◌, ◌+◌, ◌<◌, ◌≤◌, ◌++◌, nat_lt, if◌then◌else◌, Ok, Err, IfOk, IfErr, length, take};
 ghost use Rattle.q3_entity.specs.declared.error.EntityError.TheVariants.{Many};
@@ -10,7 +10,7 @@ use crate::error::EntityError;
 use crate::reading::Entry;
 use crate::state::{EntityState, List, MOST_ENTITIES};
 
-/// How many entities there are with one behind whose number an entry was read. `Removes` comes where an entity is
+/// How many entities there are with one after whose number an entry was read. `Removes` comes where an entity is
 /// removed that the base doesn't have, and `Many` where there would be a 257th.
 pub(crate) fn count_after(
     entry: Entry,
@@ -40,7 +40,7 @@ fn one_more(count: usize) -> Result<usize, EntityError>
     Ok(count + 1)
 }
 
-/// Makes sure that an entity stands behind the first ones, so many: this one, where there is none.
+/// Makes sure that an entity stands after the first ones, so many: this one, where there is none.
 pub(crate) fn make_place(into: &mut List, count: usize, entity: &EntityState)
     requires within { count ≤ length into.old.items }
     requires room { count < most_entities }
@@ -52,7 +52,7 @@ pub(crate) fn make_place(into: &mut List, count: usize, entity: &EntityState)
     }
 }
 
-/// Puts entities behind the first ones, so many, and answers how many there are then. `Many` comes where there would be
+/// Puts entities after the first ones, so many, and answers how many there are then. `Many` comes where there would be
 /// more than 256.
 pub(crate) fn put_part(
     into: &mut List,
@@ -74,7 +74,7 @@ pub(crate) fn put_part(
     Ok(count + fit)
 }
 
-/// Puts entities behind all that a list holds.
+/// Puts entities after all that a list holds.
 #[cold]
 #[inline(never)]
 fn push_part(into: &mut List, part: &[EntityState]) -> Result<usize, EntityError>

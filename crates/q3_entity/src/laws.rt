@@ -34,7 +34,7 @@ pub fn baseline_is_added()
     ensures { BaselineIsAdded }
 {}
 
-/// What is written of an entity against a state in normal form is read back: its number, and behind it the words in
+/// What is written of an entity against a state in normal form is read back: its number, and after it the words in
 /// normal form, as those of an entity that is the same exactly where no word changed, with whatever follows.
 pub fn entity_written_is_read()
     ensures { EntityWrittenIsRead }
@@ -60,7 +60,7 @@ pub fn forced_is_spelled()
     fields::unchanged_is_normal();
 }
 
-/// What is read behind an entity's number was spelled so, and is in normal form where the state that it changed from is.
+/// What is read after an entity's number was spelled so, and is in normal form where the state that it changed from is.
 pub fn entry_read_is_spelled()
     ensures { EntryReadIsSpelled }
 {

@@ -21,7 +21,7 @@ use q3_bits::{ReadError, Reader, laws};
 use q3_fields::Table;
 
 /// Where a list stands: the number that comes next, the entities of the base from it on, and how many the list has so
-/// far. What `into` holds behind these is of no account.
+/// far. What `into` holds after these is of no account.
 #[derive(Clone, Copy)]
 struct Cursor<'a> {
     next: u16,
@@ -55,7 +55,7 @@ pub fn read_list(
     Ok(())
 }
 
-/// Reads the entry of the next number, and the number behind it.
+/// Reads the entry of the next number, and the number after it.
 #[tactic(auto, unfolding(crate::specs::Walking::turn_at))]
 fn read_turn<'a>(
     r: &mut Reader,
@@ -137,7 +137,7 @@ fn skip_entry(
     read_number(r, table, number + 1)
 }
 
-/// Reads the next number, and lets the base's entities below it stay, behind the first ones of `into`, so many.
+/// Reads the next number, and lets the base's entities below it stay, after the first ones of `into`, so many.
 #[tactic(auto, unfolding(crate::specs::Walking::next_at))]
 #[inline(always)]
 fn read_next<'a>(
@@ -160,7 +160,7 @@ fn read_next<'a>(
     Ok(Cursor { next, base, count })
 }
 
-/// Reads what stands behind a number, and puts the entity behind the first ones of `into`, so many, unless it is gone.
+/// Reads what follows a number, and puts the entity after the first ones of `into`, so many, unless it is gone.
 /// Answers how many there are then.
 #[tactic(auto, unfolding(crate::specs::Walking::entry_at))]
 fn read_entry(
@@ -261,7 +261,7 @@ fn get_number(r: &mut Reader, bits: u32) -> Result<u32, ReadError>
     }
 }
 
-/// Lets the base's entities below a number stay, behind the first ones of `into`, so many. Lends those from it on, and
+/// Lets the base's entities below a number stay, after the first ones of `into`, so many. Lends those from it on, and
 /// answers how many there are then.
 #[inline(always)]
 fn keep_below<'a>(
@@ -283,7 +283,7 @@ fn keep_below<'a>(
     Ok((Run { head, tail }, count))
 }
 
-/// Lets the first entities stay, as far as they are below a number, and lends those behind. `Many` comes where there
+/// Lets the first entities stay, as far as they are below a number, and lends the rest. `Many` comes where there
 /// would be more than 256.
 #[inline(always)]
 fn keep_front<'a>(

@@ -16,7 +16,7 @@ use q3_bits::{Overflow, Writer, laws};
 use q3_fields::{Table, laws as fields};
 
 /// Writes the entities that there are now against those of a base, by rising number: an entity that both have by what
-/// changed, a new one by force from its baseline, and a removal for one that is gone; and the end mark behind them.
+/// changed, a new one by force from its baseline, and a removal for one that is gone; and the end mark after them.
 /// `Overflow` comes exactly where the text doesn't fit the writer's room; a front of it was then written.
 pub fn write_list(
     w: &mut Writer,
@@ -67,7 +67,7 @@ fn write_end(w: &mut Writer, table: &Table, base: Run) -> Result<(), Overflow>
     w.put(u32::from(end), u32::from(table.bits()))
 }
 
-/// Writes an entity, and in front of it what is gone below its number. Lends what is left of the base behind it.
+/// Writes an entity, and in front of it what is gone below its number. Lends what is left of the base after it.
 fn write_entry<'a>(
     w: &mut Writer,
     table: &Table,

@@ -10,7 +10,7 @@ use crate::state::EntityState;
 use q3_bits::{BIT, Reader};
 use q3_fields::{StateKind, Table, read_counted};
 
-/// What stands behind an entity's number.
+/// What follows an entity's number.
 #[derive(Clone, Copy, Debug, PartialEq, Eq)]
 pub enum Entry {
     /// The entity is gone.
@@ -21,7 +21,7 @@ pub enum Entry {
     Same,
 }
 
-/// Reads what stands behind an entity's number, which stands in `into` and stays there. The words are those of `from`,
+/// Reads what follows an entity's number, which stands in `into` and stays there. The words are those of `from`,
 /// as far as the delta doesn't change them. After a refusal they may be any.
 #[tactic(auto, unfolding(crate::specs::Delta::entity_at))]
 pub fn read_entity(

@@ -8,7 +8,7 @@ ghost use Rattle.q3_entity.specs.Runs.{taken, IsFrom, ShareFront};
 use crate::state::{EntityState, Run};
 use q3_fields::agree;
 
-/// The first entity, and those behind it.
+/// The first entity, and those after it.
 pub(crate) fn split_first<'a>(run: Run<'a>) -> Option<(&'a EntityState, Run<'a>)>
     ensures { MatchOption result (run_of run.entry ≡ []) (λ found. run_of run.entry ≡ found.0.now ∷ run_of found.1) }
 {
@@ -31,7 +31,7 @@ pub(crate) fn split_first<'a>(run: Run<'a>) -> Option<(&'a EntityState, Run<'a>)
     ))
 }
 
-/// The entity of a number, where it is the first, and those behind it.
+/// The entity of a number, where it is the first, and those after it.
 pub(crate) fn take_number<'a>(run: Run<'a>, number: u16) -> (Option<&'a EntityState>, Run<'a>)
     ensures { (option_copied result.0, run_of result.1) ≡ taken number (run_of run.entry) }
 {
@@ -68,7 +68,7 @@ fn skip_piece<'a, 'b>(base: Run<'a>, now: &'b [EntityState]) -> (Run<'a>, &'b [E
     (Run { head, tail }, now)
 }
 
-/// What is behind the entities, the same in both, with which both begin.
+/// What follows the entities, the same in both, with which both begin.
 fn behind_same<'a, 'b>(
     base: &'a [EntityState],
     now: &'b [EntityState],

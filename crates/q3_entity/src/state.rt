@@ -21,7 +21,7 @@ pub const MOST_ENTITIES: usize = 256;
 /// Entities by rising number.
 pub type List = ArrayVec<EntityState, MOST_ENTITIES>;
 
-/// Entities by rising number in two pieces, as a ring lends them: `head`, and behind it `tail`.
+/// Entities by rising number in two pieces, as a ring lends them: `head`, followed by `tail`.
 #[derive(Clone, Copy)]
 pub struct Run<'a> {
     pub head: &'a [EntityState],
@@ -60,7 +60,7 @@ impl EntityState {
         }
     }
 
-    /// Puts the words into the normal form of their fields, and 0 behind the table's fields.
+    /// Puts the words into the normal form of their fields, and 0 after the table's fields.
     pub fn normalize(&mut self, table: &Table)
         ensures { self.new ≡ normal_entity table.now self.old }
     {

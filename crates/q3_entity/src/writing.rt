@@ -64,7 +64,7 @@ fn write_changed(
     )
 }
 
-/// Writes an entity's number, and two marks behind it, as the bits of a number, least first.
+/// Writes an entity's number, and two marks after it, as the bits of a number, least first.
 fn write_opening(w: &mut Writer, table: &Table, number: u16, marks: u32) -> Result<(), Overflow>
     ensures { Writes w.old w.new (opening w.old.words table.now number ((marks % 2, 1) ∷ (marks / 2, 1) ∷ [])) result }
 {

@@ -14,7 +14,7 @@ OthersStay = (ring : RingState) (entities : List EntityState) (first count : ℕ
     → ring.placed + length entities ≤ first + length ring.recent
     → entities_from (with_entities ring entities) first count ≡ entities_from ring first count
 
--- an entity that is put where one was placed is one more behind those in front of it
+-- an entity that is put where one was placed is one more after those in front of it
 abbrev pub PutIsNext : Type 0
 PutIsNext = (ring : RingState) (entity : EntityState) (first count : ℕ) → first + count < ring.placed → ring.placed ≤ first + length ring.recent
     → entities_from (with_entity_at ring (first + count) entity) first (count + 1) ≡ entities_from ring first count ++ entity ∷ []

@@ -13,7 +13,7 @@ pub record RingState : Type 0 where
 abbrev pub new_ring : ℕ → RingState
 new_ring room = record { placed = 0; recent = replicate room (zero_entity 0) }
 
--- entities are placed behind all others, and as many of the oldest are gone
+-- entities are placed after all others, and as many of the oldest are gone
 abbrev pub with_entities : RingState → List EntityState → RingState
 with_entities ring entities = record {
   placed = ring.placed + length entities;
@@ -33,7 +33,7 @@ pub record EndsWith (ring : RingState) (entities : List EntityState) (first : �
   pub end : first + length entities ≡ ring.placed
   pub same : entities_from ring first (length entities) ≡ entities
 
--- entities lie in the ring from this one on: placed behind all others, or once with those that were placed last
+-- entities lie in the ring from this one on: placed after all others, or once with those that were placed last
 abbrev pub PlacesOnce : RingState → RingState → List EntityState → ℕ → Type 0
 PlacesOnce old new entities first =
     ((new ≡ with_entities old entities) × (first ≡ old.placed)) ⊎ ((new ≡ old) × EndsWith old entities first)

@@ -12,7 +12,7 @@ pub fn others_stay()
     ensures { OthersStay }
 {}
 
-/// An entity that is put where one was placed is one more behind those in front of it.
+/// An entity that is put where one was placed is one more after those in front of it.
 pub fn put_is_next()
     ensures { PutIsNext }
 {}

@@ -61,7 +61,7 @@ impl Ring {
         self.room
     }
 
-    /// Places entities behind all others. Each takes the place of the one that was placed `room` before it.
+    /// Places entities after all others. Each takes the place of the one that was placed `room` before it.
     pub fn place(&mut self, entities: &[EntityState])
         requires few { length entities.now ≤ length self.old.recent }
         requires count { self.old.placed + length entities.now < 2 ^ 64 }
@@ -72,7 +72,7 @@ impl Ring {
         self.placed += entities.len() as u64;
     }
 
-    /// Places entities behind all others, unless those that were placed last are the same, which then lie there for both.
+    /// Places entities after all others, unless those that were placed last are the same, which then lie there for both.
     /// Answers how many were placed before them.
     pub fn place_once(&mut self, entities: &[EntityState]) -> u64
         requires few { length entities.now ≤ length self.old.recent }
@@ -153,7 +153,7 @@ impl Ring {
     }
 }
 
-/// Zero states behind the cells that there are, up to so many.
+/// Zero states after the cells that there are, up to so many.
 fn fill_up(cells: &mut Vec<EntityState>, count: usize)
     requires room { count ≤ vec_capacity cells.old }
     ensures least { count ≤ length cells.new.items }
@@ -165,7 +165,7 @@ fn fill_up(cells: &mut Vec<EntityState>, count: usize)
     }
 }
 
-/// Puts entities into the places from one on, and behind the last of so many into those from the first.
+/// Puts entities into the places from one on, and after the last of so many into those from the first.
 fn put_round(cells: &mut Vec<EntityState>, room: usize, start: usize, entities: &[EntityState])
     requires within { start < room }
     requires written { start ≤ length cells.old.items }
@@ -188,7 +188,7 @@ fn put_round(cells: &mut Vec<EntityState>, room: usize, start: usize, entities: 
     put_at(cells, 0, &entities[behind..]);
 }
 
-/// Puts entities into the places from one on, as far as they were written, and the others behind all of these.
+/// Puts entities into the places from one on, as far as they were written, and the others after all of these.
 fn put_at(cells: &mut Vec<EntityState>, place: usize, entities: &[EntityState])
     requires within { place ≤ length cells.old.items }
     requires room { place + length entities.now ≤ vec_capacity cells.old }

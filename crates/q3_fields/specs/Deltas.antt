@@ -48,7 +48,7 @@ abbrev pub changed_at : StateKind → List (List Bool) → Kind → List Bool �
 changed_at Entity words kind bits = entity_field_at words kind bits
 changed_at Player words kind bits = player_field_at words kind bits
 
--- a field that is read: a mark, and behind a mark of change its text
+-- a field that is read: a mark, and after a mark of change its text
 unfoldable pub marked_field_at : StateKind → List (List Bool) → Kind → ℕ → List Bool → Result (ℕ × List Bool) ReadError
 marked_field_at state words kind from bits = do
   mark ← field_at words 1 bits
@@ -66,7 +66,7 @@ fields_at state words kinds from bits = Ok (from, bits)
 abbrev pub bits_read : {A : Type 0} → Result A ReadError → Result A DeltaError
 bits_read r = fault_as Bits r
 
--- the words that a delta spells against others, and what is behind it, or the first fault: a count above the table's
+-- the words that a delta spells against others, and what follows it, or the first fault: a count above the table's
 -- is refused before its fields are read
 unfoldable pub words_at : StateKind → List (List Bool) → List Kind → List ℕ → List Bool → Result (List ℕ × List Bool) DeltaError
 words_at state words table from bits = do

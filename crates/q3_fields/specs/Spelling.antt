@@ -1,5 +1,5 @@
 -- The spellings of a changed field and of a delta of words that a reader accepts: also a float zero in 13 bits or a
--- small float in 32, and an integer zero behind bit 1. What is spelled is always a normal word.
+-- small float in 32, and an integer zero after bit 1. What is spelled is always a normal word.
 use Rattle.std.specs.Prelude.{◌≡◌, ◌⊎◌, ℕ, ◌^◌, ◌<◌, ◌≤◌, Bool, List, [], ◌∷◌, ◌++◌, length, take}
 use Rattle.q3_bits.specs.Words.{field_bits}
 use Rattle.q3_fields.specs.declared.kind.Kind.{Kind}
@@ -42,7 +42,7 @@ SpellsField state words kind from to text =
     ((to ≡ from) × (text ≡ field_bits words 1 0))
     ⊎ ((field : List Bool) × SpellsChanged state words kind to field × (text ≡ field_bits words 1 1 ++ field))
 
--- the fields of these kinds are spelled, and the words behind them stay
+-- the fields of these kinds are spelled, and the words after them stay
 abbrev pub SpellsFields : StateKind → List (List Bool) → List Kind → List ℕ → List ℕ → List Bool → Type 0
 SpellsFields state words (kind ∷ kinds) (x ∷ from) to text =
     (y : ℕ) × (others : List ℕ) × (first : List Bool) × (rest : List Bool) × (to ≡ y ∷ others) × (text ≡ first ++ rest)

@@ -31,7 +31,7 @@ unfoldable pub entity_field : List (List Bool) → Kind → ℕ → List Bool
 entity_field words kind word =
     if norm kind word == 0 then field_bits words 1 0 else field_bits words 1 1 ++ player_field words kind word
 
--- a float that is read, in normal form: 13 bits behind bit 0, and 32 behind bit 1
+-- a float that is read, in normal form: 13 bits after bit 0, and 32 after bit 1
 unfoldable pub float_at : List (List Bool) → List Bool → Result (ℕ × List Bool) ReadError
 float_at words bits = do
   full ← field_at words 1 bits
@@ -44,7 +44,7 @@ integer_at words kind width bits = do
   value ← field_at words width bits
   Ok (norm kind value.0, value.1)
 
--- the field of a player delta at the front of the bits, in normal form, and what is behind it
+-- the field of a player delta at the front of the bits, in normal form, and what follows it
 unfoldable pub player_field_at : List (List Bool) → Kind → List Bool → Result (ℕ × List Bool) ReadError
 player_field_at words Float bits = float_at words bits
 player_field_at words (Unsigned width) bits = integer_at words (Unsigned width) width bits

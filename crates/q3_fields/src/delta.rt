@@ -46,7 +46,7 @@ impl From<ReadError> for DeltaError {
     }
 }
 
-/// Puts each word into the normal form of its field, and 0 behind the table's fields.
+/// Puts each word into the normal form of its field, and 0 after the table's fields.
 pub fn normalize(table: &Table, words: &mut [u32; 64])
     ensures { words.new ≡ normal_words table.now.kinds words.old }
 {
@@ -121,7 +121,7 @@ fn changed_words(from: &[u32; 64], to: &[u32; 64], count: usize) -> usize
     0
 }
 
-/// Writes a count, and the first fields, so many: for each a mark, and behind a mark of change its text.
+/// Writes a count, and the first fields, so many: for each a mark, and after a mark of change its text.
 /// `Overflow` comes exactly where the text doesn't fit the writer's room; a front of it was then written.
 pub fn write_counted(
     w: &mut Writer,
@@ -140,7 +140,7 @@ pub fn write_counted(
     write_fields(w, state, table, count, from, to)
 }
 
-/// Writes a number and a mark of up to 7 bits, each a value and its width, and behind them what `write_counted` does.
+/// Writes a number and a mark of up to 7 bits, each a value and its width, and after them what `write_counted` does.
 /// The number has at most 15 bits.
 pub fn write_numbered(
     w: &mut Writer,
@@ -186,7 +186,7 @@ fn write_fields(
     Ok(())
 }
 
-/// Writes a mark, and behind a mark of change the field.
+/// Writes a mark, and after a mark of change the field.
 fn write_field(
     w: &mut Writer,
     state: StateKind,

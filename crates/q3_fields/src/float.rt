@@ -29,7 +29,7 @@ pub fn small_of(word: u32) -> Option<i32>
     if word == 1 << 31 {
         return Some(0);
     }
-    // most floats that aren't small differ from these in the bits far behind the point
+    // most floats that aren't small differ from these in the bits far after the point
     if word % (1 << 11) != 0 {
         return None;
     }

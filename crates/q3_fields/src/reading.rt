@@ -41,7 +41,7 @@ pub fn read_entity_field(r: &mut Reader, kind: Kind) -> Result<u32, ReadError>
     read_player_field(r, kind)
 }
 
-/// Reads a float: 13 bits behind bit 0, and its pattern behind bit 1.
+/// Reads a float: 13 bits after bit 0, and its pattern after bit 1.
 #[tactic(auto, unfolding(crate::specs::Texts::float_at))]
 #[inline(always)]
 fn read_float(r: &mut Reader) -> Result<u32, ReadError>

@@ -35,7 +35,7 @@ pub fn write_entity_field(w: &mut Writer, kind: Kind, word: u32) -> Result<(), O
     write_marked(w, 1, 1, kind, word)
 }
 
-/// Writes a mark of change, and a changed field of an entity delta behind it.
+/// Writes a mark of change, and a changed field of an entity delta after it.
 #[tactic(auto, unfolding(crate::specs::Texts::entity_field))]
 pub(crate) fn write_marked_entity_field(
     w: &mut Writer,
@@ -52,7 +52,7 @@ pub(crate) fn write_marked_entity_field(
     write_marked(w, 0b11, 2, kind, word)
 }
 
-/// Writes a mark of up to 6 bits, and a changed field of a player delta behind it.
+/// Writes a mark of up to 6 bits, and a changed field of a player delta after it.
 #[tactic(auto, unfolding(crate::specs::Texts::player_field))]
 pub(crate) fn write_marked(
     w: &mut Writer,

@@ -14,7 +14,7 @@ pub record Build : Type 0 where
 abbrev pub placed_by : List Build → ℕ
 placed_by builds = sum_by (λ one. length one.snapshot.entities) builds
 
--- each with its slot as a frame, behind so many entities
+-- each with its slot as a frame, after so many entities
 abbrev pub frames_from : ℕ → List Build → List (ℕ × Frame)
 frames_from placed [] = []
 frames_from placed (one ∷ builds) =

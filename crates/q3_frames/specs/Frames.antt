@@ -62,7 +62,7 @@ frames_remain frames = record frames { slots = map (λ places. map (option_map (
 abbrev pub with_frame : List (List (Option Frame)) → ℕ → Frame → List (List (Option Frame))
 with_frame slots slot frame = slice_set slots slot (put_at_number (slice_index_or slots slot []) frame.snapshot.head.number frame)
 
--- a snapshot is built for a slot, and its entities are placed behind all others
+-- a snapshot is built for a slot, and its entities are placed after all others
 abbrev pub build_at : FramesState → ℕ → Snapshot → FramesState
 build_at frames slot snapshot = frames_remain (record frames {
   placed = frames.placed + length snapshot.entities;

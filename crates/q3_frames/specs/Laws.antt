@@ -9,7 +9,7 @@ use Rattle.q3_frames.specs.Built.{Build, base_built, FramesStandFor}
 abbrev pub NothingIsHeld : Type 0
 NothingIsHeld = (slots ring slot number : ℕ) → held_frame (no_frames slots ring) slot number ≡ None
 
--- what a slot holds behind a build is what was built for it, or it was held before, the same, and another place was built in
+-- what a slot holds after a build is what was built for it, or it was held before, the same, and another place was built in
 abbrev pub HeldWasBuilt : Type 0
 HeldWasBuilt = (frames : FramesState) (c slot number : ℕ) (built held : Snapshot) → held_frame (build_at frames c built) slot number ≡ Some held
     → ((slot ≡ c) × (number ≡ built.head.number) × (held ≡ built))

@@ -81,7 +81,7 @@ impl Frames {
         self.changed = true;
     }
 
-    /// Builds a frame of a slot: its head, and its entities, which count behind those of all frames before it. What stood in
+    /// Builds a frame of a slot: its head, and its entities, which count after those of all frames before it. What stood in
     /// the place of its number is gone. The entities rise by number, and there are at most 256.
     pub fn build(&mut self, slot: u8, head: &SnapHead, entities: &[EntityState])
         requires slot { slot < length self.old.slots }

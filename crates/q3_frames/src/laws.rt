@@ -7,7 +7,7 @@ pub fn nothing_is_held()
     ensures { NothingIsHeld }
 {}
 
-/// What a slot holds behind a build is what was built for it, or it was held before, the same, and the build took another
+/// What a slot holds after a build is what was built for it, or it was held before, the same, and the build took another
 /// place.
 pub fn held_was_built()
     ensures { HeldWasBuilt }

@@ -27,12 +27,12 @@ abbrev pub WrittenIsSpelled : Type 0
 WrittenIsSpelled = (profile : Profile) (game : Gamestate) → IsCodec profile → IsGamestate profile game
     → SpellsGamestate profile game (gamestate_bits profile game)
 
--- what is read as a gamestate, behind the operation 2, is one that an end may send, and was spelled so
+-- what is read as a gamestate, after the operation 2, is one that an end may send, and was spelled so
 abbrev pub ReadIsSpelled : Type 0
 ReadIsSpelled = (profile : Profile) (game : Gamestate) (bits rest : List Bool) → IsCodec profile → gamestate_at profile bits ≡ Ok (game, rest)
     → IsGamestate profile game × (text : List Bool) × (row_bits profile.code ((2, 8) ∷ []) ++ bits ≡ text ++ rest) × SpellsGamestate profile game text
 
--- what is spelled so is read behind the operation 2, with whatever follows it: so where a reader refuses, no front of the
+-- what is spelled so is read after the operation 2, with whatever follows it: so where a reader refuses, no front of the
 -- bits is spelled so
 abbrev pub SpelledIsRead : Type 0
 SpelledIsRead = (profile : Profile) (game : Gamestate) (text rest : List Bool) → IsCodec profile → SpellsGamestate profile game text

@@ -35,7 +35,7 @@ abbrev pub config_set : Strings → ℕ → List ℕ → Option ConfigError → 
 config_set strings index text None = Ok (with_string strings index text)
 config_set strings index text (Some fault) = Err (Config fault)
 
--- a config string behind its operation: its index, which is refused above 1,023 before the text is read, and its string
+-- a config string after its operation: its index, which is refused above 1,023 before the text is read, and its string
 unfoldable pub config_at : List (List Bool) → Strings → List Bool → Result (Strings × List Bool) GamestateError
 config_at words strings bits = do
   index ← field_read words 16 bits
@@ -50,7 +50,7 @@ abbrev pub baseline_set : Baselines → ℕ → Entry → List ℕ → Result Ba
 baseline_set baselines number Removed words = Err (Entity (Removes number))
 baseline_set baselines number other words = Ok (with_baseline baselines (record { number = number; words = words }))
 
--- a baseline behind its operation: its number, which is refused where it is the end mark before its text is read, and its
+-- a baseline after its operation: its number, which is refused where it is the end mark before its text is read, and its
 -- state against the zero state
 unfoldable pub baseline_at : Profile → Baselines → List Bool → Result (Baselines × List Bool) GamestateError
 baseline_at profile baselines bits = do
@@ -75,7 +75,7 @@ settings_at profile (suc most) strings baselines bits = do
         settings_at profile most strings baseline.0 baseline.1)
       else Err (BadOp operation.0)
 
--- a gamestate behind its operation; one whose strings give no server id is refused before its slot is read
+-- a gamestate after its operation; one whose strings give no server id is refused before its slot is read
 unfoldable pub gamestate_at : Profile → List Bool → Result (Gamestate × List Bool) GamestateError
 gamestate_at profile bits = do
   command ← field_read profile.code 32 bits

@@ -16,7 +16,7 @@ pub data Setting : Type 0 where
   ConfigString : ℕ → List ℕ → Setting
   Baseline : EntityState → Setting
 
--- its text: a big string behind its index, or a baseline's entry against the zero state
+-- its text: a big string after its index, or a baseline's entry against the zero state
 abbrev pub SpellsSetting : List (List Bool) → Layout → Setting → List Bool → Type 0
 SpellsSetting words table (ConfigString index text) bits =
     (string : List Bool) × (index < places) × SpellsString words longest_string text string
@@ -26,14 +26,14 @@ SpellsSetting words table (Baseline state) bits =
     × SpellsEntry words table (replicate 64 0) (record { number = state.number; words = Some state.words }) entry
     × (bits ≡ row_bits words ((4, 8) ∷ []) ++ entry)
 
--- settings, one behind the other
+-- settings, one after the other
 abbrev pub SpellsSettings : List (List Bool) → Layout → List Setting → List Bool → Type 0
 SpellsSettings words table [] bits = bits ≡ []
 SpellsSettings words table (setting ∷ settings) bits =
     (first : List Bool) × (rest : List Bool) × (bits ≡ first ++ rest) × SpellsSetting words table setting first
     × SpellsSettings words table settings rest
 
--- the strings and the baselines behind settings: a later one stands for an earlier
+-- the strings and the baselines after settings: a later one stands for an earlier
 abbrev pub strings_after : Strings → List Setting → Strings
 strings_after strings [] = strings
 strings_after strings (ConfigString index text ∷ settings) = strings_after (with_string strings index text) settings

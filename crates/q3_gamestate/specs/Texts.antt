@@ -23,7 +23,7 @@ baseline_bits words table None = []
 baseline_bits words table (Some state) =
     row_bits words ((4, 8) ∷ []) ++ entity_delta words table (zero_entity state.number) state true
 
--- the texts of so many numbers from one on, one behind the other
+-- the texts of so many numbers from one on, one after the other
 unfoldable pub numbered : ℕ → ℕ → (ℕ → List Bool) → List Bool
 numbered count from text = flat_map text (range_with_len from count)
 

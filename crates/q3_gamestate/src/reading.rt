@@ -20,13 +20,13 @@ use q3_strings::{laws as strings, read_string};
 /// Room for a config string that is read.
 pub type BigString = ArrayVec<u8, LONGEST_STRING>;
 
-/// Reads a gamestate behind its operation: its config strings and baselines, each of which stands for an earlier one of
+/// Reads a gamestate after its operation: its config strings and baselines, each of which stands for an earlier one of
 /// its place, are those of `configs` and `baselines` alone, and its numbers are answered. `string` is room for one string
 /// at a time. After a refusal the three may hold anything.
 ///
 /// `Err` is the first fault in reading order: `Bits` where the bits don't read; `BadOp` for an operation other than
-/// config string, baseline and the end; `TextLong` where the byte behind 8,191 of a string isn't 0; `Config` with
-/// `Index`, before the string is read, or with `Full`, behind it; `Entity` where a baseline doesn't read, with `Order`
+/// config string, baseline and the end; `TextLong` where the byte after 8,191 of a string isn't 0; `Config` with
+/// `Index`, before the string is read, or with `Full`, after it; `Entity` where a baseline doesn't read, with `Order`
 /// for the end mark, before its state is read, and with `Removes` for a removal; `NoServerId` where the strings give
 /// none, before the slot is read.
 #[tactic(auto, unfolding(crate::specs::Reading::gamestate_at))]
@@ -84,7 +84,7 @@ fn read_settings(
     }
 }
 
-/// Reads a config string behind its operation, and sets it. An index above 1,023 is refused before the string is read, and
+/// Reads a config string after its operation, and sets it. An index above 1,023 is refused before the string is read, and
 /// a string with which all would be too large once it was.
 #[tactic(auto, unfolding(crate::specs::Reading::config_at))]
 fn read_config(
@@ -103,7 +103,7 @@ fn read_config(
     Ok(())
 }
 
-/// Reads a baseline behind its operation, and sets it. The end mark is refused as its number before its state is read, and
+/// Reads a baseline after its operation, and sets it. The end mark is refused as its number before its state is read, and
 /// a removal once it was.
 #[tactic(auto, unfolding(crate::specs::Reading::baseline_at, q3_entity::specs::Entities::zero_entity))]
 fn read_baseline(

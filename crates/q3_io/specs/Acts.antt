@@ -1,10 +1,10 @@
--- What is done to files: they are made, and bytes are put behind theirs.
+-- What is done to files: they are made, and bytes are put after theirs.
 use Rattle.std.specs.Prelude.{◌≡◌, ◌⊎◌, ℕ, List, [], ◌∷◌, ◌++◌, Option, Some, None, unwrap_or, Result, Ok, Err}
 use Rattle.q3_io.specs.declared.sink.Failed.{Failed}
 use Rattle.q3_io.specs.Told.{Told, File, Named, Create, contents_of, after_named, after_given, after_written}
 use Rattle.q3_io.specs.Written.{Added}
 
--- a file of a name is made, empty, also where there was one; or bytes go behind those of the file of a name
+-- a file of a name is made, empty, also where there was one; or bytes go after those of the file of a name
 pub data FileAct : Type 0 where
   Makes : List ℕ → FileAct
   Extends : List ℕ → List ℕ → FileAct
@@ -13,12 +13,12 @@ pub data FileAct : Type 0 where
 abbrev pub held_by : List File → List ℕ → List ℕ
 held_by files name = unwrap_or (contents_of files name) []
 
--- what is told behind an act: a file that is made gets the next number
+-- what is told after an act: a file that is made gets the next number
 abbrev pub after_act : Told → FileAct → Told
 after_act told (Makes name) = after_given (after_written (after_named told name Create) name []) name
 after_act told (Extends name bytes) = after_written told name (held_by told.files name ++ bytes)
 
--- behind acts, one after the other
+-- after acts, one by one
 unfoldable pub after_acts : Told → List FileAct → Told
 after_acts told [] = told
 after_acts told (act ∷ acts) = after_acts (after_act told act) acts

@@ -3,7 +3,7 @@ use Rattle.std.specs.Prelude.{◌≡◌, ℕ, ◌+◌, ◌<◌, Bool, true, fals
 use Rattle.std.specs.List.{flat_map}
 use Rattle.q3_io.specs.Written.{Written, Wrote, NothingWaits}
 
--- nothing, a text behind a text, and what ended in a front of a text and so in the text
+-- nothing, a text after a text, and what ended in a front of a text and so in the text
 pub record TextsFollow : Type 0 where
   pub none : {written : Option Written} → Wrote written written [] true
   pub more : {old mid new : Option Written} {front rest whole : List ℕ} {all : Bool}
@@ -11,7 +11,7 @@ pub record TextsFollow : Type 0 where
   pub early : {old new : Option Written} {front whole : List ℕ} (rest : List ℕ)
       → Wrote old new front false → whole ≡ front ++ rest → Wrote old new whole false
 
--- the texts of items, one after another: behind those before an index comes the one there, or the end of them all
+-- the texts of items, one after another: those before an index are followed by the one there, or by the end of them all
 pub record ItemsFollow (X : Type 0) : Type 0 where
   pub more : (text : X → List ℕ) (items : List X) (k : ℕ) (none : X) {old mid new : Option Written} → k < length items
       → Wrote old mid (flat_map text (take k items)) true → Wrote mid new (text (get_or items k none)) true

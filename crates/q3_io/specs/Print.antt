@@ -11,15 +11,15 @@ piece_text (Text text) = text.now
 piece_text (Number number) = decimal number
 piece_text (Quoted text) = quoted text.now
 
--- a word behind its letter and index, as reports and scripts spell it
+-- a word after its letter and index, as reports and scripts spell it
 abbrev pub indexed_text : List ℕ → ℕ → ℕ → List ℕ
 indexed_text letter index word = concat (letter ∷ decimal index ∷ codes ":" ∷ decimal word ∷ [])
 
--- the same behind a space, if the word isn't 0
+-- the same after a space, if the word isn't 0
 abbrev pub word_text : List ℕ → ℕ → ℕ → List ℕ
 word_text letter index word = if word == 0 then [] else codes " " ++ indexed_text letter index word
 
--- the words that aren't 0, behind a letter, by index from this one on
+-- the words that aren't 0, after a letter, by index from this one on
 unfoldable pub words_text : List ℕ → ℕ → List ℕ → List ℕ
 words_text letter index [] = []
 words_text letter index (word ∷ words) = word_text letter index word ++ words_text letter (index + 1) words

@@ -108,7 +108,7 @@ Creates (Some told) now name (Ok file) =
     (file ≡ length told.numbers) × (now ≡ Some (after_given (after_written (after_named told name Create) name []) name))
 Creates (Some told) now name (Err e) = MayBeNamed told now name Create
 
--- the bytes, or at an error a front of them, stand behind those of the number's file
+-- the bytes, or at an error a front of them, stand after those of the number's file
 abbrev pub Appends : Option Told → Option Told → ℕ → List ℕ → Result (Unit {0}) Failed → Type 0
 Appends None now file bytes result = now ≡ None
 Appends (Some told) now file bytes result =

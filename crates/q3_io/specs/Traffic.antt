@@ -14,7 +14,7 @@ pub record Traffic : Type 0 where
   pub arrivals : List (Option Parcel)
   pub sent : List Parcel
 
--- what the next `receive` finds: behind the last that is told of nothing is ready
+-- what the next `receive` finds: after the last that is told of, nothing is ready
 abbrev pub next_of : List (Option Parcel) → Option Parcel
 next_of [] = None
 next_of (next ∷ others) = next

@@ -57,7 +57,7 @@ pub trait Files {
         ensures cause { HasCause (write_faults self.old) (write_faults self.new) result }
         ensures others { faults self.new ≡ faults self.old };
 
-    /// Writes bytes behind those of the file, or a front of them and answers `Failed`.
+    /// Writes bytes after those of the file, or a front of them and answers `Failed`.
     fn append(&mut self, file: usize, bytes: &[u8]) -> Result<(), Failed>
         requires { file < given self.old }
         ensures given { given self.new ≡ given self.old }

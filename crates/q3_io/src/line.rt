@@ -12,7 +12,7 @@ use std::marker::Model;
 const ROOM: usize = 1_024;
 
 /// A sink that holds bytes back, at most 1,024, and hands them on to another in one write: at a flush, or before bytes
-/// that don't fit behind them. More than 1,024 bytes at once go straight on, in a write of their own.
+/// that don't fit after them. More than 1,024 bytes at once go straight on, in a write of their own.
 /// After `Failed` it holds nothing. What it holds when it is dropped is lost.
 #[derive(Drop)]
 pub struct Line<O> {
@@ -139,7 +139,7 @@ impl Held {
         self.length == 0
     }
 
-    /// Holds the bytes behind the others, where they fit.
+    /// Holds the bytes after the others, where they fit.
     fn keep(&mut self, bytes: &[u8]) -> bool
         ensures fits { IsTrue result ↔ (length self.old + length bytes.now ≤ most_held) }
         ensures held { self.new ≡ (if result then self.old ++ bytes.now else self.old) }

@@ -44,7 +44,7 @@ pub fn print_text<O: Sink>(text: &[u8], out: &mut O) -> Result<(), Failed>
     out.write_all(b"\"")
 }
 
-/// Writes the pieces, one behind the other.
+/// Writes the pieces, one after the other.
 pub fn print_all<O: Sink>(pieces: &[Piece], out: &mut O) -> Result<(), Failed>
     ensures adds { Adds (O.written out.old) (O.written out.new) (flat_map piece_text pieces.now) result }
     ensures cause { HasCause (O.faults out.old) (O.faults out.new) result }
@@ -55,7 +55,7 @@ pub fn print_all<O: Sink>(pieces: &[Piece], out: &mut O) -> Result<(), Failed>
     Ok(())
 }
 
-/// Writes the words that aren't 0, each behind a space, the letter, its index and a colon.
+/// Writes the words that aren't 0, each after a space, the letter, its index and a colon.
 pub fn print_indexed<O: Sink>(letter: &[u8], words: &[u32], out: &mut O) -> Result<(), Failed>
     ensures adds { Adds (O.written out.old) (O.written out.new) (words_text letter.now 0 words.now) result }
     ensures cause { HasCause (O.faults out.old) (O.faults out.new) result }
@@ -67,7 +67,7 @@ pub fn print_indexed<O: Sink>(letter: &[u8], words: &[u32], out: &mut O) -> Resu
 }
 
 /// Writes bytes as a word: each as two hex digits with small letters, and `-` for none.
-/// `Failed` comes where the sink failed, behind a front of the word.
+/// `Failed` comes where the sink failed, after a front of the word.
 pub fn print_hex_word<O: Sink>(bytes: &[u8], out: &mut O) -> Result<(), Failed>
     ensures adds { Adds (O.written out.old) (O.written out.new) (hex_word bytes.now) result }
     ensures cause { HasCause (O.faults out.old) (O.faults out.new) result }

@@ -21,7 +21,7 @@ use Rattle.q3_script.specs.declared.event.Event.TheVariants.{Client, Map, Entity
 unfoldable pub generator_of : ℕ → Lcg
 generator_of seed = pcg32_of_seed (pcg32_seed 16 seed)
 
--- a draw below n: the next word modulo n, and the generator behind it
+-- a draw below n: the next word modulo n, and the generator after it
 unfoldable pub draw : ℕ → Lcg → ℕ × Lcg
 draw n generator = ((pcg32 generator).0 % n, (pcg32 generator).1)
 
@@ -124,7 +124,7 @@ line_of kind i made generator =
     else if nat_le kind 16 then deliver_line made generator
     else config_line i generator
 
--- the drawn line of a number, behind so many datagrams: its kind is the first draw
+-- the drawn line of a number, after so many datagrams: its kind is the first draw
 unfoldable pub drawn_line : ℕ → ℕ → Lcg → Event × Lcg
 drawn_line i made generator = let kind = draw 18 generator in line_of kind.0 i made kind.1
 
@@ -160,7 +160,7 @@ opening =
     ++ (Time 1000 ∷ [])
     ++ flat_map (λ c. first_turns c (4 * c)) (range_with_len 0 4)
 
--- the last turns of each client, behind so many datagrams
+-- the last turns of each client, after so many datagrams
 unfoldable pub closing : ℕ → List Event
 closing made = flat_map (λ c. last_turns c (made + 40 * c)) (range_with_len 0 4)
 

@@ -51,7 +51,7 @@ fn player_with(place: usize, word: u32, stat: usize, value: u8) -> PlayerState
     player
 }
 
-/// A word and a number behind it.
+/// A word and a number after it.
 fn numbered(word: &[u8], number: u32) -> ArrayVec<u8, MOST_BYTES>
     requires { length word.now ≤ 6 }
     ensures { result.items ≡ word.now ++ decimal number }
@@ -63,7 +63,7 @@ fn numbered(word: &[u8], number: u32) -> ArrayVec<u8, MOST_BYTES>
     text
 }
 
-/// The text of a word and a number behind it.
+/// The text of a word and a number after it.
 fn text_with(word: &[u8], number: u32) -> Text
     requires short { length word.now ≤ 6 }
     requires letters { All IsTextByte word.now }
@@ -239,7 +239,7 @@ fn line_of(
     }
 }
 
-/// The drawn line of a number, behind so many datagrams.
+/// The drawn line of a number, after so many datagrams.
 #[tactic(auto, unfolding(crate::specs::Generated::drawn_line))]
 pub(crate) fn drawn_line(
     alloc: Global,

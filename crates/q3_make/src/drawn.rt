@@ -36,7 +36,7 @@ impl Model for Drawn {
 }
 
 impl Drawn {
-    /// Behind the opening lines of the script that a seed makes: no line was drawn.
+    /// After the opening lines of the script that a seed makes: no line was drawn.
     pub fn new(seed: u64) -> Drawn
         ensures value { result ≡ record { drawn = 0; made = 16; generator = generator_of seed } }
         ensures rest { (number : ℕ) → opening ++ rest_of number result ≡ generated number seed }
@@ -48,7 +48,7 @@ impl Drawn {
         }
     }
 
-    /// Draws the next line. `Err` is want of memory; what is drawn behind it is no line of the script.
+    /// Draws the next line. `Err` is want of memory; what is drawn after it is no line of the script.
     pub fn next(&mut self, alloc: Global) -> Result<Event, NoMemory>
         requires few { self.old.drawn < 65000 }
         ensures line { IfOk result (λ event. (event, self.new.generator) ≡ drawn_line (self.old.drawn + 1) self.old.made self.old.generator) }

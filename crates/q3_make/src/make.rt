@@ -53,7 +53,7 @@ pub fn opening_lines(alloc: Global) -> Result<Vec<Event>, NoMemory>
     Ok(events)
 }
 
-/// The lines that close a generated script, behind the lines so far. `Err` is want of memory.
+/// The lines that close a generated script, after the lines so far. `Err` is want of memory.
 pub fn closing_lines(alloc: Global, drawn: &Drawn) -> Result<Vec<Event>, NoMemory>
     ensures lines { IfOk result (λ events. events.items ≡ closing drawn.now.made) }
     ensures rest { IfOk result (λ events. rest_of 0 drawn.now ≡ events.items) }
@@ -65,7 +65,7 @@ pub fn closing_lines(alloc: Global, drawn: &Drawn) -> Result<Vec<Event>, NoMemor
     Ok(events)
 }
 
-/// Puts the opening lines behind others.
+/// Puts the opening lines after others.
 #[tactic(auto, unfolding(crate::specs::Generated::opening))]
 fn push_opening(events: &mut Vec<Event>) -> Result<(), NoMemory>
     ensures { IfOk result (λ _. events.new.items ≡ events.old.items ++ opening) }
@@ -140,7 +140,7 @@ fn push_first_turns(events: &mut Vec<Event>) -> Result<(), NoMemory>
     Ok(())
 }
 
-/// The first turns of a client, behind so many datagrams.
+/// The first turns of a client, after so many datagrams.
 fn push_first(c: u8, made: u32, events: &mut Vec<Event>) -> Result<(), NoMemory>
     requires { made ≤ 100000 }
     ensures { IfOk result (λ _. events.new.items ≡ events.old.items ++ first_turns c made) }
@@ -169,7 +169,7 @@ fn still(time: u32) -> Move
     one
 }
 
-/// Puts so many drawn lines behind others.
+/// Puts so many drawn lines after others.
 fn push_drawn(
     alloc: Global,
     number: u32,
@@ -185,7 +185,7 @@ fn push_drawn(
     Ok(())
 }
 
-/// Puts the closing lines behind others.
+/// Puts the closing lines after others.
 #[tactic(auto, unfolding(crate::specs::Generated::closing))]
 fn push_closing(made: u32, events: &mut Vec<Event>) -> Result<(), NoMemory>
     requires { made ≤ 100000 }
@@ -197,7 +197,7 @@ fn push_closing(made: u32, events: &mut Vec<Event>) -> Result<(), NoMemory>
     Ok(())
 }
 
-/// The last turns of a client, behind so many datagrams, and its newest snapshot.
+/// The last turns of a client, after so many datagrams, and its newest snapshot.
 fn push_last_turns(c: u8, made: u32, events: &mut Vec<Event>) -> Result<(), NoMemory>
     requires { made ≤ 200000 }
     ensures { IfOk result (λ _. events.new.items ≡ events.old.items ++ last_turns c made) }

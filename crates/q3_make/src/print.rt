@@ -17,7 +17,7 @@ use q3_io::{Address, Failed, Piece, Sink, laws, print_all, print_hex_word};
 use q3_player::PlayerState;
 use q3_script::{Event, ScriptKind};
 
-/// Prints a replay's script of these events. What is printed reads back as them. `Failed` comes where the sink failed, behind a
+/// Prints a replay's script of these events. What is printed reads back as them. `Failed` comes where the sink failed, after a
 /// front of the script.
 pub fn print_script<O: Sink>(events: &[Event], out: &mut O) -> Result<(), Failed>
     requires each { All IsReplayEvent events.now }
@@ -200,7 +200,7 @@ fn print_bytes<O: Sink>(word: &[u8], c: u8, bytes: &[u8], out: &mut O) -> Result
     print_hex_word(bytes, out)
 }
 
-/// Prints a word and a client, with a space behind them.
+/// Prints a word and a client, with a space after them.
 fn print_front<O: Sink>(word: &[u8], c: u8, out: &mut O) -> Result<(), Failed>
     ensures adds { Adds (O.written out.old) (O.written out.new) (concat (word.now ∷ decimal c ∷ codes " " ∷ [])) result }
     ensures cause { HasCause (O.faults out.old) (O.faults out.new) result }

@@ -251,7 +251,7 @@ fn set_admitted(configs: &mut Configs, index: u32, text: &[u8])
     let _ = configs.set(index, text);
 }
 
-/// Puts a text behind bytes.
+/// Puts a text after bytes.
 fn extend(bytes: &mut ArrayVec<u8, MOST_BYTES>, text: &[u8])
     requires { array_vec_len bytes.old + length text.now ≤ 32 }
     ensures items { bytes.new.items ≡ bytes.old.items ++ text.now }

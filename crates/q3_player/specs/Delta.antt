@@ -44,7 +44,7 @@ player_delta words table from to =
 unfoldable pub value_at : List (List Bool) → Kind → ℕ → ℕ → List Bool → Result (ℕ × List Bool) ReadError
 value_at words kind mask from bits = if mask % 2 == 1 then player_field_at words kind bits else Ok (from, bits)
 
--- the values behind a mask
+-- the values after a mask
 unfoldable pub values_at : List (List Bool) → Kind → ℕ → List ℕ → List Bool → Result (List ℕ × List Bool) ReadError
 values_at words kind mask (x ∷ from) bits = do
   first ← value_at words kind mask x bits
@@ -52,7 +52,7 @@ values_at words kind mask (x ∷ from) bits = do
   Ok (first.0 ∷ others.0, others.1)
 values_at words kind mask [] bits = Ok ([], bits)
 
--- an array that is read: a mark, and behind a mark of change the mask and the values
+-- an array that is read: a mark, and after a mark of change the mask and the values
 unfoldable pub array_at : List (List Bool) → Kind → List ℕ → List Bool → Result (List ℕ × List Bool) ReadError
 array_at words kind from bits = do
   mark ← field_at words 1 bits
@@ -79,13 +79,13 @@ all_arrays_at words from bits = do
   arrays ← arrays_at words array_kinds (arrays_of from) bits
   Ok (with_arrays from arrays.0, arrays.1)
 
--- a mark, and behind a mark of change the arrays
+-- a mark, and after a mark of change the arrays
 unfoldable pub marked_arrays_at : List (List Bool) → PlayerState → List Bool → Result (PlayerState × List Bool) ReadError
 marked_arrays_at words from bits = do
   mark ← field_at words 1 bits
   if mark.0 == 0 then Ok (from, mark.1) else all_arrays_at words from mark.1
 
--- the state that the bits spell against another, and what is behind it, or the first fault
+-- the state that the bits spell against another, and what follows it, or the first fault
 unfoldable pub player_at : List (List Bool) → List Kind → PlayerState → List Bool → Result (PlayerState × List Bool) DeltaError
 player_at words table from bits = do
   fields ← words_at Player words table from.words bits

@@ -1,4 +1,4 @@
--- A player as scripts and reports spell it: the words that aren't 0, and behind their letters those of the arrays.
+-- A player as scripts and reports spell it: the words that aren't 0, and after their letters those of the arrays.
 use Rattle.std.specs.Prelude.{ℕ, List, [], ◌∷◌, codes}
 use Rattle.std.specs.List.{concat}
 use Rattle.q3_io.specs.Print.{words_text}

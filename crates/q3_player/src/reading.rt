@@ -30,7 +30,7 @@ pub fn read_player(
     Ok(())
 }
 
-/// Reads a mark for all arrays, and behind a mark of change each of them.
+/// Reads a mark for all arrays, and after a mark of change each of them.
 #[tactic(auto, unfolding(crate::specs::Delta::marked_arrays_at))]
 fn read_arrays(r: &mut Reader, into: &mut PlayerState) -> Result<(), ReadError>
     ensures { Reads r.old r.new (marked_arrays_at r.old.words into.old r.old.left) (holding into.new result) }
@@ -62,7 +62,7 @@ fn read_shorts(r: &mut Reader, values: &mut [i16; 16]) -> Result<(), ReadError>
     Ok(())
 }
 
-/// Reads an array over the one that stands there: a mark, and behind a mark of change the mask and the values.
+/// Reads an array over the one that stands there: a mark, and after a mark of change the mask and the values.
 #[tactic(auto, using(crate::proofs::PlacesRead::places_after_none), unfolding(crate::specs::Delta::array_at))]
 fn read_array(r: &mut Reader, kind: Kind, values: &mut [u32; 16]) -> Result<(), ReadError>
     requires { IsKind kind }

@@ -38,7 +38,7 @@ impl PlayerState {
         }
     }
 
-    /// The normal form: each word in that of its field, and the words behind the table's fields 0.
+    /// The normal form: each word in that of its field, and the words after the table's fields 0.
     pub fn normal(&self, table: &Table) -> PlayerState
         ensures { result ≡ normal_player table.now.kinds self.now }
     {

@@ -13,7 +13,7 @@ use q3_bits::{BIT, Overflow, SHORT, Writer, laws};
 use q3_fields::{Kind, StateKind, Table, changed_count, write_counted, write_player_field};
 
 /// Writes what changed from one state to another: a byte for how many fields follow, a mark for each of them and the
-/// field behind a mark of change, and the four arrays, each with a mask of the places that changed and their values.
+/// field after a mark of change, and the four arrays, each with a mask of the places that changed and their values.
 /// `Overflow` comes exactly where the text doesn't fit the writer's room; a front of it was then written.
 #[tactic(auto, unfolding(crate::specs::Delta::player_delta))]
 pub fn write_player(
@@ -30,7 +30,7 @@ pub fn write_player(
     write_arrays(w, from, to)
 }
 
-/// Writes a mark for all arrays, and behind a mark of change each of them.
+/// Writes a mark for all arrays, and after a mark of change each of them.
 #[tactic(auto, unfolding(crate::specs::Delta::arrays_bits))]
 fn write_arrays(w: &mut Writer, from: &PlayerState, to: &PlayerState) -> Result<(), Overflow>
     ensures { Writes w.old w.new (arrays_bits w.old.words (player_changes from.now to.now)) result }
@@ -91,7 +91,7 @@ fn write_shorts(w: &mut Writer, from: &[i16; 16], to: &[i16; 16]) -> Result<(), 
     write_array(w, Kind::Signed(16), &patterns(from), &patterns(to))
 }
 
-/// Writes a mark, and behind a mark of change the mask of the places that changed and their values.
+/// Writes a mark, and after a mark of change the mask of the places that changed and their values.
 fn write_array(w: &mut Writer, kind: Kind, from: &[u32; 16], to: &[u32; 16]) -> Result<(), Overflow>
     requires { IsKind kind }
     ensures { Writes w.old w.new (array_bits w.old.words kind (changes from.now to.now)) result }

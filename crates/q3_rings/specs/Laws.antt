@@ -11,7 +11,7 @@ abbrev pub AcceptedIsHeld : Type 0
 AcceptedIsHeld = (snapshots : HeldSnapshots) (snapshot : Snapshot) → AreHeldSnapshots snapshots → snapshots.newest < snapshot.head.number
     → length snapshot.entities ≤ most_entities → held_snapshot (accept_at snapshots snapshot) snapshot.head.number ≡ Ok snapshot
 
--- what is held behind a snapshot that is accepted is that one, or was held before
+-- what is held after a snapshot that is accepted is that one, or was held before
 abbrev pub HeldWasHeld : Type 0
 HeldWasHeld = (snapshots : HeldSnapshots) (accepted : Snapshot) (number : ℕ) (held : Snapshot) → AreHeldSnapshots snapshots
     → held_snapshot (accept_at snapshots accepted) number ≡ Ok held

@@ -27,7 +27,7 @@ no_snapshots ring = record { ring = ring; newest = 0; places = no_places }
 
 -- ---- a message's base
 
--- whether the entities of a snapshot of this age are there: a whole list more has room behind them
+-- whether the entities of a snapshot of this age are there: a whole list more has room after them
 abbrev pub is_young : ℕ → ℕ → Bool
 is_young ring age = nat_le age (ring - most_entities)
 
@@ -55,7 +55,7 @@ view_at snapshots number = result_ok (held_snapshot snapshots number)
 abbrev pub held_remains : ℕ → HeldSnapshot → HeldSnapshot
 held_remains ring held = if is_young ring held.age then held else record held { snapshot = without_entities held.snapshot }
 
--- a snapshot behind which so many entities more were placed
+-- a snapshot after which so many entities more were placed
 abbrev pub older : ℕ → ℕ → HeldSnapshot → HeldSnapshot
 older ring count held = held_remains ring (record held { age = held.age + count })
 

@@ -7,7 +7,7 @@ pub fn accepted_is_held()
     ensures { AcceptedIsHeld }
 {}
 
-/// What is held behind a snapshot that is accepted is that one, or was held before.
+/// What is held after a snapshot that is accepted is that one, or was held before.
 pub fn held_was_held()
     ensures { HeldWasHeld }
 {}

@@ -6,7 +6,7 @@ pub record BufferState : Type 0 where
   pub bytes : List ℕ
   pub faults : ℕ
 
--- a text was put behind bytes, or they are as they were
+-- a text was put after bytes, or they are as they were
 abbrev pub Appends : {T E : Type 0} → List ℕ → List ℕ → List ℕ → Result T E → Type 0
 Appends old new text (Ok x) = new ≡ old ++ text
 Appends old new text (Err e) = new ≡ old

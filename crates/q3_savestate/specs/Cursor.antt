@@ -1,4 +1,4 @@
--- Bytes that are read field by field: a value and the bytes behind it, or the place of the first field that is cut short or breaks a rule.
+-- Bytes that are read field by field: a value and the bytes after it, or the place of the first field that is cut short or breaks a rule.
 use Rattle.std.specs.Prelude.{ℕ, ◌+◌, ◌==◌, ◌&&◌, not, nat_lt, nat_le, if◌then◌else◌, Bool, List, length, take, drop, Result, Ok, Err}
 use Rattle.std.specs.List.{list_all}
 use Rattle.byteorder.specs.Endian.{little_number}
@@ -12,7 +12,7 @@ pub record Cursor : Type 0 where
 abbrev pub Field : Type 0 → Type 0
 Field X = Result (X × Cursor) ℕ
 
--- what stands behind so many bytes
+-- what follows so many bytes
 abbrev pub behind : ℕ → Cursor → Cursor
 behind count cursor = record { at = cursor.at + count; bytes = drop count cursor.bytes }
 

@@ -9,7 +9,7 @@ use Rattle.q3_entity.specs.declared.state.EntityState.{EntityState}
 use Rattle.q3_entity.specs.Baselines.{Baselines, no_baselines, with_baseline, set_baselines}
 use Rattle.q3_savestate.specs.Cursor.{Cursor, Field, field_at, number_at}
 
--- items behind their number, which has two bytes
+-- items after their number, which has two bytes
 abbrev pub counted : {X : Type 0} → (X → List ℕ) → List X → List ℕ
 counted item items = little_bytes 2 (length items) ++ flat_map item items
 
@@ -30,7 +30,7 @@ words_at (kind ∷ kinds) cursor = do
   others ← words_at kinds word.1
   Ok (word.0 ∷ others.0, others.1)
 
--- a state's words: 0 behind those of the table
+-- a state's words: 0 after those of the table
 unfoldable pub state_words_at : List Kind → Cursor → Field (List ℕ)
 state_words_at kinds cursor = do
   words ← words_at kinds cursor

@@ -19,7 +19,7 @@ abbrev pub found_with : {X Y : Type 0} → Result X ℕ → Y → Cursor → Fie
 found_with (Ok x) y cursor = Ok ((x, y), cursor)
 found_with (Err at) y cursor = Err at
 
--- entities are placed behind those of the snapshot that is being put back
+-- entities are placed after those of the snapshot that is being put back
 abbrev pub placed_in : RingsState → List EntityState → RingsState
 placed_in rings entities =
     record rings { begun = option_map (λ (begun : Begun). record begun { entities = begun.entities ++ entities }) rings.begun }
@@ -28,7 +28,7 @@ placed_in rings entities =
 abbrev pub behind_one : HeldSnapshots → HeldSnapshot → ℕ × HeldSnapshots
 behind_one held one = (one.age - length one.snapshot.entities, put_back_at held one)
 
--- a snapshot of at most this age may be put back into a ring with so much room: behind the first, so many entities count as placed, and all
+-- a snapshot of at most this age may be put back into a ring with so much room: after the first, so many entities count as placed, and all
 -- that is held is older, each by its own entities
 pub record MayPutBack (room most : ℕ) (rings : RingsState) : Type 0 where
   pub room_is : rings.held.ring ≡ room

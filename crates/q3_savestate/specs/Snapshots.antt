@@ -103,7 +103,7 @@ snapshot_at profile held newest left most cursor = do
   entities ← entities_at profile.entity count.0 0 count.1
   Ok (record { snapshot = record { head = head.0; entities = entities.0 }; age = age.0 }, entities.1)
 
--- so many behind others, each older than the next by its own entities
+-- so many after others, each older than the next by its own entities
 unfoldable pub snapshots_after : Profile → ℕ → ℕ → ℕ → HeldSnapshots → Cursor → Field HeldSnapshots
 snapshots_after profile newest zero most held cursor = Ok (held, cursor)
 snapshots_after profile newest (suc left) most held cursor = do

@@ -68,8 +68,8 @@ flag_at cursor = do
   flag ← number_at 1 0 1 cursor
   Ok (not (flag.0 == 0), flag.1)
 
--- the state behind a cursor, and no bytes behind it; or the place of the first field that is cut short or breaks a rule, or of the first
--- byte behind the state
+-- the state that follows a cursor, and no bytes after it; or the place of the first field that is cut short or breaks a rule, or of the first
+-- byte after the state
 abbrev pub whole_at : Profile → Cursor → Result Saved ℕ
 whole_at profile cursor = do
   start ← start_at cursor

@@ -1,4 +1,4 @@
-//! A state behind bytes in memory.
+//! A state after bytes in memory.
 
 ghost use Rattle.q3_savestate.specs.Buffers.{Appends};
 ghost use Rattle.q3_savestate.specs.Lending.{HasAges, parts_of};
@@ -12,7 +12,7 @@ use q3_profile::Profile;
 use std::alloc::AllocError;
 use std::mem::replace;
 
-/// Puts a state behind bytes. `Err` is want of memory; the bytes are as they were then.
+/// Puts a state after bytes. `Err` is want of memory; the bytes are as they were then.
 pub fn append_state(profile: &Profile, parts: Parts, into: &mut Vec<u8>) -> Result<(), NoMemory>
     requires ages { HasAges parts.rings.now.held }
     ensures { Appends into.old.items into.new.items (state_bytes profile.now (parts_of parts.entry)) result }

@@ -7,7 +7,7 @@ ghost use Rattle.q3_io.specs.Written.{Adds, NothingWaits, all_sent};
 use q3_io::{Failed, Sink};
 use std::marker::Model;
 
-/// Bytes that were written, one behind the other. A write fails where it finds no memory.
+/// Bytes that were written, one after the other. A write fails where it finds no memory.
 #[derive(Drop)]
 pub struct Buffer {
     bytes: Vec<u8>,
@@ -23,7 +23,7 @@ impl Model for Buffer {
 }
 
 impl Buffer {
-    /// Writes go behind these bytes.
+    /// Writes go after these bytes.
     pub fn behind(bytes: Vec<u8>) -> Buffer
         ensures { result ≡ record { bytes = bytes.items; faults = 0 } }
     {

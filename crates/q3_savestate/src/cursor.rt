@@ -11,8 +11,8 @@ use byteorder::{ByteOrder, LittleEndian};
 use q3_fields::{Kind, norm};
 use std::marker::Model;
 
-/// The bytes that are left, and their place. Each call reads a field and moves on behind it, or answers the field's place where it is cut
-/// short or breaks the rule that the call names; behind that nothing is told of the cursor.
+/// The bytes that are left, and their place. Each call reads a field and moves on past it, or answers the field's place where it is cut
+/// short or breaks the rule that the call names; after that nothing is told of the cursor.
 #[derive(Drop)]
 pub struct Cursor<'a> {
     left: &'a [u8],

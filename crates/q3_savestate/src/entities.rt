@@ -30,7 +30,7 @@ pub(crate) fn write_words<O: Sink>(
     out.write_all(&bytes[..4 * count])
 }
 
-/// Reads the words of a table's fields. Those behind them stay 0.
+/// Reads the words of a table's fields. Those after them stay 0.
 pub(crate) fn read_words(
     cursor: &mut Cursor,
     table: &Table,

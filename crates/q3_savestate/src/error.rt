@@ -10,7 +10,7 @@ use q3_bits::NoMemory;
 pub enum StateError {
     /// Want of memory.
     NoMemory,
-    /// The place of the first field that is cut short or breaks a rule of the format, or of the first byte behind the state.
+    /// The place of the first field that is cut short or breaks a rule of the format, or of the first byte after the state.
     NotState(usize),
 }
 

@@ -96,7 +96,7 @@ fn write_snapshot<O: Sink>(
     write_run(profile, entities, out)
 }
 
-/// Writes entities behind their number.
+/// Writes entities after their number.
 fn write_run<O: Sink>(profile: &Profile, entities: Run, out: &mut O) -> Result<(), Failed>
     requires few { length (run_of entities) ≤ most_entities }
     ensures adds { Adds (O.written out.old) (O.written out.new) (counted (entity_bytes profile.now.entity) (run_of entities.entry)) result }
@@ -108,7 +108,7 @@ fn write_run<O: Sink>(profile: &Profile, entities: Run, out: &mut O) -> Result<(
     write_each(profile, entities.tail, out)
 }
 
-/// Writes entities, one behind the other.
+/// Writes entities, one after the other.
 fn write_each<O: Sink>(
     profile: &Profile,
     entities: &[EntityState],

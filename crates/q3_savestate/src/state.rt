@@ -74,7 +74,7 @@ pub(crate) struct Start {
     incoming: Incoming,
 }
 
-/// Writes a state. `Failed` comes where the sink failed, behind a front of the text.
+/// Writes a state. `Failed` comes where the sink failed, after a front of the text.
 pub fn write_state<O: Sink>(profile: &Profile, parts: Parts, out: &mut O) -> Result<(), Failed>
     requires ages { HasAges parts.rings.now.held }
     ensures adds { Adds (O.written out.old) (O.written out.new) (state_bytes profile.now (parts_of parts.entry)) result }

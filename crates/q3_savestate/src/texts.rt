@@ -77,7 +77,7 @@ pub(crate) fn read_strings(cursor: &mut Cursor, configs: &mut Configs) -> Result
     Ok(())
 }
 
-/// Reads a config string, whose index is at least this one, and answers the least index behind it. From there on all strings are empty.
+/// Reads a config string, whose index is at least this one, and answers the least index after it. From there on all strings are empty.
 #[tactic(auto, unfolding(crate::specs::Texts::strings_after))]
 fn read_string(cursor: &mut Cursor, least: u16, configs: &mut Configs) -> Result<u16, usize>
     requires { (index : ℕ) → least ≤ index → slice_index_or configs.old.texts index [] ≡ [] }

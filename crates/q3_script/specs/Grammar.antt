@@ -152,7 +152,7 @@ EndsLast [] = ⊥
 EndsLast (End ms ∷ events) = events ≡ []
 EndsLast (event ∷ events) = EndsLast events
 
--- a line that a client's script may have behind its first, `client`
+-- a line that a client's script may have after its first, `client`
 abbrev pub IsOfClient : ℕ → Event → Type 0
 IsOfClient c (Client d challenge qport dup address) = ⊥
 IsOfClient c (TypeText d text) = d ≡ c

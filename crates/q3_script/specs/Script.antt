@@ -35,7 +35,7 @@ pub record BadLine : Type 0 where
   pub line : ℕ
   pub cause : LineCause
 
--- the event of a line behind so many others
+-- the event of a line after so many others
 abbrev pub event_at : ScriptKind → ℕ → List ℕ → Result Event LineCause
 event_at kind before line = if nat_le most_events before then Err Many else line_at kind (words_of line)
 
@@ -49,17 +49,17 @@ pub record Course : Type 0 where
 abbrev pub no_course : Course
 no_course = record { time = 0; ended = false; client = None }
 
--- behind a time
+-- the course after a time
 abbrev pub timed : Course → ℕ → Result Course LineCause
 timed course ms = if nat_lt ms course.time then Err Order else Ok (record course { time = ms })
 
--- behind a line of a node
+-- after a line of a node
 abbrev pub node_behind : Course → Event → Result Course LineCause
 node_behind course (events.At ms) = timed course ms
 node_behind course (events.End ms) = timed (record course { ended = true }) ms
 node_behind course other = Ok course
 
--- whether a line behind `client` is of that client
+-- whether a line after `client` is of that client
 abbrev pub is_of : ℕ → Event → Bool
 is_of c (events.Client d challenge qport dup address) = false
 is_of c (events.TypeText d text) = d == c
@@ -70,7 +70,7 @@ is_of c (events.Stop d) = d == c
 is_of c (events.Show d) = d == c
 is_of c other = true
 
--- behind the first line of a client's script, and behind a later one
+-- after the first line of a client's script, and after a later one
 abbrev pub first_behind : Course → Event → Result Course LineCause
 first_behind course (events.Client c challenge qport dup address) = Ok (record course { client = Some c })
 first_behind course other = Err Order
@@ -79,7 +79,7 @@ abbrev pub client_behind : Course → Option ℕ → Event → Result Course Lin
 client_behind course None event = first_behind course event
 client_behind course (Some c) event = if is_of c event then node_behind course event else Err Order
 
--- behind a line of a script of a kind, if it may stand there; nothing stands behind `end`
+-- after a line of a script of a kind, if it may stand there; nothing follows `end`
 abbrev pub course_behind : ScriptKind → Course → Event → Result Course LineCause
 course_behind Replay course event = Ok course
 course_behind Serve course event = if course.ended then Err Order else node_behind course event
@@ -91,7 +91,7 @@ is_complete Replay course = true
 is_complete Serve course = course.ended
 is_complete Join course = course.ended
 
--- the number behind that of the last line: what stands behind the last newline is a line unless it is empty
+-- the number after that of the last line: what follows the last newline is a line unless it is empty
 abbrev pub line_behind : List ℕ → ℕ
 line_behind bytes = if (length bytes == 0) || ends_with eqb bytes (codes "\n") then length (lines_of bytes) else length (lines_of bytes) + 1
 
@@ -99,7 +99,7 @@ line_behind bytes = if (length bytes == 0) || ends_with eqb bytes (codes "\n") t
 abbrev pub in_line : {A : Type 0} → ℕ → Result A LineCause → Result A BadLine
 in_line line answer = result_map_both (λ x. x) (λ cause. record { line = line; cause = cause }) answer
 
--- the events of the lines from this number on, where so many events stood before them, on this course, and the number behind the last line
+-- the events of the lines from this number on, where so many events stood before them, on this course, and the number after the last line
 -- is `past`
 unfoldable pub events_from : ScriptKind → ℕ → ℕ → ℕ → Course → List (List ℕ) → Result (List Event) BadLine
 events_from kind past number before course [] = if is_complete kind course then Ok [] else Err (record { line = past; cause = Order })

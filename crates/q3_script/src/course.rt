@@ -26,7 +26,7 @@ impl Model for Course {
     ghost view = { λ c. record { time = c.time; ended = c.ended; client = c.client } };
 }
 
-/// Whether a line behind `client` is of that client.
+/// Whether a line after `client` is of that client.
 fn is_of(c: u8, event: &Event) -> bool
     ensures { result ≡ is_of c event.now }
 {
@@ -65,7 +65,7 @@ impl Course {
         Ok(())
     }
 
-    /// Goes on behind a line of a node.
+    /// Goes on after a line of a node.
     fn go_on_node(&mut self, event: &Event) -> Result<(), LineCause>
         ensures { result_map_both (λ _. self.new) (λ cause. cause) result ≡ node_behind self.old event.now }
     {
@@ -79,7 +79,7 @@ impl Course {
         }
     }
 
-    /// Goes on behind the first line of a client's script.
+    /// Goes on after the first line of a client's script.
     fn go_on_first(&mut self, event: &Event) -> Result<(), LineCause>
         ensures { result_map_both (λ _. self.new) (λ cause. cause) result ≡ first_behind self.old event.now }
     {
@@ -92,7 +92,7 @@ impl Course {
         }
     }
 
-    /// Goes on behind a line of a client's script.
+    /// Goes on after a line of a client's script.
     fn go_on_client(&mut self, event: &Event) -> Result<(), LineCause>
         ensures { result_map_both (λ _. self.new) (λ cause. cause) result ≡ client_behind self.old self.old.client event.now }
     {
@@ -103,7 +103,7 @@ impl Course {
         }
     }
 
-    /// Goes on behind a line of a script of a kind, if it may stand there.
+    /// Goes on after a line of a script of a kind, if it may stand there.
     pub(crate) fn go_on(&mut self, kind: ScriptKind, event: &Event) -> Result<(), LineCause>
         ensures { result_map_both (λ _. self.new) (λ cause. cause) result ≡ course_behind kind self.old event.now }
     {

@@ -116,7 +116,7 @@ pub enum Event {
         c: u8,
         bytes: Bytes,
     },
-    /// The lines behind this one are due when so many milliseconds have passed, 0 to 3,600,000.
+    /// The lines after this one are due when so many milliseconds have passed, 0 to 3,600,000.
     At {
         ms: u32,
     },

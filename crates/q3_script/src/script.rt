@@ -26,7 +26,7 @@ fn passed_over(line: &[u8]) -> bool
     line.is_empty() || line[0] == b'#'
 }
 
-/// The event of a line that stands behind so many others. `Err` is want of memory.
+/// The event of a line that stands after so many others. `Err` is want of memory.
 fn event_of(
     alloc: Global,
     kind: ScriptKind,
@@ -41,7 +41,7 @@ fn event_of(
     read_line(alloc, kind, line)
 }
 
-/// The number behind that of the last line, of so many pieces between newlines: a last piece that is empty is no line.
+/// The number after that of the last line, of so many pieces between newlines: a last piece that is empty is no line.
 fn line_behind(bytes: &[u8], pieces: u32) -> u32
     requires few { pieces ≤ longest_script + 1 }
     ensures { pieces ≡ length (lines_of bytes.now) → result ≡ line_behind bytes.now }

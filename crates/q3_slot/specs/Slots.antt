@@ -79,7 +79,7 @@ is_of_index index (Some change) = change.index == index
 abbrev pub changes_own : List ℕ → Bool
 changes_own text = is_of_index 1 (change_in text)
 
--- a client's slot behind a command, and the command's number, or why it isn't issued
+-- a client's slot after a command, and the command's number, or why it isn't issued
 pub record SlotSaying : Type 0 where
   pub slot : SlotState
   pub answer : Result ℕ SayError
@@ -97,7 +97,7 @@ say_slot slot text =
     else if is_connected slot.stage then record { slot = slot; answer = Err refused.NotPrimed }
     else issues slot text
 
--- a slot that may have no client, behind a command
+-- a slot that may have no client, after a command
 abbrev pub slot_saying : List ℕ → Option SlotState → Option SlotState
 slot_saying text found = option_map (λ slot. (say_slot slot text).slot) found
 
@@ -155,7 +155,7 @@ abbrev pub piece_of : Profile → MapState → FramesState → ℕ → Option Sl
 piece_of profile map frames c None = None
 piece_of profile map frames c (Some slot) = (emission_of profile map frames c slot).piece
 
--- how a client goes on behind a message of the map
+-- how a client goes on after a message of the map
 abbrev pub goes_with : Sending → Gathering → OutgoingState → Joined → Message → Playing
 goes_with sending gathering issued client message = goes_on (slot_of sending gathering issued client) message message.moves
 

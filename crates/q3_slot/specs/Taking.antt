@@ -36,11 +36,11 @@ unfoldable pub last_time : ℕ → List Move → ℕ
 last_time before [] = before
 last_time before (one ∷ moves) = last_time one.time moves
 
--- the time of the last move run behind these
+-- the time of the last move run, after these
 abbrev pub last_run_of : ℕ → List Move → ℕ
 last_run_of last moves = last_time last (runs last moves)
 
--- the number of the snapshot that a client asks for behind a message with these moves: the one that it acknowledges, or none;
+-- the number of the snapshot that a client asks for after a message with these moves: the one that it acknowledges, or none;
 -- one without moves doesn't say
 abbrev pub asked_with : ℕ → Message → List Move → ℕ
 asked_with before message [] = before
@@ -49,7 +49,7 @@ asked_with before message (one ∷ moves) = if message.delta then message.acknow
 abbrev pub delta_behind : ℕ → Message → ℕ
 delta_behind before message = asked_with before message message.moves
 
--- what the moves of a message do: how far its client comes, the number of the snapshot that it asks for behind it, the time of the
+-- what the moves of a message do: how far its client comes, the number of the snapshot that it asks for then, the time of the
 -- last move run, that of the move with which it enters the map, if it does, and the moves that are run
 pub record Playing : Type 0 where
   pub stage : ClientStage
@@ -140,7 +140,7 @@ abbrev pub is_behind_game : ℕ → Option ℕ → Bool
 is_behind_game number None = true
 is_behind_game number (Some game) = nat_lt game number
 
--- whether a message of another map makes a gamestate owed: where there is a map that its client doesn't play, and it came behind
+-- whether a message of another map makes a gamestate owed: where there is a map that its client doesn't play, and it came after
 -- the last gamestate
 abbrev pub asks_game : MapState → SlotState → Leading → Bool
 asks_game map slot heads = not (map.id == 0) && not (is_active slot.stage) && is_behind_game heads.acknowledged slot.game

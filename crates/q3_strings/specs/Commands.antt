@@ -6,11 +6,11 @@ use Rattle.q3_text.specs.declared.text.Command.{Command}
 use Rattle.q3_strings.specs.Texts.{command_bits}
 use Rattle.q3_strings.specs.Spelling.{SpellsCommand}
 
--- an operation, and a command behind it
+-- an operation, and a command after it
 abbrev pub issued_bits : List (List Bool) → ℕ → Command → List Bool
 issued_bits words operation command = row_bits words ((operation, 8) ∷ []) ++ command_bits words command
 
--- commands, each behind the operation
+-- commands, each after the operation
 abbrev pub commands_bits : List (List Bool) → ℕ → List Command → List Bool
 commands_bits words operation commands = flat_map (issued_bits words operation) commands
 
@@ -22,14 +22,14 @@ nops_bits words count = row_bits words (replicate count (1, 8))
 abbrev pub SpellsNops : List (List Bool) → List Bool → Type 0
 SpellsNops words bits = (count : ℕ) × (bits ≡ nops_bits words count)
 
--- commands, each behind the operation, with nops before that
+-- commands, each after the operation, with nops before that
 abbrev pub SpellsCommands : List (List Bool) → ℕ → List Command → List Bool → Type 0
 SpellsCommands words operation [] bits = bits ≡ []
 SpellsCommands words operation (command ∷ commands) bits =
     (nops : List Bool) × (first : List Bool) × (rest : List Bool) × (bits ≡ nops ++ row_bits words ((operation, 8) ∷ []) ++ first ++ rest)
     × SpellsNops words nops × SpellsCommand words command first × SpellsCommands words operation commands rest
 
--- commands, each behind the operation `command`, nops, and an operation that is neither
+-- commands, each after the operation `command`, nops, and an operation that is neither
 pub record SpellsRow (words : List (List Bool)) (command : ℕ) (commands : List Command) (operation : ℕ) (bits : List Bool) : Type 0 where
   pub text : List Bool
   pub nops : List Bool
@@ -44,7 +44,7 @@ pub record SpellsRow (words : List (List Bool)) (command : ℕ) (commands : List
 abbrev pub SpellsEnding : List (List Bool) → ℕ → List Bool → Type 0
 SpellsEnding words end bits = (nops : List Bool) × SpellsNops words nops × (bits ≡ nops ++ row_bits words ((end, 8) ∷ []))
 
--- the operations of a message up to its end: commands, each behind the operation `command`, a section that has an operation of its own, or
+-- the operations of a message up to its end: commands, each after the operation `command`, a section that has an operation of its own, or
 -- nothing, and the operation `end`, with nops before each
 pub record SpellsOperations (words : List (List Bool)) (command end : ℕ) (commands : List Command) (section bits : List Bool) : Type 0 where
   pub text : List Bool

@@ -66,13 +66,13 @@ abbrev pub NumberedAreCommands : Type 0
 NumberedAreCommands = (first : ℕ) (texts : List (List ℕ)) → first + length texts ≤ 2 ^ 32 → All IsText texts
     → All IsCommand (numbered first texts) × (length (numbered first texts) ≡ length texts)
 
--- a nop before commands, and before the nops behind them, is a nop of theirs
+-- a nop before commands, and before the nops after them, is a nop of theirs
 abbrev pub NopIsSpelled : Type 0
 NopIsSpelled = (words : List (List Bool)) (operation : ℕ) (commands : List Command) (text : List Bool) (count : ℕ) → SpellsCommands words operation commands text
     → (longer : List Bool) × (more : ℕ) × SpellsCommands words operation commands longer
     × ((rest : List Bool) → row_bits words ((1, 8) ∷ []) ++ (text ++ (nops_bits words count ++ rest)) ≡ longer ++ (nops_bits words more ++ rest))
 
--- nops behind nops are nops
+-- nops after nops are nops
 abbrev pub NopsAreNops : Type 0
 NopsAreNops = (words : List (List Bool)) (first second : List Bool) → SpellsNops words first → SpellsNops words second → SpellsNops words (first ++ second)
 
@@ -87,7 +87,7 @@ pub record TurnsAreTaken : Type 0 where
   -- where no bit is left, the bits end
   pub ends : (words : List (List Bool)) (e : ReadError) → IsCode words → field_at words 8 [] ≡ Err e → e ≡ End
 
--- a row of operations that was read: commands more, and how they and the operation behind them were spelled
+-- a row of operations that was read: commands more, and how they and the operation after them were spelled
 pub record WasRow (words : List (List Bool)) (command : ℕ) (commands : List Command) (bits : List Bool) (row : Row) (rest : List Bool) : Type 0 where
   pub added : List Command
   pub all : row.commands ≡ commands ++ added

@@ -1,4 +1,4 @@
--- The operations of a message, as a reader takes them: nops and commands up to another operation, and what is behind a
+-- The operations of a message, as a reader takes them: nops and commands up to another operation, and what follows a
 -- message's section.
 use Rattle.std.specs.Prelude.{ℕ, zero, suc, ◌==◌, nat_lt, Bool, if◌then◌else◌, List, [], ◌∷◌, ◌++◌, length, Result, Ok, Err}
 use Rattle.q3_bits.specs.ResultBind.{◌>>=◌, fault_as}
@@ -17,7 +17,7 @@ abbrev pub string_error : StringError → OperationError
 string_error (strings.Bits e) = Bits e
 string_error strings.Long = TextLong
 
--- commands, and the other operation behind them
+-- commands, and the other operation after them
 pub record Row : Type 0 where
   pub commands : List Command
   pub operation : ℕ
@@ -27,7 +27,7 @@ abbrev pub rowed : List Command → Result ℕ OperationError → Result Row Ope
 rowed commands (Ok operation) = Ok (record { commands = commands; operation = operation })
 rowed commands (Err e) = Err e
 
--- one command more behind its operation, where there are fewer than 64
+-- one command more after its operation, where there are fewer than 64
 unfoldable pub commands_at : List (List Bool) → List Command → List Bool → Result (List Command × List Bool) OperationError
 commands_at words commands bits =
     if nat_lt (length commands) most_commands then (do
@@ -35,7 +35,7 @@ commands_at words commands bits =
       Ok (commands ++ command.0 ∷ [], command.1))
     else Err Commands
 
--- nops and commands, these behind the operation `command`, up to the first other operation; there are at most so many
+-- nops and commands, these after the operation `command`, up to the first other operation; there are at most so many
 -- operations, since each takes a bit
 unfoldable pub row_at : List (List Bool) → ℕ → ℕ → List Command → List Bool → Result (Row × List Bool) OperationError
 row_at words command zero commands bits = Err (Bits End)
@@ -47,7 +47,7 @@ row_at words command (suc most) commands bits = do
         row_at words command most more.0 more.1)
       else Ok (record { commands = commands; operation = operation.0 }, operation.1)
 
--- behind a message's section: nops, and the operation `end`; there are at most so many operations, since each takes a bit
+-- after a message's section: nops, and the operation `end`; there are at most so many operations, since each takes a bit
 unfoldable pub ending_at : List (List Bool) → ℕ → ℕ → List Bool → Result (Unit {0} × List Bool) OperationError
 ending_at words end zero bits = Err (Bits End)
 ending_at words end (suc most) bits = do

@@ -27,7 +27,7 @@ bounded_string_at words (suc most) bits = do
     others ← bounded_string_at words most byte.1
     Ok (translated byte.0 ∷ others.0, others.1))
 
--- a command behind its operation
+-- a command after its operation
 unfoldable pub command_at : List (List Bool) → List Bool → Result (Command × List Bool) StringError
 command_at words bits = do
   number ← fault_as Bits (field_at words 32 bits)

@@ -15,7 +15,7 @@ row-none words bits = refl
 pub row-empty : (words : List (List Bool)) → [] ≡ row_bits words []
 row-empty words = row-none words [] ∙ append-nil (row_bits words [])
 
--- a row behind a field is a row
+-- a row after a field is a row
 pub row-behind : (words : List (List Bool)) (value width : ℕ) (fields : List (ℕ × ℕ)) (rest : List Bool)
     → row_bits words ((value, width) ∷ fields) ++ rest ≡ row_bits words ((value, width) ∷ []) ++ (row_bits words fields ++ rest)
 unfolding row_bits
@@ -23,7 +23,7 @@ row-behind words value width fields rest =
     append_assoc (field_bits words width value) (row_bits words fields) rest
     ∙ ap (λ (text : List Bool). text ++ (row_bits words fields ++ rest)) (sym (append-nil (field_bits words width value)))
 
--- a field that was read: its value fits, and it stands in front of the row that is behind it
+-- a field that was read: its value fits, and it stands in front of the row that follows it
 pub record WasField (words : List (List Bool)) (width : ℕ) (bits : List Bool) (found : ℕ × List Bool) : Type 0 where
   pub fits : found.0 < 2 ^ width
   pub row : (fields : List (ℕ × ℕ)) (rest : List Bool) → found.1 ≡ row_bits words fields ++ rest → bits ≡ row_bits words ((found.0, width) ∷ fields) ++ rest
@@ -54,7 +54,7 @@ module _ (words : List (List Bool)) (code : IsCode words) (put : PutIsRead) wher
   unfolding row_bits
   row-last value width rest fits = row-first value width [] rest fits
 
--- the operations of a message, part by part, with what is behind them
+-- the operations of a message, part by part, with what follows them
 pub operations-parts : (words : List (List Bool)) (command end : ℕ) (commands : List Command) (section bits rest : List Bool) (is : SpellsOperations words command end commands section bits)
     → bits ++ rest ≡ is.text ++ (is.nops ++ (section ++ (is.of_ending.0 ++ (row_bits words ((end, 8) ∷ []) ++ rest))))
 operations-parts words command end commands section bits rest is =

@@ -11,7 +11,7 @@ SpellsString words most text bits =
     (bytes : List ℕ) × All (λ byte. (0 < byte) × (byte < 256)) bytes × (length bytes ≤ most) × (text ≡ map translated bytes)
     × (bits ≡ string_bits words bytes)
 
--- a command behind its operation: its number, and its string
+-- a command after its operation: its number, and its string
 abbrev pub SpellsCommand : List (List Bool) → Command → List Bool → Type 0
 SpellsCommand words command bits =
     (text : List Bool) × (command.number < 2 ^ 32) × SpellsString words most_bytes command.text text

@@ -9,7 +9,7 @@ use q3_bits::ReadError;
 pub enum StringError {
     /// The bits don't read.
     Bits(ReadError),
-    /// The byte behind as many as may be isn't 0.
+    /// The byte after as many as may be isn't 0.
     Long,
 }
 

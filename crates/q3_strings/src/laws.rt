@@ -73,12 +73,12 @@ pub fn numbered_are_commands()
     ensures { NumberedAreCommands }
 {}
 
-/// A nop before commands, and before the nops behind them, is a nop of theirs.
+/// A nop before commands, and before the nops after them, is a nop of theirs.
 pub fn nop_is_spelled()
     ensures { NopIsSpelled }
 {}
 
-/// Nops behind nops are nops.
+/// Nops after nops are nops.
 pub fn nops_are_nops()
     ensures { NopsAreNops }
 {}

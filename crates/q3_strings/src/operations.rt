@@ -16,10 +16,10 @@ use q3_text::Commands;
 /// The operation that says nothing.
 const NOP: u32 = 1;
 
-/// Reads nops and commands, these behind the operation `command`, up to the first other operation, which is the answer. The
-/// commands are put behind those that there are. After a refusal `commands` may hold any.
+/// Reads nops and commands, these after the operation `command`, up to the first other operation, which is the answer. The
+/// commands are put after those that there are. After a refusal `commands` may hold any.
 ///
-/// `Err` is the first fault in reading order: `Bits` where the bits don't read; `TextLong` where the byte behind 1,023 of a
+/// `Err` is the first fault in reading order: `Bits` where the bits don't read; `TextLong` where the byte after 1,023 of a
 /// string isn't 0; `Commands` for a 65th command, before it is read.
 #[inline(never)]
 pub fn read_row(
@@ -56,7 +56,7 @@ fn read_operation(r: &mut Reader) -> Result<u32, ReadError>
     Ok(u32::from(r.get_byte()?))
 }
 
-/// Reads one command more behind its operation. A 65th is refused before it is read.
+/// Reads one command more after its operation. A 65th is refused before it is read.
 #[tactic(auto, unfolding(crate::specs::Operations::commands_at))]
 #[inline(always)]
 fn read_next_command(r: &mut Reader, commands: &mut Commands) -> Result<(), OperationError>
@@ -69,7 +69,7 @@ fn read_next_command(r: &mut Reader, commands: &mut Commands) -> Result<(), Oper
     Ok(())
 }
 
-/// Reads what is behind a message's section: nops, and the operation `end`.
+/// Reads what follows a message's section: nops, and the operation `end`.
 /// `Err` is the first fault in reading order: `Bits` where the bits don't read; `BadOp` for any other operation.
 pub fn read_ending(r: &mut Reader, end: u32) -> Result<(), OperationError>
     requires { IsCode r.old.words }

@@ -33,7 +33,7 @@ pub fn read_bytes<const N: usize>(
 }
 
 /// Reads a string of at most as many bytes as there is room for, and translates each. After a refusal `into` may hold
-/// any. `Err` is the first in reading order: `Bits` where the bits don't read; `Long` where the byte behind the last that
+/// any. `Err` is the first in reading order: `Bits` where the bits don't read; `Long` where the byte after the last that
 /// there is room for isn't 0.
 pub fn read_string<const N: usize>(
     r: &mut Reader,
@@ -82,7 +82,7 @@ pub fn read_text(r: &mut Reader, into: &mut Text) -> Result<(), StringError>
     Ok(())
 }
 
-/// Reads a command behind its operation into its place. After a refusal `into` may hold any. `Err` comes as in
+/// Reads a command after its operation into its place. After a refusal `into` may hold any. `Err` comes as in
 /// `read_string`.
 #[tactic(auto, unfolding(crate::specs::Reading::command_at))]
 #[inline(always)]

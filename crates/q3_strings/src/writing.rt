@@ -72,7 +72,7 @@ pub fn write_string(w: &mut Writer, text: &[u8]) -> Result<(), Overflow>
     w.put_all(&[(0, BYTE)])
 }
 
-/// Writes a command behind its operation: its number, and its string. `Overflow` comes as in `write_bytes`.
+/// Writes a command after its operation: its number, and its string. `Overflow` comes as in `write_bytes`.
 pub fn write_command(w: &mut Writer, command: &Command) -> Result<(), Overflow>
     ensures { Writes w.old w.new (command_bits w.old.words command.now) result }
 {
@@ -81,7 +81,7 @@ pub fn write_command(w: &mut Writer, command: &Command) -> Result<(), Overflow>
     write_string(w, command.text.bytes())
 }
 
-/// Writes commands, each behind the operation of its end: those of `head`, and behind them those of `tail`. `Overflow`
+/// Writes commands, each after the operation of its end: those of `head`, followed by those of `tail`. `Overflow`
 /// comes as in `write_bytes`.
 pub fn write_commands(w: &mut Writer, operation: u8, commands: CommandRun) -> Result<(), Overflow>
     ensures { Writes w.old w.new (commands_bits w.old.words operation (commands_of commands.entry)) result }
@@ -104,7 +104,7 @@ fn write_row(w: &mut Writer, operation: u8, commands: &[Command]) -> Result<(), 
     Ok(())
 }
 
-/// Writes an operation, and a command behind it.
+/// Writes an operation, and a command after it.
 fn write_issued(w: &mut Writer, operation: u8, command: &Command) -> Result<(), Overflow>
     ensures { Writes w.old w.new (issued_bits w.old.words operation command.now) result }
 {

@@ -54,7 +54,7 @@ ack_at words bits = do
   ack ← field_at words 32 bits
   Ok (ack.0, length bits - length ack.1)
 
--- a gamestate behind its operation
+-- a gamestate after its operation
 unfoldable pub game_at : Profile → List Bool → Result (Told × List Bool) Illegible
 game_at profile bits = do
   game ← fault_as game_error (gamestate_at profile bits)
@@ -92,7 +92,7 @@ area_at words bits = do
   count ← field_read words 8 bits
   if nat_lt 32 count.0 then Err (Area count.0) else fault_as Bits (string_bytes_at words count.0 count.1)
 
--- a snapshot behind its operation
+-- a snapshot after its operation
 unfoldable pub section_at : Profile → Context → ℕ → List Bool → Result (Told × List Bool) Illegible
 section_at profile context number bits = do
   time ← field_read profile.code 32 bits
@@ -102,13 +102,13 @@ section_at profile context number bits = do
   against_base profile context distance.0 (number_of_base number distance.0) (held_base context (number_of_base number distance.0))
       (record { number = number; time = time.0; flags = flags.0; area = record { items = area.0 }; player = zero_player }) area.1
 
--- a message with its section, and what is behind its end
+-- a message with its section, and what follows its end
 unfoldable pub ended_at : List (List Bool) → Message → Told × List Bool → Result (Message × List Bool) Illegible
 ended_at words message section = do
   ending ← fault_as operation_error (ending_at words 8 (length section.1) section.1)
   Ok (record message { section = section.0 }, ending.1)
 
--- a message behind its commands, by the operation behind them: the end, a gamestate, or a snapshot
+-- a message after its commands, by the operation that follows them: the end, a gamestate, or a snapshot
 unfoldable pub rest_at : Profile → Context → ℕ → ℕ → Message → List Bool → Result (Message × List Bool) Illegible
 rest_at profile context number operation message bits =
     if operation == 8 then Ok (message, bits) else
@@ -120,13 +120,13 @@ rest_at profile context number operation message bits =
       ended_at profile.code message section)
     else Err (BadOp operation)
 
--- behind the leading long: nops and commands, and the end of the message or its section
+-- after the leading long: nops and commands, and the end of the message or its section
 unfoldable pub operations_at : Profile → Context → ℕ → Message → List Bool → Result (Message × List Bool) Illegible
 operations_at profile context number message bits = do
   row ← fault_as operation_error (row_at profile.code 5 (length bits) message.commands bits)
   rest_at profile context number row.0.operation (record message { commands = row.0.commands }) row.1
 
--- a server's message under a number: its value, and what is behind its end
+-- a server's message under a number: its value, and what follows its end
 unfoldable pub server_message_at : Profile → Context → ℕ → List Bool → Result (Message × List Bool) Illegible
 server_message_at profile context number bits = do
   ack ← field_read profile.code 32 bits

@@ -8,7 +8,7 @@ use Rattle.q3_entity.specs.declared.error.EntityError.TheVariants as entities
 use Rattle.q3_svmsg.specs.declared.error.Illegible.{Illegible}
 use Rattle.q3_svmsg.specs.declared.error.Illegible.TheVariants as causes
 
--- why a message isn't legible: a word, and for some causes a number behind it
+-- why a message isn't legible: a word, and for some causes a number after it
 abbrev pub player_word : DeltaError → List ℕ
 player_word (deltas.Bits e) = bits_word e
 player_word (deltas.Count count) = codes "count"

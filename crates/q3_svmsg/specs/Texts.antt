@@ -31,7 +31,7 @@ section_bits profile baselines against (Game game) = gamestate_bits profile game
 section_bits profile baselines against (Snap base head entities) = snapshot_bits profile baselines against base head entities
 section_bits profile baselines against other = []
 
--- a message: the last client command executed, the commands, each behind its operation 5, the section, and the end
+-- a message: the last client command executed, the commands, each after its operation 5, the section, and the end
 unfoldable pub server_message_bits : Profile → Baselines → Option Base → Message → List Bool
 server_message_bits profile baselines against message =
     row_bits profile.code ((message.ack, 32) ∷ [])

@@ -11,7 +11,7 @@ use q3_player::SnapHead;
 use q3_text::{CommandRun, Commands};
 use std::alloc::Global;
 
-/// What a message carries behind its commands.
+/// What a message carries after its commands.
 #[derive(Clone, Copy, Debug, PartialEq, Eq)]
 pub enum Section {
     Nothing,

@@ -127,7 +127,7 @@ fn read_against<B: Bases>(
     read_snapshot(r, profile, bases.baselines(), base, against, head, entities)
 }
 
-/// Reads a snapshot behind its operation, into places for its head and for its entities.
+/// Reads a snapshot after its operation, into places for its head and for its entities.
 #[tactic(auto, unfolding(crate::specs::Reading::section_at, q3_player::specs::Heads::empty_head))]
 fn read_section<B: Bases>(
     r: &mut Reader,
@@ -152,7 +152,7 @@ fn read_section<B: Bases>(
     read_against(r, profile, distance, base, bases, head, entities)
 }
 
-/// Reads a gamestate behind its operation, into its places.
+/// Reads a gamestate after its operation, into its places.
 #[tactic(auto, unfolding(crate::specs::Reading::game_at))]
 fn read_game(r: &mut Reader, profile: &Profile, into: &mut ServerMessage) -> Result<(), Illegible>
     ensures reads { Reads r.old r.new (game_at (record profile.now { code = r.old.words }) r.old.left) (holding (Game (game_of into.new)) result) }
@@ -172,8 +172,8 @@ fn read_game(r: &mut Reader, profile: &Profile, into: &mut ServerMessage) -> Res
     Ok(())
 }
 
-/// Reads what is behind the commands, by the operation that stands there: the end of the message, or its section and the
-/// end behind it.
+/// Reads what follows the commands, by the operation that stands there: the end of the message, or its section and the
+/// end after it.
 #[tactic(auto, unfolding(crate::specs::Reading::rest_at, crate::specs::Reading::ended_at))]
 fn read_rest<B: Bases>(
     r: &mut Reader,
@@ -214,7 +214,7 @@ fn read_rest<B: Bases>(
     Ok(())
 }
 
-/// Reads what is behind the leading long: nops and commands, and the end of the message or its section.
+/// Reads what follows the leading long: nops and commands, and the end of the message or its section.
 #[tactic(auto, unfolding(crate::specs::Reading::operations_at))]
 fn read_operations<B: Bases>(
     r: &mut Reader,
@@ -240,11 +240,11 @@ fn read_operations<B: Bases>(
 ///
 /// `Err` is the first fault in reading order: `Bits` where the bits don't read; `BadOp` for an operation that may not
 /// stand there: before the section others than nop, command, gamestate, snapshot and the end, inside a gamestate others
-/// than config string, baseline and the end, and behind the section others than nop and the end; `Commands` for a 65th
-/// command; `TextLong` where the byte behind 1,023 of a string, or behind 8,191 of a config string, isn't 0; `Area` for
+/// than config string, baseline and the end, and after the section others than nop and the end; `Commands` for a 65th
+/// command; `TextLong` where the byte after 1,023 of a string, or after 8,191 of a config string, isn't 0; `Area` for
 /// more than 32 area bytes; `Player` and `Entity` where these don't read, and of a baseline also `Order` for the end mark,
 /// before its state is read, and `Removes`; `Config` of a gamestate, with `Index`, before the string is read, or with
-/// `Full`, behind it; `NoServerId` where the gamestate's strings give none, before its slot is read.
+/// `Full`, after it; `NoServerId` where the gamestate's strings give none, before its slot is read.
 #[tactic(auto, unfolding(crate::specs::Reading::server_message_at))]
 pub fn read_server_message<B: Bases>(
     profile: &Profile,

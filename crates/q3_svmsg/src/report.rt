@@ -1,4 +1,4 @@
-//! Why a message isn't legible, as reports print it: a word, and for some causes a number behind it.
+//! Why a message isn't legible, as reports print it: a word, and for some causes a number after it.
 
 ghost use Rattle.std.specs.Prelude.{◌≡◌};
 ghost use Rattle.q3_svmsg.specs.Report.{player_word, entity_word, cause_word, cause_number};
@@ -47,7 +47,7 @@ pub fn cause_word(cause: Illegible) -> &'static [u8]
     }
 }
 
-/// The number that is printed behind the word of a cause.
+/// The number that is printed after the word of a cause.
 pub fn cause_number(cause: Illegible) -> Option<u32>
     ensures { result ≡ cause_number cause }
 {

@@ -24,7 +24,7 @@ use q3_strings::{write_bytes, write_commands};
 use q3_text::{Command, CommandRun};
 
 /// Writes a message with a snapshot to the front of a buffer of 1 to 16,384 bytes, and answers how many bytes it has;
-/// those behind it stay. The message's section names its base exactly where one is given, at most 255 below the head's
+/// those after it stay. The message's section names its base exactly where one is given, at most 255 below the head's
 /// number. `Overflow` comes exactly where the message is longer than the buffer.
 pub fn write_snap(
     profile: &Profile,
@@ -51,7 +51,7 @@ pub fn write_snap(
 
 /// Writes a message with a snapshot whose parts are lent, as `write_snap` writes one: to the front of a buffer of 1 to
 /// 16,384 bytes, against its base, which is given exactly where the parts name one, at most 255 below the head's number.
-/// It answers how many bytes the message has; those behind it stay. `Overflow` comes exactly where the message is longer
+/// It answers how many bytes the message has; those after it stay. `Overflow` comes exactly where the message is longer
 /// than the buffer.
 pub fn write_parts(
     profile: &Profile,
@@ -73,7 +73,7 @@ pub fn write_parts(
 }
 
 /// Writes a message with a gamestate to the front of a buffer of 1 to 16,384 bytes, and answers how many bytes it has;
-/// those behind it stay. `Overflow` comes exactly where the message is longer than the buffer.
+/// those after it stay. `Overflow` comes exactly where the message is longer than the buffer.
 pub fn write_game(
     profile: &Profile,
     message: &ServerMessage,

@@ -54,7 +54,7 @@ after_send wire to bytes =
 abbrev pub after_receive : WireState → WireState
 after_receive wire = if goes wire then record wire { traffic = received wire.traffic; calls = after_call wire.calls } else after_fault wire
 
--- one further `receive` will find this, behind those that are told already, exactly where there is room for it
+-- one further `receive` will find this, after those that are told already, exactly where there is room for it
 abbrev pub can_tell : WireState → List ℕ → Bool
 can_tell wire bytes = nat_lt 0 wire.arrivals && nat_le (length bytes) wire.room
 

@@ -1,4 +1,4 @@
--- Texts that lie one behind the other in memory.
+-- Texts that lie one after the other in memory.
 use Rattle.std.specs.Prelude.{◌≡◌, ◌≤◌, ℕ, ◌+◌, List, [], ◌∷◌, ◌++◌, length, map, take, drop, slice_index, slice_index_or, slice_set}
 use Rattle.std.specs.List.{concat}
 
@@ -23,7 +23,7 @@ pub record AreCutFrom (texts : List (List ℕ)) (lengths bytes : List ℕ) : Typ
   pub lie : LieBehind lengths bytes
   pub same : texts_of lengths bytes ≡ texts
 
--- the text at a place starts here, and what stands when it is taken away or bytes are put behind it
+-- the text at a place starts here, and what stands when it is taken away or bytes are put after it
 pub record StartsAt (lengths bytes : List ℕ) (place start : ℕ) : Type 0 where
   pub within : start + slice_index lengths place ≤ length bytes
   pub count : length (slice_index_or (texts_of lengths bytes) place []) ≡ slice_index lengths place

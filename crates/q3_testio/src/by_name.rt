@@ -49,7 +49,7 @@ impl Store {
         }
     }
 
-    /// Puts bytes behind those of the file of this name, where there is one and they fit.
+    /// Puts bytes after those of the file of this name, where there is one and they fit.
     pub fn append(&mut self, name: &[u8], bytes: &[u8]) -> bool
         ensures fits { result ≡ can_add self.old name.now bytes.now }
         ensures whole { self.new ≡ (if can_add self.old name.now bytes.now then after_add self.old name.now bytes.now else self.old) }

@@ -70,7 +70,7 @@ impl Parcels {
         self.texts.get(place)
     }
 
-    /// Puts a datagram behind the others.
+    /// Puts a datagram after the others.
     #[tactic(auto, using(crate::proofs::ParcelPlaces::parcels_more))]
     pub fn push(&mut self, address: Address, bytes: &[u8])
         requires spare { 0 < self.old.spare }

@@ -94,7 +94,7 @@ impl Store {
         self.room -= count;
     }
 
-    /// Puts bytes behind those of the file at a place.
+    /// Puts bytes after those of the file at a place.
     pub fn add_at(&mut self, place: usize, bytes: &[u8])
         requires within { place < length self.old.files }
         requires room { length bytes.now ≤ self.old.room }
@@ -106,7 +106,7 @@ impl Store {
         self.room -= bytes.len();
     }
 
-    /// Puts a file behind the others, and takes so much room beside its name's.
+    /// Puts a file after the others, and takes so much room beside its name's.
     #[tactic(auto, using(crate::proofs::ToldPlaces::push_files_of))]
     pub fn put_new(&mut self, name: &[u8], bytes: &[u8], count: usize)
         requires spare { 0 < self.old.spare }

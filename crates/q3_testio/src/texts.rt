@@ -7,7 +7,7 @@ use q3_io::NoMemory;
 use std::alloc::Global;
 use std::marker::Model;
 
-/// Texts, which lie one behind the other, with room for so many and for so many bytes.
+/// Texts, which lie one after the other, with room for so many and for so many bytes.
 #[derive(Drop)]
 pub struct Texts {
     bytes: Vec<u8>,
@@ -70,7 +70,7 @@ impl Texts {
         &self.bytes[start..start + self.lengths[place]]
     }
 
-    /// Puts a text behind the others.
+    /// Puts a text after the others.
     pub fn push(&mut self, text: &[u8])
         requires spare { 0 < self.old.spare }
         requires room { length text.now ≤ self.old.room }
@@ -82,7 +82,7 @@ impl Texts {
         extend(&mut self.bytes, text);
     }
 
-    /// Puts bytes behind those of the text at a place.
+    /// Puts bytes after those of the text at a place.
     pub fn add(&mut self, place: usize, bytes: &[u8])
         requires within { place < length self.old.texts }
         requires room { length bytes.now ≤ self.old.room }
@@ -134,7 +134,7 @@ fn start_of(lengths: &[usize], bytes: &[u8], place: usize) -> usize
     start
 }
 
-/// Puts bytes behind others, for which there is room.
+/// Puts bytes after others, for which there is room.
 fn extend(bytes: &mut Vec<u8>, more: &[u8])
     requires { length bytes.old.items + length more.now ≤ vec_capacity bytes.old }
     ensures items { bytes.new.items ≡ bytes.old.items ++ more.now }

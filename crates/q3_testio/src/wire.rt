@@ -74,7 +74,7 @@ impl MemWire {
         })
     }
 
-    /// One further `receive` finds this datagram, behind all that was told before. False exactly where the room is spent.
+    /// One further `receive` finds this datagram, after all that was told before. False exactly where the room is spent.
     pub fn ready(&mut self, from: Address, bytes: &[u8]) -> bool
         ensures told { result ≡ can_tell self.old bytes.now }
         ensures whole { self.new ≡ after_telling self.old (Some (record { address = from; bytes = bytes.now })) bytes.now }
@@ -108,7 +108,7 @@ impl MemWire {
         Some((self.sent.address(k), self.sent.bytes(k)))
     }
 
-    /// Puts what one further `receive` finds behind the others.
+    /// Puts what one further `receive` finds after the others.
     #[tactic(auto, using(crate::proofs::ParcelPlaces::told_more))]
     fn tell(&mut self, ready: bool, from: Address, bytes: &[u8])
         requires spare { 0 < self.old.arrivals }

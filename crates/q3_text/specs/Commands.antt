@@ -3,7 +3,7 @@ use Rattle.std.specs.Prelude.{ℕ, ◌+◌, List, [], ◌∷◌, ◌++◌}
 use Rattle.q3_text.specs.declared.text.Command.{Command}
 use Rattle.q3_text.specs.declared.text.CommandRun.{CommandRun}
 
--- the commands of a run: two pieces, one behind the other
+-- the commands of a run: two pieces, one after the other
 abbrev pub commands_of : CommandRun → List Command
 commands_of run = run.head.now ++ run.tail.now
 

@@ -12,12 +12,12 @@ behind_backslash (byte ∷ text) = if byte == 92 then text else byte ∷ text
 abbrev pub parts_of : List ℕ → List (List ℕ)
 parts_of text = slice_split (λ byte. byte == 92) text
 
--- the parts behind a backslash, or none where a part is the last
+-- the parts after a backslash, or none where a part is the last
 abbrev pub parts_behind : Option (List ℕ) → List (List ℕ)
 parts_behind None = []
 parts_behind (Some text) = parts_of text
 
--- each key with the value behind it; a last key with no backslash behind it has none
+-- each key with the value after it; a last key with no backslash after it has none
 unfoldable pub paired : List (List ℕ) → List (List ℕ × List ℕ)
 paired (key ∷ value ∷ others) = (key, value) ∷ paired others
 paired others = []

@@ -5,6 +5,6 @@ use Rattle.q3_text.specs.declared.text.Command.{Command}
 use Rattle.q3_text.specs.contracts.text.Command as command
 use Rattle.q3_text.specs.contracts.commands.Commands as commands
 
--- what is last written through r stands behind all others
+-- what is last written through r stands after all others
 abbrev pub LendsNext : MutBor (List Command) → MutBor Command → Fml
 LendsNext all r = Lends commands.the_row command.the_row all r (λ one. all.now ++ one ∷ [])

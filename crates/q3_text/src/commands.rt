@@ -89,7 +89,7 @@ impl Commands {
         &mut self.places[place]
     }
 
-    /// Puts a command behind all others. As many bytes are copied as its text has.
+    /// Puts a command after all others. As many bytes are copied as its text has.
     pub fn push_copy(&mut self, command: &Command)
         requires room { length self.old < most_commands }
         ensures { self.new ≡ self.old ++ command.now ∷ [] }

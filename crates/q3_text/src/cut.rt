@@ -3,7 +3,7 @@
 ghost use Rattle.std.specs.Prelude.{◌≡◌, ◌==◌, ◌≤◌, length, position, option_map, IfSome};
 ghost use Rattle.q3_text.specs.Cuts.{cut_at};
 
-/// What stands before and behind the first such byte. `None` where there is none.
+/// What stands before and after the first such byte. `None` where there is none.
 #[tactic(auto, unfolding(crate::specs::Cuts::cut_at))]
 pub fn cut_at(text: &[u8], byte: u8) -> Option<(&[u8], &[u8])>
     ensures cut { option_map (λ parts. (parts.0.now, parts.1.now)) result ≡ cut_at byte text.now }

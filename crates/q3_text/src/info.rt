@@ -6,7 +6,7 @@ ghost use Rattle.q3_text.specs.Info.{behind_backslash, parts_of, parts_behind, i
 
 use crate::cut::place_of;
 
-/// The value of the first pair with this key. The text may begin with a backslash; a last key with no backslash behind
+/// The value of the first pair with this key. The text may begin with a backslash; a last key with no backslash after
 /// it has no value. Keys are compared byte by byte.
 pub fn info_value<'a>(text: &'a [u8], key: &[u8]) -> Option<&'a [u8]>
     ensures { option_map (λ value. value.now) result ≡ info_of text.now key.now }
@@ -33,7 +33,7 @@ fn after_backslash(text: &[u8]) -> &[u8]
     }
 }
 
-/// What stands before the first backslash, or the whole text, and what stands behind it.
+/// What stands before the first backslash, or the whole text, and what follows it.
 fn first_part(text: &[u8]) -> (&[u8], Option<&[u8]>)
     ensures parts { parts_of text.now ≡ result.0.now ∷ parts_behind (option_map (λ rest. rest.now) result.1) }
     ensures shorter { IfSome result.1 (λ rest. length rest.now < length text.now) }

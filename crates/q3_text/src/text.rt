@@ -46,7 +46,7 @@ pub struct Command {
     pub text: Text,
 }
 
-/// Commands in two pieces, as a window lends them: `head`, and behind it `tail`.
+/// Commands in two pieces, as a window lends them: `head`, followed by `tail`.
 #[derive(Clone, Copy)]
 pub struct CommandRun<'a> {
     pub head: &'a [Command],
@@ -121,7 +121,7 @@ impl Text {
         self.bytes.clear();
     }
 
-    /// Puts one more byte behind the others, translated.
+    /// Puts one more byte after the others, translated.
     pub fn push(&mut self, byte: u8)
         requires room { length self.old < most_bytes }
         requires some { 0 < byte }
@@ -134,7 +134,7 @@ impl Text {
         self.bytes.push(byte);
     }
 
-    /// Puts a `.` behind the others, as seldom as it is.
+    /// Puts a `.` after the others, as seldom as it is.
     #[cold]
     #[inline(never)]
     fn push_dot(&mut self)

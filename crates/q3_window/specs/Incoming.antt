@@ -13,7 +13,7 @@ pub record IncomingState : Type 0 where
 abbrev pub new_incoming : IncomingState
 new_incoming = record { executed = 0; last = [] }
 
--- the window behind a command that was executed
+-- the window after a command that was executed
 abbrev pub executing : Command → IncomingState
 executing command = record { executed = command.number; last = command.text }
 
@@ -53,7 +53,7 @@ gap_in executed (command ∷ commands) =
     else if command.number == executed + 1 then gap_in command.number commands
     else Some command.number
 
--- the window behind commands that were executed
+-- the window after commands that were executed
 unfoldable pub behind : IncomingState → List Command → IncomingState
 behind window [] = window
 behind window (command ∷ commands) = behind (executing command) commands

@@ -54,7 +54,7 @@ issue_at window text =
     then record { window = record window { waiting = window.waiting ++ text ∷ [] }; answer = Ok (issued_of window + 1) }
     else record { window = window; answer = Err (record {}) }
 
--- the window behind texts that are issued one after the other, all of which fit
+-- the window after texts that are issued one by one, all of which fit
 abbrev pub with_texts : OutgoingState → List (List ℕ) → OutgoingState
 with_texts window texts = record window { waiting = window.waiting ++ texts }
 

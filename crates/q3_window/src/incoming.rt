@@ -54,7 +54,7 @@ impl Incoming {
         }
     }
 
-    /// Takes a command as a server does, which executes none behind a gap.
+    /// Takes a command as a server does, which executes none after a gap.
     pub fn take(&mut self, command: &Command) -> Taken
         ensures { take_at self.old command.now ≡ record { window = self.new; answer = result } }
     {
@@ -96,7 +96,7 @@ impl Incoming {
         self.executed
     }
 
-    /// The text of the last command that was executed. It is empty for none, and behind a jump to another number.
+    /// The text of the last command that was executed. It is empty for none, and after a jump to another number.
     pub fn last(&self) -> &Text
         ensures { result.now ≡ self.now.last }
     {
@@ -147,7 +147,7 @@ fn first_gap(executed: u32, commands: &[Command]) -> Option<u32>
     None
 }
 
-/// Puts those of commands that are to be executed behind a number.
+/// Puts those of commands that are to be executed after a number.
 #[inline(never)]
 fn put_fresh(executed: u32, commands: &[Command], ran: &mut Commands)
     requires empty { ran.old ≡ [] }

@@ -59,7 +59,7 @@ pub fn stays_outgoing()
 {}
 
 /// Of the commands of one end on their way to the other: what holds of both windows, of what was issued and executed, and of what
-/// the messages of both ends say stays so, whatever is issued and whatever message is begun or taken. Behind a newer message
+/// the messages of both ends say stays so, whatever is issued and whatever message is begun or taken. After a newer message
 /// whose commands are executed, exactly those are executed that were issued when it was begun.
 #[tactic(auto, using(crate::proofs::Flowing::commands_flow))]
 pub fn commands_flow()

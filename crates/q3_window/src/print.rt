@@ -7,7 +7,7 @@ ghost use Rattle.q3_window.specs.Report.{command_text, commands_text};
 use q3_io::{Failed, Piece, Sink, laws, print_all};
 use q3_text::Command;
 
-/// Prints a line for each command, under the line of what carried them. `Failed` comes where the sink failed, behind a front of
+/// Prints a line for each command, under the line of what carried them. `Failed` comes where the sink failed, after a front of
 /// the lines.
 pub fn print_commands<O: Sink>(commands: &[Command], out: &mut O) -> Result<(), Failed>
     ensures adds { Adds (O.written out.old) (O.written out.new) (commands_text commands.now) result }
@@ -20,7 +20,7 @@ pub fn print_commands<O: Sink>(commands: &[Command], out: &mut O) -> Result<(), 
     Ok(())
 }
 
-/// Prints the line of a command. `Failed` comes where the sink failed, behind a front of it.
+/// Prints the line of a command. `Failed` comes where the sink failed, after a front of it.
 pub fn print_command<O: Sink>(command: &Command, out: &mut O) -> Result<(), Failed>
     ensures adds { Adds (O.written out.old) (O.written out.new) (command_text command.now) result }
     ensures cause { HasCause (O.faults out.old) (O.faults out.new) result }

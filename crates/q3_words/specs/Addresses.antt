@@ -9,7 +9,7 @@ use Rattle.q3_bits.specs.OptionBind.{◌>>=◌}
 abbrev pub host_of : ℕ → ℕ → ℕ → ℕ → ℕ
 host_of a b c d = 16777216 * a + 65536 * b + 256 * c + d
 
--- four numbers with dots between them, and behind a colon the port
+-- four numbers with dots between them, and after a colon the port
 unfoldable pub address_at : List ℕ → Option Address
 address_at word = do
   ends ← cut_at 58 word

@@ -1,4 +1,4 @@
--- Fields in a line: words of an index and a value behind the letter of their array, and the entity or the player that they make.
+-- Fields in a line: words of an index and a value after the letter of their array, and the entity or the player that they make.
 use Rattle.std.specs.Prelude.{◌≡◌, ℕ, ◌<◌, ◌^◌, ◌+◌, ◌-◌, ◌==◌, if◌then◌else◌, List, [], ◌∷◌, ◌++◌, length, map, replicate, codes, All, Option, Some, Result, Ok, Err}
 use Rattle.std.specs.Option.{option_map_or}
 use Rattle.q3_fields.specs.Places.{Change, AreRising, with_changes}
@@ -22,7 +22,7 @@ field_at letter limit least word = do
   value ← number_at 0 4294967295 parts.1
   Some (index, value)
 
--- fields, and the words behind them
+-- fields, and the words after them
 pub record Fields : Type 0 where
   pub fields : List Change
   pub left : List (List ℕ)
@@ -70,7 +70,7 @@ player_at words =
     then Ok (player_of fields.fields stats.fields persistant.fields ammo.fields powerups.fields)
     else Err causes.Fields
 
--- a word for each field: its index and its value, behind the letter of its array
+-- a word for each field: its index and its value, after the letter of its array
 abbrev pub field_words : List ℕ → List Change → List (List ℕ)
 field_words letter fields = map (λ field. indexed_text letter field.0 field.1) fields
 
@@ -85,7 +85,7 @@ pub record SpellsEntity (words : List (List ℕ)) (entity : EntityState) : Type 
   pub whole : words ≡ field_words [] fields
   pub state : entity.words ≡ values_of 64 fields
 
--- a player: fields, and behind them those of each array
+-- a player: fields, and after them those of each array
 pub record SpellsPlayer (words : List (List ℕ)) (player : PlayerState) : Type 0 where
   pub fields : List Change
   pub stats : List Change

@@ -31,12 +31,12 @@ coded_byte high low = do
   byte ← hex_byte high low
   if is_coded byte then Some byte else None
 
--- the byte of two digits behind `\x`, and the text behind them
+-- the byte of two digits after `\x`, and the text after them
 abbrev pub coded_at : List ℕ → Option (ℕ × List ℕ)
 coded_at (high ∷ low ∷ text) = option_map (λ byte. (byte, text)) (coded_byte high low)
 coded_at text = None
 
--- the byte that is spelled by what stands behind a backslash, and the text behind it
+-- the byte that is spelled by what follows a backslash, and the text after it
 abbrev pub escaped_at : List ℕ → Option (ℕ × List ℕ)
 escaped_at [] = None
 escaped_at (letter ∷ text) =
@@ -46,7 +46,7 @@ escaped_at (letter ∷ text) =
     else if letter == 120 then coded_at text
     else None
 
--- the byte whose spelling a text begins with, and the text behind it
+-- the byte whose spelling a text begins with, and the text after it
 unfoldable pub front_at : List ℕ → Option (ℕ × List ℕ)
 front_at [] = None
 front_at (byte ∷ text) =

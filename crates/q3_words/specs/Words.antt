@@ -1,4 +1,4 @@
--- The words of a line, and what stands behind a prefix.
+-- The words of a line, and what follows a prefix.
 use Rattle.std.specs.Prelude.{ℕ, ◌==◌, List, [], ◌∷◌, take, drop, length, Option, Some, None}
 use Rattle.std.specs.List.{slice_split, join_with_byte}
 use Rattle.std.specs.Bool.{then_some}
@@ -8,17 +8,17 @@ use Rattle.std.specs.Str.{bytes_eq}
 abbrev pub words_of : List ℕ → List (List ℕ)
 words_of line = slice_split (λ byte. byte == 32) line
 
--- the words in what is left of a line: none, or those behind a space
+-- the words in what is left of a line: none, or those after a space
 abbrev pub words_left : List ℕ → List (List ℕ)
 words_left [] = []
 words_left (space ∷ text) = words_of text
 
--- the next word and those behind it
+-- the next word and those after it
 abbrev pub next_of : List (List ℕ) → Option (List ℕ × List (List ℕ))
 next_of [] = None
 next_of (word ∷ words) = Some (word, words)
 
--- the next three words and those behind them
+-- the next three words and those after them
 abbrev pub three_of : List (List ℕ) → Option (List ℕ × List ℕ × List ℕ × List (List ℕ))
 three_of (first ∷ second ∷ third ∷ words) = Some (first, second, third, words)
 three_of words = None
@@ -34,6 +34,6 @@ abbrev pub text_from : List (List ℕ) → Option (List ℕ)
 text_from [] = None
 text_from (word ∷ words) = Some (join_with_byte 32 (word ∷ words))
 
--- what stands behind a prefix
+-- what follows a prefix
 unfoldable pub behind : List ℕ → List ℕ → Option (List ℕ)
 behind prefix text = then_some (bytes_eq (take (length prefix) text) prefix) (drop (length prefix) text)

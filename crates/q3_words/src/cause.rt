@@ -22,8 +22,8 @@ pub enum LineCause {
     Name,
     /// The word isn't an address.
     Address,
-    /// The line can't stand here: a time that is less than the one before it, a line behind `end`, or, in a client's script, a first
+    /// The line can't stand here: a time that is less than the one before it, a line after `end`, or, in a client's script, a first
     /// line that isn't `client`, another `client`, or a line of another client. Of a script of a node that has no `end` it is the line
-    /// behind the last.
+    /// after the last.
     Order,
 }

@@ -40,7 +40,7 @@ fn coded_byte(high: u8, low: u8) -> Option<u8>
     }
 }
 
-/// The byte of two digits behind `\x`, and the text behind them.
+/// The byte of two digits after `\x`, and the text after them.
 fn coded(text: &[u8]) -> Option<(u8, &[u8])>
     ensures value { option_map (λ front. (front.0, front.1.now)) result ≡ coded_at text.now }
     ensures shorter { IfSome result (λ front. length front.1.now < length text.now) }
@@ -51,7 +51,7 @@ fn coded(text: &[u8]) -> Option<(u8, &[u8])>
     }
 }
 
-/// The byte that is spelled by what stands behind a backslash, and the text behind it.
+/// The byte that is spelled by what follows a backslash, and the text after it.
 fn escaped(text: &[u8]) -> Option<(u8, &[u8])>
     ensures value { option_map (λ front. (front.0, front.1.now)) result ≡ escaped_at text.now }
     ensures shorter { IfSome result (λ front. length front.1.now < length text.now) }
@@ -66,7 +66,7 @@ fn escaped(text: &[u8]) -> Option<(u8, &[u8])>
     }
 }
 
-/// The byte whose spelling a text begins with, and the text behind it.
+/// The byte whose spelling a text begins with, and the text after it.
 #[tactic(auto, unfolding(crate::specs::Quotes::front_at))]
 fn front(text: &[u8]) -> Option<(u8, &[u8])>
     ensures value { option_map (λ front. (front.0, front.1.now)) result ≡ front_at text.now }

@@ -1,4 +1,4 @@
-//! The words of a line, one after the other, and what stands behind a prefix.
+//! The words of a line, one after the other, and what follows a prefix.
 
 ghost use Rattle.std.specs.Prelude.{◌≡◌, ◌∷◌, option_map};
 ghost use Rattle.std.specs.Str.{bytes_eq};
@@ -6,7 +6,7 @@ ghost use Rattle.q3_words.specs.Words.{words_of, words_left, next_of, three_of, 
 
 use q3_text::place_of;
 
-/// The first word of a text, and what is left behind it: nothing, or a space and the next words.
+/// The first word of a text, and what is left after it: nothing, or a space and the next words.
 pub fn first_word(text: &[u8]) -> (&[u8], &[u8])
     ensures { words_of text.now ≡ result.0.now ∷ words_left result.1.now }
 {
@@ -16,7 +16,7 @@ pub fn first_word(text: &[u8]) -> (&[u8], &[u8])
     }
 }
 
-/// The next word in what is left of a line, and what is left behind it.
+/// The next word in what is left of a line, and what is left after it.
 pub fn next_word(left: &[u8]) -> Option<(&[u8], &[u8])>
     ensures { option_map (λ next. (next.0.now, words_left next.1.now)) result ≡ next_of (words_left left.now) }
 {
@@ -26,7 +26,7 @@ pub fn next_word(left: &[u8]) -> Option<(&[u8], &[u8])>
     }
 }
 
-/// The next three words in what is left of a line, and what is left behind them.
+/// The next three words in what is left of a line, and what is left after them.
 pub fn next_three(left: &[u8]) -> Option<(&[u8], &[u8], &[u8], &[u8])>
     ensures { option_map (λ next. (next.0.now, next.1.now, next.2.now, words_left next.3.now)) result ≡ three_of (words_left left.now) }
 {
@@ -44,7 +44,7 @@ pub fn only_word(left: &[u8]) -> Option<&[u8]>
     if behind.is_empty() { Some(word) } else { None }
 }
 
-/// All that is left of a line behind a space, as one text. `None` where nothing is left.
+/// All that is left of a line after a space, as one text. `None` where nothing is left.
 pub fn text_left(left: &[u8]) -> Option<&[u8]>
     ensures { option_map (λ text. text.now) result ≡ text_from (words_left left.now) }
 {
@@ -61,7 +61,7 @@ pub fn is(word: &[u8], text: &[u8]) -> bool
     text == word
 }
 
-/// What stands behind a prefix.
+/// What follows a prefix.
 #[tactic(auto, unfolding(crate::specs::Words::behind))]
 pub fn behind<'a>(prefix: &[u8], text: &'a [u8]) -> Option<&'a [u8]>
     ensures { option_map (λ rest. rest.now) result ≡ behind prefix.now text.now }

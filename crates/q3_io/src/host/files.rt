@@ -25,7 +25,7 @@ enum Purpose {
     Writing,
 }
 
-/// An open file. One for writing stands behind what was written to it and isn't read; of one for reading it is kept
+/// An open file. One for writing stands after what was written to it and isn't read; of one for reading it is kept
 /// where it stands, as far as that is known.
 #[derive(Drop)]
 struct OpenedFile<F> {
