@@ -66,14 +66,18 @@ made strings index text kept is within fit =
 
 -- ---- a piece at the client
 
+-- a piece of a text that may be carried is a change that a command spells
+pub piece_is_change : (index : ℕ) (text : List ℕ) (k : ℕ) → index < places → All (λ byte. IsTrue (is_config_byte byte)) text → IsChange (config_piece index text k)
+unfolding config_piece
+piece_is_change index text k within carried = record { index = within; no_quote = no_quotes (part text k) (carried-part text k carried) }
+
 -- what a piece does, as it is read
 step : (strings : Strings) (index : ℕ) (text : List ℕ) (k : ℕ) → index < places → All (λ byte. IsTrue (is_config_byte byte)) text
     → after_command strings (change_text (config_piece index text k)) ≡ after_change strings (word_of (piece_count (length text)) k) index (map translated (part text k))
 unfolding after_command config_piece
 step strings index text k within carried =
     let piece = config_piece index text k in
-    let fine : IsChange piece = record { index = within; no_quote = no_quotes (part text k) (carried-part text k carried) } in
-    ap (λ (change : Option Change). after_shape strings change) (spelled-is-read piece (change_text piece) fine (inl refl))
+    ap (λ (change : Option Change). after_shape strings change) (spelled-is-read piece (change_text piece) (piece_is_change index text k within carried) (inl refl))
 
 -- the words of pieces, where there is more than one
 word-first : (count : ℕ) → 1 < count → word_of count 0 ≡ First

@@ -1,17 +1,17 @@
 -- Behind all pieces of a config change no long string is pending. So none is behind the commands up to where a message was begun.
-use Rattle.std.proofs.Common.{List, None, Option, Some, [], ap, arith, drop, inl, inr, length, map, refl, subst, suc, sym, take, true, zero, ℕ, ◌*◌, ◌++◌, ◌+◌, ◌<◌, ◌∙◌, ◌∷◌, ◌≡◌, ◌≤◌}
-use Rattle.std.specs.Prelude.{All, IfSome, nat_le, nat_lt, not, ◌&&◌, ◌==◌, ◌||◌}
+use Rattle.std.proofs.Common.{List, None, Option, Some, [], ap, arith, drop, inl, inr, length, map, refl, subst, suc, sym, take, true, zero, ℕ, ◌++◌, ◌+◌, ◌<◌, ◌∙◌, ◌∷◌, ◌≡◌, ◌≤◌}
+use Rattle.std.specs.Prelude.{All, IfSome, nat_lt, ◌==◌}
 use Rattle.std.specs.Str.{bytes_eq}
 use Rattle.std.specs.List.{range_with_len}
 use Rattle.std.proofs.Math.Seq.{drop-length}
-use Rattle.std.proofs.lemmas.Bool.{and_parts, cases_Bool, cases_lt, cond_both, eq-eqb, eqb-false, ne_eqb, not-true}
+use Rattle.std.proofs.lemmas.Bool.{cases_lt, cond_both, eq-eqb, eqb-false, ne_eqb}
 use Rattle.std.proofs.lemmas.List.{drop-append-le, length-append, length_push, take-append-le, take_all}
-use Rattle.std.proofs.lemmas.List.Elements.{All-drop, All-map, All-take, All-weaker}
 use Rattle.q3_built.specs.Built.{Built}
 use Rattle.q3_config.proofs.Faults.{admitted}
 use Rattle.q3_config.specs.Changes.{Applied, after_change, after_command, after_commands, after_shape, change_or, finish, go_on, grow, make_change, unchanged, without_pending}
+use Rattle.q3_config.proofs.Makes.{piece_is_change}
 use Rattle.q3_config.specs.Commands.{Change, First, Last, Middle, Whole, Word, change_text, config_piece, piece_count, word_of}
-use Rattle.q3_config.specs.Laws.{IsChange, SpelledIsRead, piece_texts}
+use Rattle.q3_config.specs.Laws.{SpelledIsRead, piece_texts}
 use Rattle.q3_config.specs.Strings.{Pending, Strings, admit_fault, is_config_byte, longest_string, places, set_fault, string_at}
 use Rattle.q3_config.specs.declared.error.ConfigError.{ConfigError}
 use Rattle.q3_gamestate.specs.Values.{Gamestate}
@@ -71,27 +71,6 @@ middle_keeps strings index text (Some pending) at of =
     (λ e. subst (OfIndex index) (sym at) of)
 
 -- ---- the pieces of a text
-
--- a byte that may be carried isn't kept as a quote
-no_quote : (byte : ℕ) → is_config_byte byte ≡ true → translated byte ≡ 34 → ⊥
-no_quote byte carried =
-    elim (cases_Bool (nat_lt 127 byte || byte == 37)) [
-      | inl other ↦ rw other (λ e. absurd (omega (arith, e)))
-      | inr same ↦ rw same (eqb-false byte 34 (not-true (byte == 34) (and_parts (nat_le 32 byte && nat_le byte 126) (not (byte == 34)) carried).1))
-    ]
-
-no_quotes : (text : List ℕ) → All (λ byte. is_config_byte byte ≡ true) text → All (λ byte. byte ≡ 34 → ⊥) (map translated text)
-no_quotes text carried = All-map (λ byte. byte ≡ 34 → ⊥) translated text (All-weaker (λ byte. is_config_byte byte ≡ true) (λ byte. translated byte ≡ 34 → ⊥) no_quote text carried)
-
-piece_is_change : (index : ℕ) (text : List ℕ) (k : ℕ) → index < places → All (λ byte. is_config_byte byte ≡ true) text → IsChange (config_piece index text k)
-unfolding config_piece
-piece_is_change index text k within carried =
-    record {
-      index = within;
-      no_quote = cond_both (nat_lt (length text) 1000) text (take 999 (drop (999 * k) text)) (λ (part : List ℕ). All (λ byte. byte ≡ 34 → ⊥) (map translated part))
-          (λ e. no_quotes text carried)
-          (λ e. no_quotes (take 999 (drop (999 * k) text)) (All-take (λ byte. is_config_byte byte ≡ true) 999 (drop (999 * k) text) (All-drop (λ byte. is_config_byte byte ≡ true) (999 * k) text carried)));
-    }
 
 -- each is of its index, and has its word
 piece_index : (index : ℕ) (text : List ℕ) (k : ℕ) → (config_piece index text k).index ≡ index

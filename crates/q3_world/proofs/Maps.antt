@@ -1,39 +1,16 @@
 -- Which texts of config strings may go out as commands.
-use Rattle.std.proofs.Common.{◌≡◌, ℕ, ◌*◌, ◌<◌, true, false, List, length, get_or, map, take, drop, Option, Some, refl, sym, ap, ◌∙◌, inl, inr, arith}
-use Rattle.std.specs.Prelude.{◌==◌, ◌&&◌, ◌||◌, not, nat_lt, nat_le, All}
+use Rattle.std.proofs.Common.{◌≡◌, ℕ, ◌<◌, true, false, List, length, get_or, Option, Some, refl, sym, ap, ◌∙◌, inl}
+use Rattle.std.specs.Prelude.{All}
 use Rattle.std.specs.List.{range_with_len}
-use Rattle.std.proofs.lemmas.Bool.{cases_Bool, cond_both, ne_eqb, not-true, and_parts, eqb-false}
-use Rattle.std.proofs.lemmas.List.Elements.{All-weaker, All-map, All-take, All-drop, All-from_get_or}
-use Rattle.q3_text.specs.Texts.{translated}
+use Rattle.std.proofs.lemmas.Bool.{ne_eqb}
+use Rattle.std.proofs.lemmas.List.Elements.{All-map, All-from_get_or}
 use Rattle.q3_config.specs.Strings.{places, is_config_byte}
+use Rattle.q3_config.proofs.Makes.{piece_is_change}
 use Rattle.q3_config.specs.Commands.{Change, piece_count, change_text, change_in, config_piece}
-use Rattle.q3_config.specs.Laws.{IsChange, SpelledIsRead, piece_texts}
+use Rattle.q3_config.specs.Laws.{SpelledIsRead, piece_texts}
 use Rattle.q3_slot.specs.Slots.{is_of_index, changes_own}
 
--- ---- the commands of a change
-
--- a byte that may be carried isn't kept as a quote
-no_quote : (byte : ℕ) → is_config_byte byte ≡ true → translated byte ≡ 34 → ⊥
-no_quote byte carried =
-    elim (cases_Bool (nat_lt 127 byte || byte == 37)) [
-      | inl other ↦ rw other (λ e. absurd (omega (arith, e)))
-      | inr same ↦ rw same (eqb-false byte 34 (not-true (byte == 34) (and_parts (nat_le 32 byte && nat_le byte 126) (not (byte == 34)) carried).1))
-    ]
-
--- a part of such a text has none
-no_quotes : (text : List ℕ) → All (λ byte. is_config_byte byte ≡ true) text → All (λ byte. byte ≡ 34 → ⊥) (map translated text)
-no_quotes text carried = All-map (λ byte. byte ≡ 34 → ⊥) translated text (All-weaker (λ byte. is_config_byte byte ≡ true) (λ byte. translated byte ≡ 34 → ⊥) no_quote text carried)
-
-piece_is_change : (index : ℕ) (text : List ℕ) (k : ℕ) → index < places → All (λ byte. is_config_byte byte ≡ true) text → IsChange (config_piece index text k)
-unfolding config_piece
-piece_is_change index text k within carried =
-    record {
-      index = within;
-      no_quote = cond_both (nat_lt (length text) 1000) text (take 999 (drop (999 * k) text)) (λ (part : List ℕ). All (λ byte. byte ≡ 34 → ⊥) (map translated part))
-          (λ e. no_quotes text carried)
-          (λ e. no_quotes (take 999 (drop (999 * k) text)) (All-take (λ byte. is_config_byte byte ≡ true) 999 (drop (999 * k) text) (All-drop (λ byte. is_config_byte byte ≡ true) (999 * k) text carried)));
-    }
-
+-- the index of a piece
 piece_index : (index : ℕ) (text : List ℕ) (k : ℕ) → (config_piece index text k).index ≡ index
 unfolding config_piece
 piece_index index text k = refl
