@@ -124,7 +124,8 @@ impl<'a> Ahead<'a> {
         requires full { IsFull self }
         requires few { count ≤ 24 }
         ensures gathered { IsTrue result ↔ (count ≤ self.entry.count) }
-        ensures left { (count ≤ self.entry.count → count ≤ length (bits_ahead self.entry)) × (count ≤ length (bits_ahead self.entry) → count ≤ self.entry.count) }
+        ensures left { (count ≤ self.entry.count → count ≤ length (bits_ahead self.entry))
+            × (count ≤ length (bits_ahead self.entry) → count ≤ self.entry.count) }
     {
         count <= self.count
     }
@@ -149,9 +150,11 @@ impl<'a> Ahead<'a> {
 
     /// The run of marks that is next, up to a limit, where its bits were gathered.
     pub(crate) fn run(self, limit: u32) -> Option<Marks>
-        ensures found { IfSome result (λ run. run_at limit (bits_ahead self.entry) ≡ Ok (run.zeros, drop run.length (bits_ahead self.entry))) }
+        ensures found { IfSome result (λ run. run_at limit (bits_ahead self.entry) ≡ Ok
+            (run.zeros, drop run.length (bits_ahead self.entry))) }
         ensures gathered { IfSome result (λ run. (run.zeros ≤ limit) × (run.length ≤ self.entry.count)) }
-        ensures none { IfNone result (limit ≤ 56 → (56 ≤ self.entry.count) ⊎ (length self.entry.rest.now ≡ 0) → run_at limit (bits_ahead self.entry) ≡ Err End) }
+        ensures none { IfNone result (limit ≤ 56 → (56 ≤ self.entry.count) ⊎ (length self.entry.rest.now ≡ 0)
+            → run_at limit (bits_ahead self.entry) ≡ Err End) }
     {
         let zeros = self.bits.trailing_zeros();
         let length = (zeros + 1).min(limit);
@@ -185,7 +188,8 @@ fn behind(bytes: &[u8], count: usize) -> &[u8]
 
 /// The number that the bits of the first eight bytes spell; nothing where there are fewer.
 fn first_eight(bytes: &[u8]) -> Option<u64>
-    ensures { MatchOption result (length bytes.now < 8) (λ word. (8 ≤ length bytes.now) × (word ≡ number_of (take 64 (bits_of bytes.now)))) }
+    ensures { MatchOption result (length bytes.now < 8) (λ word. (8 ≤ length bytes.now)
+        × (word ≡ number_of (take 64 (bits_of bytes.now)))) }
 {
     if let [a, b, c, d, e, f, g, h, ..] = bytes {
         return Some(u64::from_le_bytes([*a, *b, *c, *d, *e, *f, *g, *h]));

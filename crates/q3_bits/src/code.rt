@@ -145,7 +145,8 @@ impl Code {
     /// The byte whose word, of at most 12 bits, begins the bits to be read, and the word's length, by the number that
     /// the next 24 bits spell; 0 where that isn't said.
     pub(crate) fn entry(&self, window: u32) -> Entry
-        ensures found { (left : List Bool) → window ≡ number_of (take 24 left) → 0 < result.length → result.length ≤ length left
+        ensures found { (left : List Bool) → window ≡ number_of (take 24 left) → 0 < result.length
+            → result.length ≤ length left
             → byte_from 0 self.now left ≡ Some (result.byte, drop result.length left) }
         ensures short { result.length ≤ 12 }
     {

@@ -178,7 +178,8 @@ impl<'a> Reader<'a> {
     /// Reads a field of 8 bits whose word was gathered and is short; where it isn't, nothing.
     #[inline]
     fn byte_gathered(&mut self) -> Option<u8>
-        ensures found { MatchOption result (self.new ≡ self.old) (λ byte. Reads self.old self.new (field_at self.old.words 8 self.old.left) (Ok byte)) }
+        ensures found { MatchOption result (self.new ≡ self.old)
+            (λ byte. Reads self.old self.new (field_at self.old.words 8 self.old.left) (Ok byte)) }
     {
         let entry = self.code.entry((self.ahead.bits % (1 << 24)) as u32);
         let length = u32::from(entry.length);
@@ -203,7 +204,8 @@ impl<'a> Reader<'a> {
     fn get_gathered(&mut self, width: u32) -> Option<u32>
         requires some { 1 ≤ width }
         requires most { width ≤ 32 }
-        ensures found { MatchOption result (self.new ≡ self.old) (λ value. Reads self.old self.new (field_at self.old.words width self.old.left) (Ok value)) }
+        ensures found { MatchOption result (self.new ≡ self.old)
+            (λ value. Reads self.old self.new (field_at self.old.words width self.old.left) (Ok value)) }
         ensures fits { IfSome result (λ value. value < 2 ^ width) }
         ensures near { self.new.place ≤ self.old.place + 63 }
     {
@@ -216,7 +218,8 @@ impl<'a> Reader<'a> {
     /// The same of a field that has no words.
     fn raw_gathered(&mut self, width: u32) -> Option<u32>
         requires { width < 8 }
-        ensures found { MatchOption result (self.new ≡ self.old) (λ value. Reads self.old self.new (field_at self.old.words width self.old.left) (Ok value)) }
+        ensures found { MatchOption result (self.new ≡ self.old)
+            (λ value. Reads self.old self.new (field_at self.old.words width self.old.left) (Ok value)) }
         ensures fits { IfSome result (λ value. value < 2 ^ width) }
         ensures near { self.new.place ≤ self.old.place + 63 }
     {
@@ -234,7 +237,8 @@ impl<'a> Reader<'a> {
     fn words_gathered(&mut self, raw: u32, bytes: u32) -> Option<u32>
         requires raw { raw < 8 }
         requires most { raw + 8 * bytes ≤ 32 }
-        ensures found { MatchOption result (self.new ≡ self.old) (λ value. Reads self.old self.new (field_at self.old.words (raw + 8 * bytes) self.old.left) (Ok value)) }
+        ensures found { MatchOption result (self.new ≡ self.old)
+            (λ value. Reads self.old self.new (field_at self.old.words (raw + 8 * bytes) self.old.left) (Ok value)) }
         ensures fits { IfSome result (λ value. value < 2 ^ (raw + 8 * bytes)) }
         ensures near { self.new.place ≤ self.old.place + 63 }
     {
@@ -246,7 +250,8 @@ impl<'a> Reader<'a> {
     fn spelled_gathered(&mut self, raw: u32, bytes: u32) -> Option<u32>
         requires raw { raw < 8 }
         requires most { raw + 8 * bytes ≤ 32 }
-        ensures found { MatchOption result (self.new ≡ self.old) (λ value. Reads self.old self.new (field_at self.old.words (raw + 8 * bytes) self.old.left) (Ok value)) }
+        ensures found { MatchOption result (self.new ≡ self.old)
+            (λ value. Reads self.old self.new (field_at self.old.words (raw + 8 * bytes) self.old.left) (Ok value)) }
         ensures fits { IfSome result (λ value. value < 2 ^ (raw + 8 * bytes)) }
         ensures near { self.new.place ≤ self.old.place + 63 }
     {
@@ -306,7 +311,8 @@ fn field_in(code: &Code, bits: u64, raw: u32, bytes: u32) -> Option<Spelled>
     requires raw { raw < 8 }
     requires most { raw + 8 * bytes ≤ 32 }
     ensures { IfSome result (λ spelled. (count : ℕ) → bits < 2 ^ count → spelled.length ≤ count
-        → field_at code.now (raw + 8 * bytes) (low_bits count bits) ≡ Ok (spelled.value, low_bits (count - spelled.length) (bits / 2 ^ spelled.length))) }
+        → field_at code.now (raw + 8 * bytes) (low_bits count bits) ≡ Ok
+        (spelled.value, low_bits (count - spelled.length) (bits / 2 ^ spelled.length))) }
 {
     let mut value = (bits % (1 << raw)) as u32;
     let mut left = bits >> raw;

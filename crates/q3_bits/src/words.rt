@@ -60,7 +60,8 @@ pub(crate) fn read_words(alloc: Global, texts: &[&str]) -> Result<Vec<Word>, Cod
 /// The word that the text at a place spells.
 #[tactic(auto, unfolding(crate::specs::CodeWords::word_fault))]
 fn read_word(place: usize, text: &str) -> Result<Word, CodeError>
-    ensures exact { MatchResult result (λ _. word_fault place text.now ≡ None) (λ e. word_fault place text.now ≡ Some e) }
+    ensures exact { MatchResult result (λ _. word_fault place text.now ≡ None)
+        (λ e. word_fault place text.now ≡ Some e) }
     ensures bits { IfOk result (λ word. bits_of_word word ≡ bits_of_text text.now) }
     ensures word { IfOk result IsWord }
 {

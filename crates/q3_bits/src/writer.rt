@@ -100,7 +100,8 @@ impl<'a> Writer<'a> {
         requires short { count ≤ 7 }
         requires some { 1 ≤ width }
         requires most { width ≤ 32 }
-        ensures writes { Writes self.old self.new (field_bits self.old.words count mark ++ field_bits self.old.words width value) result }
+        ensures writes { Writes self.old self.new (field_bits self.old.words count mark
+            ++ field_bits self.old.words width value) result }
         ensures err { OnErr result (self.new ≡ self.old) }
     {
         let raw = width % 8;
@@ -122,7 +123,8 @@ impl<'a> Writer<'a> {
         requires short { mark.1 ≤ 7 }
         requires some_last { 1 ≤ last.1 }
         requires most_last { last.1 ≤ 15 }
-        ensures { Writes self.old self.new (field_bits self.old.words first.1 first.0 ++ (field_bits self.old.words mark.1 mark.0 ++ field_bits self.old.words last.1 last.0)) result }
+        ensures { Writes self.old self.new (field_bits self.old.words first.1 first.0
+            ++ (field_bits self.old.words mark.1 mark.0 ++ field_bits self.old.words last.1 last.0)) result }
     {
         let front = short_field(self.code, (0, 0), first);
         let back = short_field(self.code, mark, last);
@@ -152,7 +154,8 @@ impl<'a> Writer<'a> {
         requires short { mark.1 ≤ 7 }
         requires some_last { 1 ≤ last.1 }
         requires most_last { last.1 ≤ 15 }
-        ensures { Writes self.old self.new (field_bits self.old.words first.1 first.0 ++ (field_bits self.old.words mark.1 mark.0 ++ field_bits self.old.words last.1 last.0)) result }
+        ensures { Writes self.old self.new (field_bits self.old.words first.1 first.0
+            ++ (field_bits self.old.words mark.1 mark.0 ++ field_bits self.old.words last.1 last.0)) result }
     {
         self.put(first.0, first.1)?;
         self.put_marked(mark.0, mark.1, last.0, last.1)
@@ -179,7 +182,8 @@ impl<'a> Writer<'a> {
         requires few { count ≤ 14 }
         requires fits { raw < 2 ^ count }
         requires few_bytes { bytes ≤ 4 }
-        ensures writes { Writes self.old self.new (low_bits count raw ++ bytes_bits self.old.words bytes value) result }
+        ensures writes { Writes self.old self.new (low_bits count raw ++ bytes_bits self.old.words bytes value)
+            result }
         ensures err { OnErr result (self.new ≡ self.old) }
     {
         let first = bytes.min(2);
@@ -250,7 +254,10 @@ impl<'a> Writer<'a> {
         requires few_high { high.count ≤ 48 }
         requires high_fits { high.bits < 2 ^ high.count }
         requires room { message_length (length self.old.bits + (count + low.count + high.count)) ≤ self.old.room }
-        ensures { self.new ≡ record self.old { bits = self.old.bits ++ (low_bits count raw ++ (low_bits low.count low.bits ++ low_bits high.count high.bits)) } }
+        ensures { self.new ≡ record self.old {
+          bits = self.old.bits
+              ++ (low_bits count raw ++ (low_bits low.count low.bits ++ low_bits high.count high.bits));
+        } }
     {
         let front = count + low.count;
         if front + high.count <= 56 {
@@ -272,7 +279,10 @@ impl<'a> Writer<'a> {
         requires few_high { high.count ≤ 48 }
         requires high_fits { high.bits < 2 ^ high.count }
         requires room { message_length (length self.old.bits + (count + low.count + high.count)) ≤ self.old.room }
-        ensures { self.new ≡ record self.old { bits = self.old.bits ++ (low_bits count raw ++ (low_bits low.count low.bits ++ low_bits high.count high.bits)) } }
+        ensures { self.new ≡ record self.old {
+          bits = self.old.bits
+              ++ (low_bits count raw ++ (low_bits low.count low.bits ++ low_bits high.count high.bits));
+        } }
     {
         self.push(u64::from(raw), count);
         self.push(low.bits, low.count);
@@ -322,7 +332,8 @@ pub(crate) fn gather(code: &Code, value: u32, count: u32) -> Gathered
 fn short_field(code: &Code, mark: (u32, u32), field: (u32, u32)) -> Gathered
     requires short { mark.1 ≤ 7 }
     requires most { field.1 ≤ 15 }
-    ensures text { low_bits result.count result.bits ≡ field_bits code.now mark.1 mark.0 ++ field_bits code.now field.1 field.0 }
+    ensures text { low_bits result.count result.bits ≡ field_bits code.now mark.1 mark.0
+        ++ field_bits code.now field.1 field.0 }
     ensures fits { result.bits < 2 ^ result.count }
     ensures few { result.count ≤ 38 }
 {

@@ -45,8 +45,10 @@ pub fn write_snapshot(
     requires against { IsList profile.now.entity (base_entities (option_map base_viewed snapshot.against)) }
     requires listed { IsList profile.now.entity snapshot.entities.now }
     requires buffer { length buffer.old ≡ longest_message }
-    ensures { HoldsScrambled snapshot.entry.base (server_key profile.now.protocol telling.entry.challenge telling.entry.number telling.entry.executed.now.last)
-        (server_message_bits profile.now map.now.baselines (option_map base_viewed snapshot.entry.against) (snapshot_in telling.entry snapshot.entry)) buffer.new result }
+    ensures { HoldsScrambled snapshot.entry.base (server_key profile.now.protocol telling.entry.challenge
+        telling.entry.number telling.entry.executed.now.last)
+        (server_message_bits profile.now map.now.baselines (option_map base_viewed snapshot.entry.against)
+        (snapshot_in telling.entry snapshot.entry)) buffer.new result }
 {
     let bytes = write_clear(profile, map, telling, snapshot, buffer)?;
     scramble_front(profile.protocol, buffer, bytes, telling);
@@ -68,7 +70,9 @@ fn write_clear(
     requires against { IsList profile.now.entity (base_entities (option_map base_viewed snapshot.against)) }
     requires listed { IsList profile.now.entity snapshot.entities.now }
     requires buffer { length buffer.old ≡ longest_message }
-    ensures { HoldsMessage (server_message_bits profile.now map.now.baselines (option_map base_viewed snapshot.entry.against) (snapshot_in telling.entry snapshot.entry)) buffer.new result }
+    ensures { HoldsMessage (server_message_bits profile.now map.now.baselines
+        (option_map base_viewed snapshot.entry.against) (snapshot_in telling.entry snapshot.entry)) buffer.new
+        result }
 {
     let parts = SnapParts {
         ack: telling.executed.executed(),
@@ -90,8 +94,10 @@ pub fn write_game(
     buffer: &mut [u8],
 ) -> Result<Written, Overflow>
     requires { length buffer.old ≡ longest_message }
-    ensures { HoldsScrambled 0 (server_key profile.now.protocol telling.entry.challenge telling.entry.number telling.entry.executed.now.last)
-        (server_message_bits profile.now map.now.baselines None (game_message_in telling.entry map.now slot)) buffer.new result }
+    ensures { HoldsScrambled 0 (server_key profile.now.protocol telling.entry.challenge telling.entry.number
+        telling.entry.executed.now.last)
+        (server_message_bits profile.now map.now.baselines None (game_message_in telling.entry map.now slot))
+        buffer.new result }
 {
     let bytes = write_clear_game(profile, map, telling, slot, buffer)?;
     scramble_front(profile.protocol, buffer, bytes, telling);
@@ -107,7 +113,8 @@ fn write_clear_game(
     buffer: &mut [u8],
 ) -> Result<usize, Overflow>
     requires { length buffer.old ≡ longest_message }
-    ensures { HoldsMessage (server_message_bits profile.now map.now.baselines None (game_message_in telling.entry map.now slot)) buffer.new result }
+    ensures { HoldsMessage (server_message_bits profile.now map.now.baselines None
+        (game_message_in telling.entry map.now slot)) buffer.new result }
 {
     let parts = GameParts {
         ack: telling.executed.executed(),

@@ -58,7 +58,8 @@ pub fn scramble_client(
 
 /// Scrambles a message of an end after its leading longs, by a protocol that scrambles.
 fn scramble_side(side: Side, bytes: &mut [u8], protocol: u32, start: u8, text: &Text)
-    ensures { bytes.new ≡ side_scrambled side (record { start = start_by protocol start; text = text.now }) bytes.old }
+    ensures { bytes.new ≡ side_scrambled side (record { start = start_by protocol start; text = text.now })
+        bytes.old }
 {
     if !is_checked(protocol) {
         scramble(bytes, clear_bytes(side), start, text);

@@ -83,7 +83,8 @@ fn add_part(bytes: &mut [u8], place: usize, key: u8, text: &[u8]) -> u8
     requires some { 0 < length text.now }
     requires room { place + length text.now ≤ length bytes.old }
     requires seven_bits { All (λ byte. byte < 128) text.now }
-    ensures { (keys : ℕ → ℕ) → GoesOn keys place key text.now → Went keys place bytes.old (place + length text.now) result bytes.new }
+    ensures { (keys : ℕ → ℕ) → GoesOn keys place key text.now
+        → Went keys place bytes.old (place + length text.now) result bytes.new }
 {
     if place % 2 == 0 {
         return add_pairs(bytes, place, key, text);
@@ -98,7 +99,8 @@ fn add_pairs(bytes: &mut [u8], place: usize, key: u8, text: &[u8]) -> u8
     requires even { place % 2 ≡ 0 }
     requires room { place + length text.now ≤ length bytes.old }
     requires seven_bits { All (λ byte. byte < 128) text.now }
-    ensures { (keys : ℕ → ℕ) → GoesOn keys place key text.now → Went keys place bytes.old (place + length text.now) result bytes.new }
+    ensures { (keys : ℕ → ℕ) → GoesOn keys place key text.now
+        → Went keys place bytes.old (place + length text.now) result bytes.new }
 {
     let mut key = key;
     for pair in 0..text.len() / 2 {

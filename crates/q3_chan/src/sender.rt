@@ -61,7 +61,12 @@ impl Sender {
     /// From now on each datagram has a check of this challenge, as by protocol 71, or none. No message was begun.
     pub fn set_check(&mut self, check: Option<u32>)
         requires none_begun { self.old.number ≡ 0 }
-        ensures { self.new ≡ record self.old { header = record self.old.header { form = with_check self.old.header.form check } } }
+        ensures { self.new ≡ record self.old {
+          header = record self.old.header {
+            form = with_check
+                self.old.header.form check;
+          };
+        } }
     {
         self.header.form.check = check;
     }

@@ -158,8 +158,10 @@ impl Model for Client {
       last_time = c.last_time;
     } };
 
-    ghost invariant = { λ c. (length c.whole.items ≡ longest_message) × (length c.buffer.items ≡ longest_message) × (c.sender.number < sequence_end)
-        × (c.moves.capacity ≡ most_moves) × AreMoves c.moves.items × (length c.message.items ≡ longest_message) × (c.message_length ≤ longest_message) };
+    ghost invariant = { λ c. (length c.whole.items ≡ longest_message) × (length c.buffer.items ≡ longest_message)
+        × (c.sender.number < sequence_end)
+        × (c.moves.capacity ≡ most_moves) × AreMoves c.moves.items × (length c.message.items ≡ longest_message)
+        × (c.message_length ≤ longest_message) };
 }
 
 impl Client {
@@ -257,7 +259,10 @@ impl Client {
     /// the last one.
     #[tactic(auto, using(crate::proofs::Begins::no_moves))]
     fn note(&mut self, applied: &Applied)
-        ensures { self.new ≡ record self.old { delta = is_accepted applied.now.snap; moves = moves_behind applied.now.game self.old.moves } }
+        ensures { self.new ≡ record self.old {
+          delta = is_accepted applied.now.snap;
+          moves = moves_behind applied.now.game self.old.moves;
+        } }
     {
         self.delta = is_accepted(applied.snap);
         if applied.game {
@@ -419,7 +424,8 @@ fn is_accepted(outcome: SnapOutcome) -> bool
 
 /// What receives and what sends, with a check of this challenge or none.
 fn netchan(alloc: Global, check: Option<u32>, qport: u16) -> Result<(Gatherer, Sender), NoMemory>
-    ensures { IfOk result (λ made. (made.0 ≡ new_gathering (server_form check)) × (made.1 ≡ new_sending (client_form check) qport)) }
+    ensures { IfOk result (λ made. (made.0 ≡ new_gathering (server_form check))
+        × (made.1 ≡ new_sending (client_form check) qport)) }
 {
     let mut gatherer = Gatherer::new(alloc, Side::Server)?;
     gatherer.set_check(check);
@@ -430,7 +436,8 @@ fn netchan(alloc: Global, check: Option<u32>, qport: u16) -> Result<(Gatherer, S
 
 /// Room for the last message that was applied, for one that came whole and for one that is written.
 fn buffers(alloc: Global) -> Result<(Vec<u8>, Vec<u8>, Vec<u8>), NoMemory>
-    ensures { IfOk result (λ made. (length made.0.items ≡ longest_message) × (length made.1.items ≡ longest_message) × (length made.2.items ≡ longest_message)) }
+    ensures { IfOk result (λ made. (length made.0.items ≡ longest_message) × (length made.1.items ≡ longest_message)
+        × (length made.2.items ≡ longest_message)) }
 {
     let message = vec![in alloc; 0; LONGEST_MESSAGE]?;
     let whole = vec![in alloc; 0; LONGEST_MESSAGE]?;

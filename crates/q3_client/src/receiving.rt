@@ -42,11 +42,16 @@ pub(crate) fn receive(
 ) -> Result<Applied, Illegible>
     requires within { count ≤ length whole.old.items }
     requires empty { log.old.commands ≡ [] }
-    ensures state { state.new ≡ state_received state.old (receive_by state.old outgoing.old challenge number (take count whole.old.items)) }
-    ensures issued { outgoing.new ≡ issued_received outgoing.old (receive_by state.old outgoing.old challenge number (take count whole.old.items)) }
-    ensures answer { result ≡ answer_received (receive_by state.old outgoing.old challenge number (take count whole.old.items)) }
-    ensures log { log.new.commands ≡ heard_received (receive_by state.old outgoing.old challenge number (take count whole.old.items)) }
-    ensures message { IfOk result (λ applied. take count whole.new.items ≡ message_received (receive_by state.old outgoing.old challenge number (take count whole.old.items))) }
+    ensures state { state.new ≡ state_received state.old (receive_by state.old outgoing.old challenge number
+        (take count whole.old.items)) }
+    ensures issued { outgoing.new ≡ issued_received outgoing.old
+        (receive_by state.old outgoing.old challenge number (take count whole.old.items)) }
+    ensures answer { result ≡ answer_received (receive_by state.old outgoing.old challenge number
+        (take count whole.old.items)) }
+    ensures log { log.new.commands ≡ heard_received (receive_by state.old outgoing.old challenge number
+        (take count whole.old.items)) }
+    ensures message { IfOk result (λ applied. take count whole.new.items ≡ message_received
+        (receive_by state.old outgoing.old challenge number (take count whole.old.items))) }
     ensures room { length whole.new.items ≡ length whole.old.items }
 {
     let ack = acknowledged_by(&state.profile().code, outgoing, &whole[..count])?;

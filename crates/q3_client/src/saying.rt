@@ -26,7 +26,9 @@ use q3_window::Outgoing;
 /// Whether by protocol 68 the leading longs of the message that goes to the server next take more bits than stay clear: never by
 /// protocol 71.
 pub(crate) fn is_unclear(state: &ClState, acknowledged: u32) -> bool
-    ensures { result ≡ is_unclear state.now.profile.protocol Client (length (row_bits state.now.profile.code ((state.now.id, 32) ∷ (acknowledged, 32) ∷ (state.now.executed.executed, 32) ∷ []))) }
+    ensures { result ≡ is_unclear state.now.profile.protocol Client
+        (length (row_bits state.now.profile.code ((state.now.id, 32) ∷ (acknowledged, 32)
+        ∷ (state.now.executed.executed, 32) ∷ []))) }
 {
     let longs = [
         (state.id(), LONG),
@@ -57,9 +59,11 @@ pub(crate) fn write_scrambled(
     requires few { length moves.now ≤ most_moves }
     ensures stands { IsApplied state.now }
     ensures window { IsOutgoing outgoing.now }
-    ensures fills { FillsScrambled (client_key state.now.profile.protocol challenge state.now.id acknowledged state.now.executed.last)
+    ensures fills { FillsScrambled (client_key state.now.profile.protocol challenge state.now.id acknowledged
+        state.now.executed.last)
         (client_message_bits state.now.profile.code (message_key state.now.feed acknowledged state.now.executed.last)
-        (message_with state.now.id acknowledged state.now.executed.executed (waiting_of outgoing.now) delta moves.now)) into.new result }
+        (message_with state.now.id acknowledged state.now.executed.executed
+        (waiting_of outgoing.now) delta moves.now)) into.new result }
 {
     let text = state.last_text();
     let key = message_key(state.feed(), acknowledged, text);
@@ -81,7 +85,8 @@ fn parts_of<'a>(
     moves: &'a [Move],
 ) -> SaidParts<'a>
     ensures window { IsOutgoing outgoing.now }
-    ensures parts { parts_said result ≡ message_with state.now.id acknowledged state.now.executed.executed (waiting_of outgoing.now) delta moves.now }
+    ensures parts { parts_said result ≡ message_with state.now.id acknowledged state.now.executed.executed
+        (waiting_of outgoing.now) delta moves.now }
 {
     SaidParts {
         id: state.id(),

@@ -12,7 +12,8 @@ use q3_strings::laws as strings;
 /// right or up is -128.
 pub fn is_held_move(one: &Move)
     ensures held { IsHeldMove one.now }
-    ensures sent { one.now.forward ≢ neg_ℤ (pos 128) → one.now.right ≢ neg_ℤ (pos 128) → one.now.up ≢ neg_ℤ (pos 128) → IsMove one.now }
+    ensures sent { one.now.forward ≢ neg_ℤ (pos 128) → one.now.right ≢ neg_ℤ (pos 128) → one.now.up ≢ neg_ℤ (pos 128)
+        → IsMove one.now }
 {
     numbers_fit(*one);
 }

@@ -256,7 +256,8 @@ fn read_time(r: &mut Reader, from: u32) -> Result<u32, ReadError>
 /// Reads the fields over those that stand there.
 fn read_fields(r: &mut Reader, key: u32, fields: &mut [u32; FIELDS]) -> Result<(), ReadError>
     requires { AreFields move_widths fields.old }
-    ensures reads { Reads r.old r.new (fields_at r.old.words key move_widths fields.old r.old.left) (holding fields.new result) }
+    ensures reads { Reads r.old r.new (fields_at r.old.words key move_widths fields.old r.old.left)
+        (holding fields.new result) }
     ensures fit { AreFields move_widths fields.new }
 {
     laws::lists_are_read();

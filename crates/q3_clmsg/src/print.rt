@@ -23,7 +23,8 @@ pub fn print_move<O: Sink>(one: Move, out: &mut O) -> Result<(), Failed>
 
 /// Prints the time and the angles.
 fn print_view<O: Sink>(one: Move, out: &mut O) -> Result<(), Failed>
-    ensures adds { Adds (O.written out.old) (O.written out.new) (spaced (decimal one.time ∷ map decimal one.angles)) result }
+    ensures adds { Adds (O.written out.old) (O.written out.new)
+        (spaced (decimal one.time ∷ map decimal one.angles)) result }
     ensures cause { HasCause (O.faults out.old) (O.faults out.new) result }
 {
     print_all(
@@ -43,7 +44,8 @@ fn print_view<O: Sink>(one: Move, out: &mut O) -> Result<(), Failed>
 
 /// Prints how fast a player moves.
 fn print_steps<O: Sink>(one: Move, out: &mut O) -> Result<(), Failed>
-    ensures adds { Adds (O.written out.old) (O.written out.new) (spaced (signed_decimal one.forward ∷ signed_decimal one.right ∷ signed_decimal one.up ∷ [])) result }
+    ensures adds { Adds (O.written out.old) (O.written out.new)
+        (spaced (signed_decimal one.forward ∷ signed_decimal one.right ∷ signed_decimal one.up ∷ [])) result }
     ensures cause { HasCause (O.faults out.old) (O.faults out.new) result }
 {
     print_all(
@@ -68,7 +70,8 @@ fn sign(step: i8) -> &'static [u8]
 
 /// Prints the buttons and the weapon.
 fn print_hands<O: Sink>(one: Move, out: &mut O) -> Result<(), Failed>
-    ensures adds { Adds (O.written out.old) (O.written out.new) (spaced (decimal one.buttons ∷ decimal one.weapon ∷ [])) result }
+    ensures adds { Adds (O.written out.old) (O.written out.new)
+        (spaced (decimal one.buttons ∷ decimal one.weapon ∷ [])) result }
     ensures cause { HasCause (O.faults out.old) (O.faults out.new) result }
 {
     print_all(

@@ -44,7 +44,8 @@ fn read_moved(
     into: &mut ClientMessage,
 ) -> Result<(), ClientIllegible>
     requires { IsCode r.old.words }
-    ensures { Reads r.old r.new (moved_at r.old.words key delta (said_of into.old) r.old.left) (holding (said_of into.new) result) }
+    ensures { Reads r.old r.new (moved_at r.old.words key delta (said_of into.old) r.old.left)
+        (holding (said_of into.new) result) }
 {
     read_section(r, key, &mut into.moves)?;
     into.delta = delta;
@@ -60,7 +61,8 @@ fn read_operations(
     into: &mut ClientMessage,
 ) -> Result<(), ClientIllegible>
     requires { IsCode r.old.words }
-    ensures { Reads r.old r.new (operations_at r.old.words key (said_of into.old) r.old.left) (holding (said_of into.new) result) }
+    ensures { Reads r.old r.new (operations_at r.old.words key (said_of into.old) r.old.left)
+        (holding (said_of into.new) result) }
 {
     match read_row(r, CLIENT_COMMAND, &mut into.commands)? {
         EOF => Ok(()),

@@ -54,7 +54,8 @@ impl Holding {
         requires number { message.now.head.number ≡ number }
         requires rises { Rises message.now.entities.value.items }
         requires none { self.old.rings.begun ≡ None }
-        ensures held { self.new.rings.held ≡ held_behind self.old.rings.held number (record { head = message.now.head; entities = message.now.entities.value.items }) }
+        ensures held { self.new.rings.held ≡ held_behind self.old.rings.held number
+            (record { head = message.now.head; entities = message.now.entities.value.items }) }
         ensures baselines { self.new.baselines ≡ self.old.baselines }
         ensures none { self.new.rings.begun ≡ None }
         ensures outcome { result ≡ read_outcome self.old.rings.held number base }

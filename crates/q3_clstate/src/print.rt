@@ -24,7 +24,8 @@ pub fn print_applied<O: Sink>(
     log: &Log,
     out: &mut O,
 ) -> Result<(), Failed>
-    ensures adds { Adds (O.written out.old) (O.written out.new) (applied_text state.now applied.now log.now.commands) result }
+    ensures adds { Adds (O.written out.old) (O.written out.new)
+        (applied_text state.now applied.now log.now.commands) result }
     ensures cause { HasCause (O.faults out.old) (O.faults out.new) result }
 {
     laws::texts_follow();
@@ -57,7 +58,8 @@ fn print_game<O: Sink>(state: &ClState, game: bool, out: &mut O) -> Result<(), F
 
 /// Prints the line of what became of a message's snapshot, where it has one.
 fn print_outcome<O: Sink>(applied: &Applied, out: &mut O) -> Result<(), Failed>
-    ensures adds { Adds (O.written out.old) (O.written out.new) (outcome_text applied.now.number applied.now.snap) result }
+    ensures adds { Adds (O.written out.old) (O.written out.new)
+        (outcome_text applied.now.number applied.now.snap) result }
     ensures cause { HasCause (O.faults out.old) (O.faults out.new) result }
 {
     match applied.snap {
@@ -165,7 +167,8 @@ fn print_head<O: Sink>(snapshot: SnapView, out: &mut O) -> Result<(), Failed>
 
 /// Prints what stands in front of the area.
 fn print_start<O: Sink>(snapshot: SnapView, out: &mut O) -> Result<(), Failed>
-    ensures adds { Adds (O.written out.old) (O.written out.new) (start_text (snapshot_of snapshot.entry).head) result }
+    ensures adds { Adds (O.written out.old) (O.written out.new)
+        (start_text (snapshot_of snapshot.entry).head) result }
     ensures cause { HasCause (O.faults out.old) (O.faults out.new) result }
 {
     print_all(

@@ -62,7 +62,10 @@ impl MapSettings {
 
     /// A gamestate was read: its strings take the place of the others, and it tells the id.
     pub fn start(&mut self, message: &mut ServerMessage)
-        ensures settings { self.new ≡ record { strings = message.old.configs; id = id_in self.old.id message.old.configs } }
+        ensures settings { self.new ≡ record {
+          strings = message.old.configs;
+          id = id_in self.old.id message.old.configs;
+        } }
         ensures baselines { message.new.baselines ≡ message.old.baselines }
     {
         swap(&mut self.configs, &mut message.configs);

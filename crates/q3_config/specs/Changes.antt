@@ -1,9 +1,7 @@
 -- What a command does to config strings that are kept.
 use Rattle.std.specs.Prelude.{ℕ, ◌==◌, nat_lt, if◌then◌else◌, Bool, true, false, List, [], ◌∷◌, ◌++◌, length, map, Option, Some, None}
-use Rattle.std.specs.Str.{bytes_eq}
-use Rattle.q3_text.specs.Texts.{translated}
 use Rattle.q3_config.specs.declared.error.ConfigError.{ConfigError}
-use Rattle.q3_config.specs.Strings.{Strings, Pending, longest_string, string_at, with_string, set_fault}
+use Rattle.q3_config.specs.Strings.{Strings, Pending, longest_string, string_at, with_string, set_fault, has_string}
 use Rattle.q3_config.specs.Commands.{Word, Whole, First, Middle, Last, Change, change_in}
 
 -- the strings after a command, and whether one of them changed
@@ -31,7 +29,7 @@ change_or strings index text (Some fault) = unchanged (without_pending strings)
 -- a change to another text; to the text that is there it is none
 abbrev pub make_change : Strings → ℕ → List ℕ → Applied
 make_change strings index text =
-    if bytes_eq (string_at strings index) (map translated text) then unchanged strings
+    if has_string strings index text then unchanged strings
     else change_or strings index text (set_fault strings index text)
 
 -- a pending text with one piece more: after the last the change is made, and nothing is pending

@@ -1,5 +1,6 @@
 -- Config strings: a string for each index, empty where none is set, and their size.
 use Rattle.std.specs.Prelude.{◌≡◌, ℕ, ◌+◌, ◌==◌, ◌<◌, ◌≤◌, nat_lt, nat_le, ◌&&◌, not, if◌then◌else◌, Bool, List, [], length, map, replicate, find, sum, All, slice_index_or, slice_set, Option, Some, None, IfSome, Result, Ok, Err, codes, option_and_then}
+use Rattle.std.specs.Str.{bytes_eq}
 use Rattle.q3_text.specs.Texts.{translated}
 use Rattle.q3_text.specs.Info.{info_of}
 use Rattle.q3_text.specs.Decimals.{info_number}
@@ -34,6 +35,10 @@ no_strings = record { texts = replicate places []; pending = None }
 -- the string at an index; past the last index it is empty
 abbrev pub string_at : Strings → ℕ → List ℕ
 string_at strings index = slice_index_or strings.texts index []
+
+-- whether a string is a text already, as it is kept
+abbrev pub has_string : Strings → ℕ → List ℕ → Bool
+has_string strings index text = bytes_eq (string_at strings index) (map translated text)
 
 -- what a string adds to the size: its length and one byte, unless it is empty
 abbrev pub size_of : List ℕ → ℕ

@@ -4,9 +4,7 @@
 //! (cl_cgame.c).
 
 ghost use Rattle.std.specs.Prelude.{◌≡◌, ◌<◌, ◌≤◌, ◌==◌, not, if◌then◌else◌, length, map, find, option_map, All, Some, IsTrue, IfOk, OnOk};
-ghost use Rattle.q3_config.specs.Strings.{AreStrings, places, longest_string, no_strings, string_at, config_size, is_config_byte, set_fault, admit_fault, refused, after_set, server_id};
-ghost use Rattle.std.specs.Str.{bytes_eq};
-ghost use Rattle.q3_text.specs.Texts.{translated};
+ghost use Rattle.q3_config.specs.Strings.{AreStrings, places, longest_string, no_strings, string_at, has_string, config_size, is_config_byte, set_fault, admit_fault, refused, after_set, server_id};
 ghost use Rattle.q3_config.specs.Commands as commands;
 ghost use Rattle.q3_config.specs.Changes.{unchanged, make_change, go_on, after_change, after_command};
 ghost use Rattle.q3_config.specs.Parts.{meant, finished};
@@ -62,7 +60,7 @@ impl Configs {
 
     /// Whether the string at an index is this text already, as it is kept: each byte translated.
     pub fn has(&self, index: u32, text: &[u8]) -> bool
-        ensures has { result ≡ bytes_eq (string_at self.now index) (map translated text.now) }
+        ensures has { result ≡ has_string self.now index text.now }
         ensures strings { AreStrings self.now }
     {
         self.table.has(index, text)
@@ -144,7 +142,8 @@ impl Configs {
 
     /// The big text of which pieces came, and the index that it is for. `None` exactly where nothing is pending.
     pub fn pending(&self) -> Option<(u32, &[u8])>
-        ensures pending { option_map (λ pending. record { index = pending.0; text = pending.1.now }) result ≡ self.now.pending }
+        ensures pending { option_map (λ pending. record { index = pending.0; text = pending.1.now }) result
+            ≡ self.now.pending }
         ensures strings { AreStrings self.now }
     {
         self.pending.get()
@@ -154,7 +153,8 @@ impl Configs {
     fn apply(&mut self, change: &Change) -> bool
         requires index { change.now.index < places }
         requires short { length change.now.text.now ≤ longest_string }
-        ensures { after_change self.old (meant change.now.word) change.now.index change.now.text.now ≡ record { strings = self.new; changed = result } }
+        ensures { after_change self.old (meant change.now.word) change.now.index change.now.text.now
+            ≡ record { strings = self.new; changed = result } }
     {
         match change.word {
             Word::Whole => self.make_change(change.index, change.text),

@@ -57,7 +57,8 @@ impl Pending {
     /// Puts a piece after the text that is pending.
     pub fn push(&mut self, text: &[u8])
         requires { IfSome self.old (λ pending. length pending.text + length text.now ≤ longest_string) }
-        ensures { self.new ≡ option_map (λ pending. record { index = pending.index; text = pending.text ++ text.now }) self.old }
+        ensures { self.new ≡ option_map (λ pending. record { index = pending.index; text = pending.text ++ text.now })
+            self.old }
     {
         if self.index.is_some() {
             extend(&mut self.bytes, text);

@@ -106,7 +106,8 @@ impl Table {
     /// Sets the string at an index, or leaves the strings as they are and says why.
     pub fn set(&mut self, index: u32, text: &[u8]) -> Result<(), ConfigError>
         requires { length self.old ≡ places }
-        ensures answer { (pending : Option Pending) → result ≡ refused (set_fault (strings_with pending self.old) index text.now) }
+        ensures answer { (pending : Option Pending) → result ≡ refused
+            (set_fault (strings_with pending self.old) index text.now) }
         ensures texts { (pending : Option Pending) → strings_with pending self.new
             ≡ after_set (strings_with pending self.old) index text.now (set_fault (strings_with pending self.old) index text.now) }
     {
@@ -118,7 +119,8 @@ impl Table {
     /// Sets the string at an index where it is another, and says whether it was. `None` where it can't be set.
     pub fn change(&mut self, index: u32, text: &[u8]) -> Option<bool>
         requires { length self.old ≡ places }
-        ensures { (pending : Option Pending) → attempted pending self.new result ≡ make_change (strings_with pending self.old) index text.now }
+        ensures { (pending : Option Pending) → attempted pending self.new result ≡ make_change
+            (strings_with pending self.old) index text.now }
     {
         if self.has(index, text) {
             return Some(false);
@@ -130,7 +132,8 @@ impl Table {
     /// What is wrong with a text as such: it is too long, or the strings with it would be too large.
     pub fn check_room(&self, index: usize, text: &[u8]) -> Result<(), ConfigError>
         requires { index < length self.now }
-        ensures { (pending : Option Pending) → result ≡ refused (room_fault (strings_with pending self.now) index text.now) }
+        ensures { (pending : Option Pending) → result ≡ refused
+            (room_fault (strings_with pending self.now) index text.now) }
     {
         if text.len() > LONGEST_STRING {
             return Err(ConfigError::Long);
@@ -146,7 +149,8 @@ impl Table {
     #[tactic(auto, unfolding(crate::specs::Strings::set_fault))]
     fn check(&self, index: u32, text: &[u8]) -> Result<(), ConfigError>
         requires { length self.now ≡ places }
-        ensures { (pending : Option Pending) → result ≡ refused (set_fault (strings_with pending self.now) index text.now) }
+        ensures { (pending : Option Pending) → result ≡ refused
+            (set_fault (strings_with pending self.now) index text.now) }
     {
         if index >= STRINGS {
             return Err(ConfigError::Index);
@@ -290,7 +294,8 @@ fn put_at(bytes: &mut Vec<u8>, places: &mut Vec<Place>, index: usize, text: &[u8
     requires index { index < length places.old.items }
     requires room { length bytes.old.items + length text.now ≤ vec_capacity bytes.old }
     ensures within { LieWithin bytes.new.items places.new.items }
-    ensures texts { texts_in bytes.new.items places.new.items ≡ slice_set (texts_in bytes.old.items places.old.items) index (map translated text.now) }
+    ensures texts { texts_in bytes.new.items places.new.items ≡ slice_set
+        (texts_in bytes.old.items places.old.items) index (map translated text.now) }
     ensures room { vec_capacity bytes.old ≤ vec_capacity bytes.new }
 {
     places[index] = Place {

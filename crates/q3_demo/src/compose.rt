@@ -51,7 +51,8 @@ pub fn compose_whole(
     requires front { IsOk (front_at state.now.profile.code message.now) }
     requires held { IsSome (view_at state.now.held state.now.number) }
     requires room { length into.old ≡ longest_record }
-    ensures { IfSome (whole_of state.now message.now) (λ whole. Fills into.old into.new (whole_bits state.now whole) result) }
+    ensures { IfSome (whole_of state.now message.now) (λ whole. Fills into.old into.new
+        (whole_bits state.now whole) result) }
 {
     let number = state.number();
     let Ok(ack) = read_front(state, message, commands) else {

@@ -45,7 +45,10 @@ impl Model for Player {
 
     ghost Value = { PlayerState };
 
-    ghost view = { λ p. record { played = record { state = p.state; records = p.records; last = p.last; at = p.at }; heard = p.log.commands } };
+    ghost view = { λ p. record {
+      played = record { state = p.state; records = p.records; last = p.last; at = p.at };
+      heard = p.log.commands;
+    } };
 
     ghost invariant = { λ p. length p.message.items ≡ longest_record };
 }
@@ -64,7 +67,16 @@ impl Player {
 
     /// Goes on after so many records, at the place of the next one, from what they left. `Err` is want of memory.
     pub fn behind(alloc: Global, state: ClState, records: u32, at: u64) -> Result<Player, NoMemory>
-        ensures { IfOk result (λ player. player ≡ record { played = record { state = state; records = records; last = state.number; at = at }; heard = [] }) }
+        ensures { IfOk result
+            (λ player. player ≡ record {
+              played = record {
+                state = state;
+                records = records;
+                last = state.number;
+                at = at;
+              };
+              heard = [];
+            }) }
     {
         let last = state.number();
         Ok(Player {
@@ -90,13 +102,16 @@ impl Player {
         requires given { file < F.given files.old }
         requires few { self.old.played.records < 4294967295 }
         ensures plays { (bytes : List ℕ) × HasFrom (F.told files.old) file self.old.played.at bytes
-            × ((demo : List ℕ) → drop self.old.played.at demo ≡ bytes → PlaysOn (step demo self.old.played) self.old self.new result) }
+            × ((demo : List ℕ) → drop self.old.played.at demo ≡ bytes
+            → PlaysOn (step demo self.old.played) self.old self.new result) }
         ensures kept { IfErr result (λ e. self.new.played ≡ self.old.played) }
         ensures given { F.given files.new ≡ F.given files.old }
         ensures asks { OnlyAsks (F.told files.old) (F.told files.new) }
         ensures only { AsksOf file (F.told files.old) (F.told files.new) }
-        ensures cost { IsTrue F.reads_whole → (told : Told) → F.told files.old ≡ Some told → (stepped : Stepped) → step (contents_at told file) self.old.played ≡ Ok (Some stepped)
-            → asked_of (F.told files.new) file + self.old.played.at ≤ asked_of (F.told files.old) file + stepped.played.at }
+        ensures cost { IsTrue F.reads_whole → (told : Told) → F.told files.old ≡ Some told → (stepped : Stepped)
+            → step (contents_at told file) self.old.played ≡ Ok (Some stepped)
+            → asked_of (F.told files.new) file + self.old.played.at ≤ asked_of
+            (F.told files.old) file + stepped.played.at }
         ensures read_cause { ReadCause (F.faults files.old) (F.faults files.new) result }
         ensures others { F.write_faults files.new ≡ F.write_faults files.old }
     {
@@ -131,7 +146,8 @@ impl Player {
     ) -> Result<Option<Applied>, DemoError>
         requires given { file < F.given files.old }
         ensures plays { (bytes : List ℕ) × HasFrom (F.told files.old) file self.old.played.at bytes
-            × ((demo : List ℕ) → drop self.old.played.at demo ≡ bytes → PlaysOn (step_of_all demo self.old.played) self.old self.new result) }
+            × ((demo : List ℕ) → drop self.old.played.at demo ≡ bytes
+            → PlaysOn (step_of_all demo self.old.played) self.old self.new result) }
         ensures kept { IfErr result (λ e. self.new.played ≡ self.old.played) }
         ensures given { F.given files.new ≡ F.given files.old }
         ensures asks { OnlyAsks (F.told files.old) (F.told files.new) }
@@ -198,7 +214,8 @@ fn apply(
     log: &mut Log,
 ) -> Result<Applied, DemoError>
     ensures state { state.new ≡ state_behind state.old (apply_at state.old number message.now) }
-    ensures answer { result ≡ fault_as (λ cause. DemoError.Message at cause) (answered (apply_at state.old number message.now)) }
+    ensures answer { result ≡ fault_as (λ cause. DemoError.Message at cause)
+        (answered (apply_at state.old number message.now)) }
     ensures log { log.new.commands ≡ heard_in (apply_at state.old number message.now) }
     ensures kept { IfErr result (λ e. state.new ≡ state.old) }
     ensures reads { IfErr result (λ e. e ≢ DemoError.ReadFault) }

@@ -29,7 +29,8 @@ pub fn play<F: Files, O: Sink>(
     requires least { 512 ≤ profile.now.parse_ring }
     requires most { profile.now.parse_ring ≤ 65536 }
     requires given { file < F.given files.old }
-    ensures plays { (demo : List ℕ) × HasFrom (F.told files.old) file 0 demo × Plays (play_of profile.now demo) (O.written out.old) (O.written out.new) result }
+    ensures plays { (demo : List ℕ) × HasFrom (F.told files.old) file 0 demo
+        × Plays (play_of profile.now demo) (O.written out.old) (O.written out.new) result }
     ensures given { F.given files.new ≡ F.given files.old }
     ensures asks { OnlyAsks (F.told files.old) (F.told files.new) }
     ensures read_cause { ReadCause (F.faults files.old) (F.faults files.new) result }
@@ -110,7 +111,8 @@ fn end_here<F: Files, O: Sink>(
     requires given { file < F.given files.old }
     requires few { player.old.played.records ≤ most_records }
     ensures ends { (bytes : List ℕ) × HasFrom (F.told files.old) file player.old.played.at bytes
-        × Plays (at_most player.old.played (piece_of bytes player.old.played.at player.old.played.last)) (O.written out.old) (O.written out.new) result }
+        × Plays (at_most player.old.played (piece_of bytes player.old.played.at player.old.played.last))
+        (O.written out.old) (O.written out.new) result }
     ensures memory { IfErr result (λ e. e ≢ DemoError.NoMemory) }
     ensures given { F.given files.new ≡ F.given files.old }
     ensures asks { OnlyAsks (F.told files.old) (F.told files.new) }
@@ -139,7 +141,8 @@ fn behind_limit(at: u64, error: DemoError) -> DemoError
 
 /// Prints what the records left, at the demo's end.
 fn end<O: Sink>(player: &Player, out: &mut O) -> Result<(), DemoError>
-    ensures adds { Adds (O.written out.old) (O.written out.new) (state_text player.now.played.state player.now.played.records) result }
+    ensures adds { Adds (O.written out.old) (O.written out.new)
+        (state_text player.now.played.state player.now.played.records) result }
     ensures only { IfErr result (λ e. e ≡ DemoError.WriteFault) }
     ensures cause { WriteCause (O.faults out.old) (O.faults out.new) result }
 {

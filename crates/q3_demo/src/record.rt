@@ -70,13 +70,15 @@ pub fn next_record<F: Files>(
 ) -> Result<Piece, DemoError>
     requires given { file < F.given files.old }
     requires room { length into.old ≡ longest_record }
-    ensures finds { (bytes : List ℕ) × HasFrom (F.told files.old) file at bytes × FindsPiece bytes at last into.new result }
+    ensures finds { (bytes : List ℕ) × HasFrom (F.told files.old) file at bytes
+        × FindsPiece bytes at last into.new result }
     ensures room { length into.new ≡ length into.old }
     ensures given { F.given files.new ≡ F.given files.old }
     ensures asks { OnlyAsks (F.told files.old) (F.told files.new) }
     ensures only { AsksOf file (F.told files.old) (F.told files.new) }
     ensures cost { IsTrue F.reads_whole → (told : Told) → F.told files.old ≡ Some told → (number size next : ℕ)
-        → piece_of (drop at (contents_at told file)) at last ≡ Ok (Piece.Message number size next) → asked_of (F.told files.new) file ≤ asked_of (F.told files.old) file + head_bytes + size }
+        → piece_of (drop at (contents_at told file)) at last ≡ Ok (Piece.Message number size next)
+        → asked_of (F.told files.new) file ≤ asked_of (F.told files.old) file + head_bytes + size }
     ensures cause { ReadCause (F.faults files.old) (F.faults files.new) result }
     ensures others { F.write_faults files.new ≡ F.write_faults files.old }
 {
@@ -113,7 +115,8 @@ fn read_head<F: Files>(files: &mut F, file: usize, at: u64) -> Result<Option<Hea
     ensures given { F.given files.new ≡ F.given files.old }
     ensures asks { OnlyAsks (F.told files.old) (F.told files.new) }
     ensures only { AsksOf file (F.told files.old) (F.told files.new) }
-    ensures cost { IsTrue F.reads_whole → (told : Told) → F.told files.old ≡ Some told → at + head_bytes ≤ length (contents_at told file)
+    ensures cost { IsTrue F.reads_whole → (told : Told) → F.told files.old ≡ Some told
+        → at + head_bytes ≤ length (contents_at told file)
         → asked_of (F.told files.new) file ≤ asked_of (F.told files.old) file + head_bytes }
     ensures cause { ReadCause (F.faults files.old) (F.faults files.new) result }
     ensures others { F.write_faults files.new ≡ F.write_faults files.old }
@@ -134,7 +137,8 @@ fn read_head<F: Files>(files: &mut F, file: usize, at: u64) -> Result<Option<Hea
 /// Tells that the file ends before a head after `LAST_HEAD` does, since it has fewer than 2^64 bytes.
 fn no_head<F: Files>(files: &mut F, file: usize) -> Result<Option<Head>, DemoError>
     requires given { file < F.given files.old }
-    ensures finds { (at : ℕ) → 2 ^ 64 ≤ at + 8 → (bytes : List ℕ) × HasFrom (F.told files.old) file at bytes × FindsHead bytes result }
+    ensures finds { (at : ℕ) → 2 ^ 64 ≤ at + 8 → (bytes : List ℕ) × HasFrom (F.told files.old) file at bytes
+        × FindsHead bytes result }
     ensures given { F.given files.new ≡ F.given files.old }
     ensures asks { OnlyAsks (F.told files.old) (F.told files.new) }
     ensures only { AsksOf file (F.told files.old) (F.told files.new) }
@@ -163,7 +167,8 @@ pub fn read_whole<F: Files>(
     ensures given { F.given files.new ≡ F.given files.old }
     ensures asks { OnlyAsks (F.told files.old) (F.told files.new) }
     ensures only { AsksOf file (F.told files.old) (F.told files.new) }
-    ensures cost { IsTrue F.reads_whole → (told : Told) → F.told files.old ≡ Some told → at + length into.old ≤ length (contents_at told file)
+    ensures cost { IsTrue F.reads_whole → (told : Told) → F.told files.old ≡ Some told
+        → at + length into.old ≤ length (contents_at told file)
         → asked_of (F.told files.new) file ≤ asked_of (F.told files.old) file + length into.old }
     ensures cause { ReadCause (F.faults files.old) (F.faults files.new) result }
     ensures others { F.write_faults files.new ≡ F.write_faults files.old }

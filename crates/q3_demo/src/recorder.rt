@@ -84,7 +84,8 @@ impl Model for Recorder {
       game = option_map (λ (count : ℕ). take count r.game.items) r.game_length;
     } };
 
-    ghost invariant = { λ r. (length r.game.items ≡ longest_record) × (length r.message.items ≡ longest_record) × (length r.bytes.items ≡ most_added)
+    ghost invariant = { λ r. (length r.game.items ≡ longest_record) × (length r.message.items ≡ longest_record)
+        × (length r.bytes.items ≡ most_added)
         × IfSome r.game_length (λ count. count ≤ longest_record) };
 }
 
@@ -144,9 +145,15 @@ impl Recorder {
         requires short { length message.now ≤ longest_record }
         requires number { 0 < applied.now.number }
         requires applied { MayNote self.old.stage state.now applied.now message.now }
-        ensures stage { OnOk result (self.new ≡ record self.old { stage = (note_at self.old.stage self.old.game state.now applied.now message.now).stage }) }
-        ensures answer { IfOk result (λ noted. noted ≡ noted_as (note_at self.old.stage self.old.game state.now applied.now message.now).stage) }
-        ensures adds { AppendsBytes (F.told files.old) (F.told files.new) file (note_at self.old.stage self.old.game state.now applied.now message.now).bytes (done result) }
+        ensures stage { OnOk result
+            (self.new ≡ record self.old {
+              stage = (note_at self.old.stage self.old.game state.now applied.now
+                  message.now).stage;
+            }) }
+        ensures answer { IfOk result (λ noted. noted ≡ noted_as
+            (note_at self.old.stage self.old.game state.now applied.now message.now).stage) }
+        ensures adds { AppendsBytes (F.told files.old) (F.told files.new) file
+            (note_at self.old.stage self.old.game state.now applied.now message.now).bytes (done result) }
         ensures given { F.given files.new ≡ F.given files.old }
         ensures cause { HasCause (F.write_faults files.old) (F.write_faults files.new) result }
         ensures others { F.faults files.new ≡ F.faults files.old }
@@ -178,9 +185,11 @@ impl Recorder {
         requires given { file < F.given files.old }
         requires short { length message.now ≤ longest_record }
         requires number { 0 < number }
-        ensures stage { OnOk result (self.new ≡ record self.old { stage = (begins number message.now self.old.game).stage }) }
+        ensures stage { OnOk result
+            (self.new ≡ record self.old { stage = (begins number message.now self.old.game).stage }) }
         ensures answer { IfOk result (λ noted. noted ≡ noted_as (begins number message.now self.old.game).stage) }
-        ensures adds { AppendsBytes (F.told files.old) (F.told files.new) file (begins number message.now self.old.game).bytes (done result) }
+        ensures adds { AppendsBytes (F.told files.old) (F.told files.new) file
+            (begins number message.now self.old.game).bytes (done result) }
         ensures given { F.given files.new ≡ F.given files.old }
         ensures cause { HasCause (F.write_faults files.old) (F.write_faults files.new) result }
         ensures others { F.faults files.new ≡ F.faults files.old }
@@ -206,9 +215,11 @@ impl Recorder {
     ) -> Result<Noted, Failed>
         requires given { file < F.given files.old }
         requires short { length message.now ≤ longest_record }
-        ensures stage { OnOk result (self.new ≡ record self.old { stage = (goes_on first number message.now).stage }) }
+        ensures stage { OnOk result
+            (self.new ≡ record self.old { stage = (goes_on first number message.now).stage }) }
         ensures answer { IfOk result (λ noted. noted ≡ noted_as (goes_on first number message.now).stage) }
-        ensures adds { AppendsBytes (F.told files.old) (F.told files.new) file (goes_on first number message.now).bytes (done result) }
+        ensures adds { AppendsBytes (F.told files.old) (F.told files.new) file
+            (goes_on first number message.now).bytes (done result) }
         ensures given { F.given files.new ≡ F.given files.old }
         ensures cause { HasCause (F.write_faults files.old) (F.write_faults files.new) result }
         ensures others { F.faults files.new ≡ F.faults files.old }
@@ -232,9 +243,16 @@ impl Recorder {
         requires given { file < F.given files.old }
         requires front { IsOk (front_at state.now.profile.code message.now) }
         requires held { IsSome (view_at state.now.held state.now.number) }
-        ensures stage { OnOk result (self.new ≡ record self.old { stage = (recomposed first number (composed_whole state.now (whole_of state.now message.now))).stage }) }
-        ensures answer { IfOk result (λ noted. noted ≡ noted_as (recomposed first number (composed_whole state.now (whole_of state.now message.now))).stage) }
-        ensures adds { AppendsBytes (F.told files.old) (F.told files.new) file (recomposed first number (composed_whole state.now (whole_of state.now message.now))).bytes (done result) }
+        ensures stage { OnOk result
+            (self.new ≡ record self.old {
+              stage = (recomposed first number
+                  (composed_whole state.now (whole_of state.now message.now))).stage;
+            }) }
+        ensures answer { IfOk result (λ noted. noted ≡ noted_as
+            (recomposed first number (composed_whole state.now (whole_of state.now message.now))).stage) }
+        ensures adds { AppendsBytes (F.told files.old) (F.told files.new) file
+            (recomposed first number (composed_whole state.now (whole_of state.now message.now))).bytes
+            (done result) }
         ensures given { F.given files.new ≡ F.given files.old }
         ensures cause { HasCause (F.write_faults files.old) (F.write_faults files.new) result }
         ensures others { F.faults files.new ≡ F.faults files.old }

@@ -197,7 +197,8 @@ fn print_held<O: Sink>(state: &ClState, newest: u32, out: &mut O) -> Result<(), 
 
 /// Prints the line of the snapshot of a number, if it is held.
 fn print_age<O: Sink>(state: &ClState, number: u32, out: &mut O) -> Result<(), Failed>
-    ensures adds { Adds (O.written out.old) (O.written out.new) (held_text (held_under state.now.held number)) result }
+    ensures adds { Adds (O.written out.old) (O.written out.new)
+        (held_text (held_under state.now.held number)) result }
     ensures cause { HasCause (O.faults out.old) (O.faults out.new) result }
 {
     match state.rings().held_under(number) {
@@ -217,7 +218,8 @@ fn print_age<O: Sink>(state: &ClState, number: u32, out: &mut O) -> Result<(), F
 
 /// Prints the newest snapshot, if one was accepted: with no entities where they are gone.
 fn print_newest<O: Sink>(state: &ClState, newest: u32, out: &mut O) -> Result<(), Failed>
-    ensures adds { Adds (O.written out.old) (O.written out.new) (newest_text (held_under state.now.held newest)) result }
+    ensures adds { Adds (O.written out.old) (O.written out.new)
+        (newest_text (held_under state.now.held newest)) result }
     ensures cause { HasCause (O.faults out.old) (O.faults out.new) result }
 {
     let rings = state.rings();

@@ -67,14 +67,18 @@ impl Recording {
         ensures client { client.new ≡ (take_at client.old bytes.now).client }
         ensures log { log.new.commands ≡ (take_at client.old bytes.now).heard }
         ensures name { self.new.name ≡ self.old.name }
-        ensures stage { OnOk result (self.new.stage ≡ (recorder_took self.old.stage client.old (take_at client.old bytes.now) (take_at client.old bytes.now).answer).stage) }
+        ensures stage { OnOk result (self.new.stage ≡ (recorder_took self.old.stage client.old
+            (take_at client.old bytes.now) (take_at client.old bytes.now).answer).stage) }
         ensures answer { IfOk result (λ took. took ≡ (
           (take_at client.old bytes.now).answer,
-          (recorder_took self.old.stage client.old (take_at client.old bytes.now) (take_at client.old bytes.now).answer).ended,
+          (recorder_took self.old.stage client.old (take_at client.old bytes.now)
+              (take_at client.old bytes.now).answer).ended,
         )) }
-        ensures files { WritesFiles (F.told files.old) (F.told files.new) (F.given files.old) (F.given files.new) (F.faults files.old) (F.faults files.new)
+        ensures files { WritesFiles (F.told files.old) (F.told files.new) (F.given files.old) (F.given files.new)
+            (F.faults files.old) (F.faults files.new)
             (F.write_faults files.old) (F.write_faults files.new)
-            (extends self.old.name (recorder_took self.old.stage client.old (take_at client.old bytes.now) (take_at client.old bytes.now).answer).bytes) (done result) }
+            (extends self.old.name (recorder_took self.old.stage client.old (take_at client.old bytes.now)
+            (take_at client.old bytes.now).answer).bytes) (done result) }
         ensures file { HasFile (F.told files.new) (F.given files.new) number (Some self.new) }
     {
         record_taken(&mut self.recorder, client, bytes, log, number, files)
@@ -83,7 +87,8 @@ impl Recording {
     /// It has its end.
     fn stop<F: Files>(mut self, number: usize, files: &mut F) -> Result<(), Failed>
         requires file { HasFile (F.told files.old) (F.given files.old) number (Some self) }
-        ensures files { WritesFiles (F.told files.old) (F.told files.new) (F.given files.old) (F.given files.new) (F.faults files.old) (F.faults files.new)
+        ensures files { WritesFiles (F.told files.old) (F.told files.new) (F.given files.old) (F.given files.new)
+            (F.faults files.old) (F.faults files.new)
             (F.write_faults files.old) (F.write_faults files.new) (extends self.name (closing self.stage)) result }
     {
         self.recorder.stop(number, files)
@@ -114,13 +119,16 @@ fn record_taken<F: Files>(
     requires given { number < F.given files.old }
     ensures client { client.new ≡ (take_at client.old bytes.now).client }
     ensures log { log.new.commands ≡ (take_at client.old bytes.now).heard }
-    ensures stage { OnOk result (recorder.new.stage ≡ (recorder_took recorder.old.stage client.old (take_at client.old bytes.now) (take_at client.old bytes.now).answer).stage) }
+    ensures stage { OnOk result (recorder.new.stage ≡ (recorder_took recorder.old.stage client.old
+        (take_at client.old bytes.now) (take_at client.old bytes.now).answer).stage) }
     ensures answer { IfOk result (λ took. took ≡ (
       (take_at client.old bytes.now).answer,
-      (recorder_took recorder.old.stage client.old (take_at client.old bytes.now) (take_at client.old bytes.now).answer).ended,
+      (recorder_took recorder.old.stage client.old (take_at client.old bytes.now)
+          (take_at client.old bytes.now).answer).ended,
     )) }
     ensures adds { AppendsBytes (F.told files.old) (F.told files.new) number
-        (recorder_took recorder.old.stage client.old (take_at client.old bytes.now) (take_at client.old bytes.now).answer).bytes (done result) }
+        (recorder_took recorder.old.stage client.old (take_at client.old bytes.now)
+        (take_at client.old bytes.now).answer).bytes (done result) }
     ensures given { F.given files.new ≡ F.given files.old }
     ensures cause { HasCause (F.write_faults files.old) (F.write_faults files.new) result }
     ensures others { F.faults files.new ≡ F.faults files.old }
@@ -158,8 +166,10 @@ pub fn begin<F: Files>(
     requires file { HasFile (F.told files.old) (F.given files.old) number.old recording.old }
     ensures recording { OnOk result (recording.new ≡ (begin_at client.now recording.old fresh).recording) }
     ensures answer { IfOk result (λ answer. answer ≡ (begin_at client.now recording.old fresh).answer) }
-    ensures files { WritesFiles (F.told files.old) (F.told files.new) (F.given files.old) (F.given files.new) (F.faults files.old) (F.faults files.new)
-        (F.write_faults files.old) (F.write_faults files.new) (begin_at client.now recording.old fresh).acts (done result) }
+    ensures files { WritesFiles (F.told files.old) (F.told files.new) (F.given files.old) (F.given files.new)
+        (F.faults files.old) (F.faults files.new)
+        (F.write_faults files.old) (F.write_faults files.new) (begin_at client.now recording.old fresh).acts
+        (done result) }
     ensures file { HasFile (F.told files.new) (F.given files.new) number.new recording.new }
 {
     if !client.state().has_game() {
@@ -183,7 +193,8 @@ pub fn stop<F: Files>(
     requires file { HasFile (F.told files.old) (F.given files.old) number recording.old }
     ensures recording { recording.new ≡ (stop_at recording.old).recording }
     ensures answer { IfOk result (λ answer. answer ≡ (stop_at recording.old).answer) }
-    ensures files { WritesFiles (F.told files.old) (F.told files.new) (F.given files.old) (F.given files.new) (F.faults files.old) (F.faults files.new)
+    ensures files { WritesFiles (F.told files.old) (F.told files.new) (F.given files.old) (F.given files.new)
+        (F.faults files.old) (F.faults files.new)
         (F.write_faults files.old) (F.write_faults files.new) (stop_at recording.old).acts (done result) }
 {
     let Some(going) = recording.take() else {
@@ -207,10 +218,18 @@ pub fn take<F: Files>(
     requires file { HasFile (F.told files.old) (F.given files.old) number recording.old }
     ensures client { client.new ≡ (take_at client.old bytes.now).client }
     ensures log { log.new.commands ≡ (take_at client.old bytes.now).heard }
-    ensures recording { OnOk result (recording.new ≡ (note_taken recording.old client.old (take_at client.old bytes.now)).recording) }
-    ensures answer { IfOk result (λ took. took ≡ ((take_at client.old bytes.now).answer, (note_taken recording.old client.old (take_at client.old bytes.now)).ended)) }
-    ensures files { WritesFiles (F.told files.old) (F.told files.new) (F.given files.old) (F.given files.new) (F.faults files.old) (F.faults files.new)
-        (F.write_faults files.old) (F.write_faults files.new) (note_taken recording.old client.old (take_at client.old bytes.now)).acts (done result) }
+    ensures recording { OnOk result (recording.new ≡ (note_taken recording.old client.old
+        (take_at client.old bytes.now)).recording) }
+    ensures answer { IfOk result
+        (λ took. took ≡ (
+          (take_at client.old bytes.now).answer,
+          (note_taken recording.old client.old
+              (take_at client.old bytes.now)).ended,
+        )) }
+    ensures files { WritesFiles (F.told files.old) (F.told files.new) (F.given files.old) (F.given files.new)
+        (F.faults files.old) (F.faults files.new)
+        (F.write_faults files.old) (F.write_faults files.new)
+        (note_taken recording.old client.old (take_at client.old bytes.now)).acts (done result) }
     ensures file { HasFile (F.told files.new) (F.given files.new) number recording.new }
 {
     let Some(going) = recording else {

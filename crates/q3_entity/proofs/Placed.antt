@@ -9,7 +9,7 @@ use Rattle.std.proofs.lemmas.Option.{slice_get_past, slice_get-get_or}
 use Rattle.q3_entity.specs.declared.state.EntityState.{EntityState}
 use Rattle.q3_entity.specs.Baselines.{most_baselines, no_baselines, set_baselines}
 use Rattle.q3_entity.specs.Entities.{zero_entity}
-use Rattle.q3_entity.specs.KeptBaselines.{nowhere, baselines_in, IsPlaced, ArePlaced, unplaced, count_placed, AreKept}
+use Rattle.q3_entity.specs.KeptBaselines.{nowhere, baselines_in, IsPlaced, unplaced, count_placed, AreKept}
 
 -- ---- how many numbers have a place
 
@@ -75,7 +75,7 @@ counts places states kept =
     (λ i within.
     elim (kept.placed i (omega (arith, within, kept.all))) [
       | inl none ↦ inl none
-      | inr its ↦ inr its.1
+      | inr its ↦ inr its.0
     ]))
 
 -- ---- a state over that of its number
@@ -96,10 +96,10 @@ replaced places states number state kept low own some = elim (kept.placed number
         | inl none ↦ none_there (set states place state) (get_or places k nowhere) (omega (arith, long, few places states kept)) none ∙ sym (none_there states (get_or places k nowhere) (few places states kept) none)
         | inr its ↦
             let p = get_or places k nowhere in
-            let apart : p ≢ place = λ same. other (sym its.2 ∙ ap (λ (n : ℕ). (get_or states n no_state).number) same ∙ there.2) in
-            slice_get-get_or (set states place state) p no_state (omega (arith, its.1, long))
+            let apart : p ≢ place = λ same. other (sym its.1 ∙ ap (λ (n : ℕ). (get_or states n no_state).number) same ∙ there.1) in
+            slice_get-get_or (set states place state) p no_state (omega (arith, its.0, long))
             ∙ ap (λ (s : EntityState). Some s) (get_or-set_other states place p state no_state apart)
-            ∙ sym (slice_get-get_or states p no_state its.1)
+            ∙ sym (slice_get-get_or states p no_state its.0)
       ] in
       record {
         baselines = ext_get_or None (baselines_in places (set states place state)) (set (baselines_in places states) number (Some state))
@@ -110,8 +110,8 @@ replaced places states number state kept low own some = elim (kept.placed number
               | inl same ↦
                   at places (set states place state) k inside
                   ∙ ap (λ (n : ℕ). slice_get (set states place state) (get_or places n nowhere)) same
-                  ∙ slice_get-get_or (set states place state) place no_state (omega (arith, there.1, long))
-                  ∙ ap (λ (s : EntityState). Some s) (get_or-set_same states place state no_state there.1)
+                  ∙ slice_get-get_or (set states place state) place no_state (omega (arith, there.0, long))
+                  ∙ ap (λ (s : EntityState). Some s) (get_or-set_same states place state no_state there.0)
                   ∙ sym (ap (λ (n : ℕ). get_or (set (baselines_in places states) number (Some state)) n None) same
                   ∙ get_or-set_same (baselines_in places states) number (Some state) None (omega (arith, inside, same, length-map places (slice_get states))))
               | inr other ↦
@@ -126,15 +126,14 @@ replaced places states number state kept low own some = elim (kept.placed number
             | inr its ↦
                 let p = get_or places k nowhere in
                 inr (
-                  its.0,
-                  omega (arith, its.1, long),
+                  omega (arith, its.0, long),
                   elim (cases_eq p place) [
                     | inl same ↦
-                        let k_is : k ≡ number = sym its.2 ∙ ap (λ (n : ℕ). (get_or states n no_state).number) same ∙ there.2 in
+                        let k_is : k ≡ number = sym its.1 ∙ ap (λ (n : ℕ). (get_or states n no_state).number) same ∙ there.1 in
                         ap (λ (n : ℕ). (get_or (set states place state) n no_state).number) same
-                        ∙ ap (λ (s : EntityState). s.number) (get_or-set_same states place state no_state there.1)
+                        ∙ ap (λ (s : EntityState). s.number) (get_or-set_same states place state no_state there.0)
                         ∙ own ∙ sym k_is
-                    | inr apart ↦ ap (λ (s : EntityState). s.number) (get_or-set_other states place p state no_state apart) ∙ its.2
+                    | inr apart ↦ ap (λ (s : EntityState). s.number) (get_or-set_other states place p state no_state apart) ∙ its.1
                   ],
                 )
           ];
@@ -182,9 +181,9 @@ added places states number state kept low own none =
                 let shown : slice_get (states ++ state ∷ []) p ≡ slice_get states p = elim (kept.placed k (omega (arith, there, kept.all))) [
                   | inl gone ↦ none_there (states ++ state ∷ []) p (omega (arith, more, room)) gone ∙ sym (none_there states p (omega (arith, room)) gone)
                   | inr its ↦
-                      slice_get-get_or (states ++ state ∷ []) p no_state (omega (arith, its.1, more))
-                      ∙ ap (λ (s : EntityState). Some s) (stays p its.1)
-                      ∙ sym (slice_get-get_or states p no_state its.1)
+                      slice_get-get_or (states ++ state ∷ []) p no_state (omega (arith, its.0, more))
+                      ∙ ap (λ (s : EntityState). Some s) (stays p its.0)
+                      ∙ sym (slice_get-get_or states p no_state its.0)
                 ] in
                 at (set places number count) (states ++ state ∷ []) k here
                 ∙ ap (slice_get (states ++ state ∷ [])) (get_or-set_other places number k count nowhere other)
@@ -196,15 +195,15 @@ added places states number state kept low own none =
         placed = λ k small. elim (cases_eq k number) [
           | inl same ↦
               let here : get_or (set places number count) k nowhere ≡ count = ap (λ (n : ℕ). get_or (set places number count) n nowhere) same ∙ get_or-set_same places number count nowhere inside in
-              subst (IsPlaced (states ++ state ∷ []) 0 k) (sym here)
-              (inr (omega arith, omega (arith, more), ap (λ (s : EntityState). s.number) (get_or_push states state no_state count refl) ∙ own ∙ sym same))
+              subst (IsPlaced (states ++ state ∷ []) k) (sym here)
+              (inr (omega (arith, more), ap (λ (s : EntityState). s.number) (get_or_push states state no_state count refl) ∙ own ∙ sym same))
           | inr other ↦
               let p = get_or places k nowhere in
-              let stood : IsPlaced (states ++ state ∷ []) 0 k p = elim (kept.placed k small) [
+              let stood : IsPlaced (states ++ state ∷ []) k p = elim (kept.placed k small) [
                 | inl gone ↦ inl gone
-                | inr its ↦ inr (its.0, omega (arith, its.1, more), ap (λ (s : EntityState). s.number) (stays p its.1) ∙ its.2)
+                | inr its ↦ inr (omega (arith, its.0, more), ap (λ (s : EntityState). s.number) (stays p its.0) ∙ its.1)
               ] in
-              subst (IsPlaced (states ++ state ∷ []) 0 k) (sym (get_or-set_other places number k count nowhere other)) stood
+              subst (IsPlaced (states ++ state ∷ []) k) (sym (get_or-set_other places number k count nowhere other)) stood
         ];
         below = All-push (λ (s : EntityState). s.number < most_baselines) states state kept.below (omega (arith, own, low));
         count = more ∙ ap (λ (n : ℕ). n + 1) kept.count ∙ sym (count-more places number count inside was is);
@@ -214,9 +213,22 @@ added places states number state kept low own none =
 
 -- ---- all are forgotten
 
+-- a number has no place, or that of its own state, which isn't below `first`
+abbrev IsPlacedFrom : List EntityState → ℕ → ℕ → ℕ → Type 0
+IsPlacedFrom states first number place = (place ≡ nowhere) ⊎ ((first ≤ place) × (place < length states) × ((get_or states place no_state).number ≡ number))
+
+abbrev pub ArePlacedFrom : List ℕ → List EntityState → ℕ → Type 0
+ArePlacedFrom places states first = (number : ℕ) → number < most_baselines → IsPlacedFrom states first number (get_or places number nowhere)
+
+pub placed_from : (places : List ℕ) (states : List EntityState) → AreKept places states → ArePlacedFrom places states 0
+placed_from places states kept number low = elim (kept.placed number low) [
+  | inl none ↦ inl none
+  | inr its ↦ inr (omega arith, its.0, its.1)
+]
+
 -- the place of the next state's number
 pub forgets : (places : List ℕ) (states : List EntityState) (k : ℕ) → length places ≡ most_baselines → All (λ (s : EntityState). s.number < most_baselines) states → k < length states
-    → ArePlaced places states k → ArePlaced (set places (get_or states k no_state).number nowhere) states (k + 1)
+    → ArePlacedFrom places states k → ArePlacedFrom (set places (get_or states k no_state).number nowhere) states (k + 1)
 forgets places states k all below more placed number low =
     let i = (get_or states k no_state).number in
     let inside : i < length places = omega (arith, All-get_or (λ (s : EntityState). s.number < most_baselines) states k no_state more below, all) in
@@ -224,16 +236,16 @@ forgets places states k all below more placed number low =
       | inl same ↦ inl (ap (λ (n : ℕ). get_or (set places i nowhere) n nowhere) same ∙ get_or-set_same places i nowhere nowhere inside)
       | inr other ↦
           let p = get_or places number nowhere in
-          let stood : IsPlaced states (k + 1) number p = elim (placed number low) [
+          let stood : IsPlacedFrom states (k + 1) number p = elim (placed number low) [
             | inl gone ↦ inl gone
             | inr its ↦
                 let apart : p ≢ k = λ same. other (sym its.2 ∙ ap (λ (n : ℕ). (get_or states n no_state).number) same) in
                 inr (omega (arith, its.0, apart), its.1, its.2)
           ] in
-          subst (IsPlaced states (k + 1) number) (sym (get_or-set_other places i number nowhere nowhere other)) stood
+          subst (IsPlacedFrom states (k + 1) number) (sym (get_or-set_other places i number nowhere nowhere other)) stood
     ]
 
-pub forgotten : (places : List ℕ) (states : List EntityState) (k : ℕ) → length places ≡ most_baselines → length states ≤ k → ArePlaced places states k → places ≡ unplaced most_baselines
+pub forgotten : (places : List ℕ) (states : List EntityState) (k : ℕ) → length places ≡ most_baselines → length states ≤ k → ArePlacedFrom places states k → places ≡ unplaced most_baselines
 unfolding unplaced
 forgotten places states k all end placed =
     ext_get_or nowhere places (replicate most_baselines nowhere) (all ∙ sym (length-replicate {A = ℕ} most_baselines nowhere))

@@ -16,12 +16,9 @@ unplaced count = replicate count nowhere
 abbrev pub baselines_in : List ℕ → List EntityState → Baselines
 baselines_in places states = map (slice_get states) places
 
--- a number has no place, or that of its own state, which isn't below `first`
-abbrev pub IsPlaced : List EntityState → ℕ → ℕ → ℕ → Type 0
-IsPlaced states first number place = (place ≡ nowhere) ⊎ ((first ≤ place) × (place < length states) × ((slice_index_or states place (zero_entity 0)).number ≡ number))
-
-abbrev pub ArePlaced : List ℕ → List EntityState → ℕ → Type 0
-ArePlaced places states first = (number : ℕ) → number < most_baselines → IsPlaced states first number (slice_index_or places number nowhere)
+-- a number has no place, or that of its own state
+abbrev pub IsPlaced : List EntityState → ℕ → ℕ → Type 0
+IsPlaced states number place = (place ≡ nowhere) ⊎ ((place < length states) × ((slice_index_or states place (zero_entity 0)).number ≡ number))
 
 -- how many numbers have a place
 unfoldable pub count_placed : List ℕ → ℕ
@@ -31,6 +28,6 @@ count_placed (place ∷ places) = (if place == nowhere then 0 else 1) + count_pl
 -- each number has its own state's place, or none, and there are as many states as numbers with a place
 pub record AreKept (places : List ℕ) (states : List EntityState) : Type 0 where
   pub all : length places ≡ most_baselines
-  pub placed : ArePlaced places states 0
+  pub placed : (number : ℕ) → number < most_baselines → IsPlaced states number (slice_index_or places number nowhere)
   pub below : All (λ state. state.number < most_baselines) states
   pub count : length states ≡ count_placed places

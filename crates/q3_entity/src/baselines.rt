@@ -79,7 +79,7 @@ impl Baselines {
     }
 
     /// How many numbers have a baseline that was set since `new` or the last `clear`.
-    pub fn len(&self) -> u16
+    pub fn count(&self) -> u16
         ensures { result ≡ length (set_baselines self.now) }
     {
         self.states.len() as u16
@@ -107,7 +107,8 @@ fn put(places: &mut Vec<u16>, states: &mut Vec<EntityState>, state: &EntityState
     requires number { state.now.number < most_baselines }
     requires kept { AreKept places.old.items states.old.items }
     requires room { most_baselines ≤ vec_capacity states.old }
-    ensures baselines { baselines_in places.new.items states.new.items ≡ with_baseline (baselines_in places.old.items states.old.items) state.now }
+    ensures baselines { baselines_in places.new.items states.new.items ≡ with_baseline
+        (baselines_in places.old.items states.old.items) state.now }
     ensures kept { AreKept places.new.items states.new.items }
     ensures room { most_baselines ≤ vec_capacity states.new }
 {

@@ -43,7 +43,8 @@ pub fn read_list(
     into: &mut List,
 ) -> Result<(), EntityError>
     requires { Rises (run_of base) }
-    ensures reads { Reads r.old r.new (entity_list_at r.old.words table.now baselines.now (run_of base.entry) r.old.left) (holding into.new.items result) }
+    ensures reads { Reads r.old r.new (entity_list_at r.old.words table.now baselines.now
+        (run_of base.entry) r.old.left) (holding into.new.items result) }
     ensures list { OnOk result (IsList table.now into.new.items) }
 {
     laws::read_was_put();
@@ -66,7 +67,12 @@ fn read_turn<'a>(
 ) -> Result<Cursor<'a>, EntityError>
     requires number { cursor.next + 1 < 2 ^ 16 }
     requires within { cursor.count ≤ length into.old.items }
-    ensures reads { Reads r.old r.new (turn_at r.old.words table.now baselines.now (record { next = cursor.entry.next; base = run_of cursor.entry.base; entities = take cursor.entry.count into.old.items }) r.old.left) (reached into.new.items result) }
+    ensures reads { Reads r.old r.new (turn_at r.old.words table.now baselines.now
+        (record {
+          next = cursor.entry.next;
+          base = run_of cursor.entry.base;
+          entities = take cursor.entry.count into.old.items;
+        }) r.old.left) (reached into.new.items result) }
     ensures within { IfOk result (λ now. now.count ≤ length into.new.items) }
     ensures rises { IfOk result (λ now. cursor.entry.next < now.next) }
     ensures most { IfOk result (λ now. now.next ≤ end_mark table.now) }
@@ -88,8 +94,10 @@ fn read_here(
     into: &mut List,
 ) -> Result<usize, EntityError>
     requires { count ≤ length into.old.items }
-    ensures reads { Reads r.old r.new (entry_at r.old.words table.now (words_from baselines.now number (option_copied found.entry))
-        (is_some (option_copied found.entry)) number (take count into.old.items) r.old.left) (first_of into.new.items result) }
+    ensures reads { Reads r.old r.new (entry_at r.old.words table.now
+        (words_from baselines.now number (option_copied found.entry))
+        (is_some (option_copied found.entry)) number (take count into.old.items) r.old.left)
+        (first_of into.new.items result) }
     ensures within { IfOk result (λ now. now ≤ length into.new.items) }
 {
     match found {
@@ -149,7 +157,8 @@ fn read_next<'a>(
     into: &mut List,
 ) -> Result<Cursor<'a>, EntityError>
     requires { count ≤ length into.old.items }
-    ensures reads { Reads r.old r.new (next_at r.old.words table.now least (run_of base.entry) (take count into.old.items) r.old.left) (reached into.new.items result) }
+    ensures reads { Reads r.old r.new (next_at r.old.words table.now least (run_of base.entry)
+        (take count into.old.items) r.old.left) (reached into.new.items result) }
     ensures within { IfOk result (λ cursor. cursor.count ≤ length into.new.items) }
     ensures code { IsCode r.old.words }
     ensures least { IfOk result (λ cursor. least ≤ cursor.next) }
@@ -173,7 +182,8 @@ fn read_entry(
     into: &mut List,
 ) -> Result<usize, EntityError>
     requires { count ≤ length into.old.items }
-    ensures reads { Reads r.old r.new (entry_at r.old.words table.now from.now.words in_base number (take count into.old.items) r.old.left) (first_of into.new.items result) }
+    ensures reads { Reads r.old r.new (entry_at r.old.words table.now from.now.words in_base number
+        (take count into.old.items) r.old.left) (first_of into.new.items result) }
     ensures within { IfOk result (λ now. now ≤ length into.new.items) }
 {
     // there are never more
@@ -197,7 +207,8 @@ fn read_place(
 ) -> Result<usize, EntityError>
     requires place { count < length entities.old }
     requires few { length entities.old ≤ most_entities }
-    ensures reads { Reads r.old r.new (entry_at r.old.words table.now from.now.words in_base number (take count entities.old) r.old.left) (first_of entities.new result) }
+    ensures reads { Reads r.old r.new (entry_at r.old.words table.now from.now.words in_base number
+        (take count entities.old) r.old.left) (first_of entities.new result) }
     ensures within { IfOk result (λ now. now ≤ length entities.new) }
 {
     let place = &mut entities[count];
@@ -216,7 +227,9 @@ fn read_beyond(
     in_base: bool,
     number: u16,
 ) -> Result<usize, EntityError>
-    ensures reads { (entities : List EntityState) → length entities ≡ most_entities → Reads r.old r.new (entry_at r.old.words table.now from.now.words in_base number entities r.old.left) (first_of entities result) }
+    ensures reads { (entities : List EntityState) → length entities ≡ most_entities
+        → Reads r.old r.new (entry_at r.old.words table.now from.now.words in_base number entities r.old.left)
+        (first_of entities result) }
     ensures same { IfOk result (λ now. now ≡ most_entities) }
 {
     let mut beyond = EntityState {
@@ -271,7 +284,8 @@ fn keep_below<'a>(
     into: &mut List,
 ) -> Result<(Run<'a>, usize), EntityError>
     requires { count ≤ length into.old.items }
-    ensures kept { with_kept into.new.items result ≡ kept_below number (take count into.old.items) (run_of base.entry) }
+    ensures kept { with_kept into.new.items result ≡ kept_below number (take count into.old.items)
+        (run_of base.entry) }
     ensures within { IfOk result (λ kept. kept.1 ≤ length into.new.items) }
 {
     let (head, count) = keep_front(base.head, number, count, into)?;
@@ -293,9 +307,11 @@ fn keep_front<'a>(
     into: &mut List,
 ) -> Result<(&'a [EntityState], usize), EntityError>
     requires { count ≤ length into.old.items }
-    ensures kept { IfOk result (λ kept. KeepsFront number (take count into.old.items) part.now (take kept.1 into.new.items) kept.0.now) }
+    ensures kept { IfOk result (λ kept. KeepsFront number (take count into.old.items) part.now
+        (take kept.1 into.new.items) kept.0.now) }
     ensures within { IfOk result (λ kept. kept.1 ≤ length into.new.items) }
-    ensures many { IfErr result (λ e. (behind : List EntityState) → kept_below number (take count into.old.items) (part.now ++ behind) ≡ Err e) }
+    ensures many { IfErr result (λ e. (behind : List EntityState)
+        → kept_below number (take count into.old.items) (part.now ++ behind) ≡ Err e) }
 {
     let below = count_below(part, number);
     if below == 0 {

@@ -27,7 +27,8 @@ pub fn write_list(
 ) -> Result<(), Overflow>
     requires base { IsList table.now (run_of base) }
     requires now { IsList table.now now.now }
-    ensures { Writes w.old w.new (entity_list_bits w.old.words table.now baselines.now (run_of base.entry) now.now) result }
+    ensures { Writes w.old w.new (entity_list_bits w.old.words table.now baselines.now (run_of base.entry) now.now)
+        result }
 {
     write_run(w, table, baselines, base, Run::of(now))
 }
@@ -42,7 +43,8 @@ pub fn write_run(
 ) -> Result<(), Overflow>
     requires base { IsList table.now (run_of base) }
     requires now { IsList table.now (run_of now) }
-    ensures { Writes w.old w.new (entity_list_bits w.old.words table.now baselines.now (run_of base.entry) (run_of now.entry)) result }
+    ensures { Writes w.old w.new (entity_list_bits w.old.words table.now baselines.now (run_of base.entry)
+        (run_of now.entry)) result }
 {
     laws::texts_are_written();
     // what stands there fits the room
@@ -75,7 +77,8 @@ fn write_entry<'a>(
     base: Run<'a>,
     entity: &EntityState,
 ) -> Result<Run<'a>, Overflow>
-    ensures writes { Writes w.old w.new (entry_bits w.old.words table.now baselines.now (run_of base.entry) entity.now) (done result) }
+    ensures writes { Writes w.old w.new (entry_bits w.old.words table.now baselines.now
+        (run_of base.entry) entity.now) (done result) }
     ensures left { IfOk result (λ left. run_of left ≡ left_behind entity.now (run_of base.entry)) }
 {
     let (from, others) = take_number(base, entity.number);
@@ -94,7 +97,8 @@ fn write_behind<'a>(
     base: Run<'a>,
     entity: &EntityState,
 ) -> Result<Run<'a>, Overflow>
-    ensures writes { Writes w.old w.new (entry_bits w.old.words table.now baselines.now (run_of base.entry) entity.now) (done result) }
+    ensures writes { Writes w.old w.new (entry_bits w.old.words table.now baselines.now
+        (run_of base.entry) entity.now) (done result) }
     ensures left { IfOk result (λ left. run_of left ≡ left_behind entity.now (run_of base.entry)) }
 {
     laws::texts_are_written();
@@ -136,7 +140,8 @@ fn write_present(
     from: Option<&EntityState>,
     entity: &EntityState,
 ) -> Result<(), Overflow>
-    ensures { Writes w.old w.new (piece w.old.words table.now baselines.now entity.now.number (option_copied from.entry) (Some entity.now)) result }
+    ensures { Writes w.old w.new (piece w.old.words table.now baselines.now entity.now.number
+        (option_copied from.entry) (Some entity.now)) result }
 {
     match from {
         Some(from) => write_entity(w, table, from, entity, false),

@@ -30,7 +30,8 @@ pub fn read_entity(
     from: &EntityState,
     into: &mut EntityState,
 ) -> Result<Entry, EntityError>
-    ensures reads { Reads r.old r.new (entity_at r.old.words table.now from.now.words r.old.left) (with_words into.new.words result) }
+    ensures reads { Reads r.old r.new (entity_at r.old.words table.now from.now.words r.old.left)
+        (with_words into.new.words result) }
     ensures number { into.new.number ≡ into.old.number }
 {
     into.words = from.words;

@@ -66,7 +66,8 @@ fn write_changed(
 
 /// Writes an entity's number, and two marks after it, as the bits of a number, least first.
 fn write_opening(w: &mut Writer, table: &Table, number: u16, marks: u32) -> Result<(), Overflow>
-    ensures { Writes w.old w.new (opening w.old.words table.now number ((marks % 2, 1) ∷ (marks / 2, 1) ∷ [])) result }
+    ensures { Writes w.old w.new (opening w.old.words table.now number ((marks % 2, 1) ∷ (marks / 2, 1) ∷ []))
+        result }
 {
     laws::texts_are_written();
     w.put(u32::from(number), u32::from(table.bits()))?;

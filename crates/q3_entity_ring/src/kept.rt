@@ -67,7 +67,8 @@ impl Places {
     /// Keeps a snapshot's head, with how many entities were placed before its own, how many it has, and how many were counted
     /// before them. What stood in the place of its number is gone.
     pub fn keep(&mut self, head: &SnapHead, first: u64, count: usize, counted: u64)
-        ensures { self.new ≡ put_at_number self.old head.now.number (record { head = head.now; first = first; count = count; counted = counted }) }
+        ensures { self.new ≡ put_at_number self.old head.now.number
+            (record { head = head.now; first = first; count = count; counted = counted }) }
     {
         self.places[(head.number % PLACES) as usize] = Some(Kept {
             head: copy_head(head),

@@ -192,7 +192,8 @@ fn put_round(cells: &mut Vec<EntityState>, room: usize, start: usize, entities: 
 fn put_at(cells: &mut Vec<EntityState>, place: usize, entities: &[EntityState])
     requires within { place ≤ length cells.old.items }
     requires room { place + length entities.now ≤ vec_capacity cells.old }
-    ensures cells { cells.new.items ≡ take place cells.old.items ++ entities.now ++ drop (place + length entities.now) cells.old.items }
+    ensures cells { cells.new.items ≡ take place cells.old.items ++ entities.now ++ drop
+        (place + length entities.now) cells.old.items }
     ensures room { vec_capacity cells.old ≤ vec_capacity cells.new }
 {
     let inside = entities.len().min(cells.len() - place);
@@ -203,7 +204,8 @@ fn put_at(cells: &mut Vec<EntityState>, place: usize, entities: &[EntityState])
 /// Puts entities into the places from one on, all of which were written.
 fn put_over(cells: &mut Vec<EntityState>, place: usize, entities: &[EntityState])
     requires within { place + length entities.now ≤ length cells.old.items }
-    ensures cells { cells.new.items ≡ take place cells.old.items ++ entities.now ++ drop (place + length entities.now) cells.old.items }
+    ensures cells { cells.new.items ≡ take place cells.old.items ++ entities.now ++ drop
+        (place + length entities.now) cells.old.items }
     ensures room { vec_capacity cells.new ≡ vec_capacity cells.old }
 {
     cells[place..place + entities.len()].copy_from_slice(entities);

@@ -91,7 +91,8 @@ pub fn agree(from: &[u32], to: &[u32]) -> bool
 /// Takes blocks that agree off the end of the first words, so many, and answers how many are left.
 fn changed_blocks(from: &[u32; 64], to: &[u32; 64], count: usize) -> usize
     requires { count ≤ 64 }
-    ensures changed { last_changed (take result from.now) (take result to.now) ≡ last_changed (take count from.now) (take count to.now) }
+    ensures changed { last_changed (take result from.now) (take result to.now) ≡ last_changed (take count from.now)
+        (take count to.now) }
     ensures most { result ≤ count }
 {
     let mut left = count;
@@ -157,7 +158,9 @@ pub fn write_numbered(
     requires short { mark.1 ≤ 7 }
     requires in_table { count ≤ length table.now.kinds }
     requires few { count ≤ 64 }
-    ensures { Writes w.old w.new (field_bits w.old.words number.1 number.0 ++ (field_bits w.old.words mark.1 mark.0 ++ counted_bits state w.old.words table.now.kinds count from.now to.now)) result }
+    ensures { Writes w.old w.new (field_bits w.old.words number.1 number.0
+        ++ (field_bits w.old.words mark.1 mark.0 ++ counted_bits state w.old.words table.now.kinds count from.now
+        to.now)) result }
 {
     laws::texts_are_written();
     w.put_three(number, mark, (count as u32, BYTE))?;
@@ -224,7 +227,8 @@ pub fn read_counted(
     table: &Table,
     words: &mut [u32; 64],
 ) -> Result<(), DeltaError>
-    ensures { Reads r.old r.new (words_at state r.old.words table.now.kinds words.old r.old.left) (holding words.new result) }
+    ensures { Reads r.old r.new (words_at state r.old.words table.now.kinds words.old r.old.left)
+        (holding words.new result) }
 {
     let count = usize::from(r.get_byte()?);
     if count > table.count() {
@@ -245,7 +249,8 @@ fn read_fields(
 ) -> Result<(), ReadError>
     requires in_table { count ≤ length table.now.kinds }
     requires few { count ≤ 64 }
-    ensures { Reads r.old r.new (fields_at state r.old.words (take count table.now.kinds) words.old r.old.left) (holding words.new result) }
+    ensures { Reads r.old r.new (fields_at state r.old.words (take count table.now.kinds) words.old r.old.left)
+        (holding words.new result) }
 {
     laws::lists_are_read();
     laws::marks_are_bits();

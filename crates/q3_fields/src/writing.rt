@@ -77,7 +77,8 @@ pub(crate) fn write_marked(
 fn write_float(w: &mut Writer, mark: u32, count: u32, word: u32) -> Result<(), Overflow>
     requires few { count ≤ 6 }
     requires fits { mark < 2 ^ count }
-    ensures { Writes w.old w.new (field_bits w.old.words count mark ++ float_bits w.old.words word (small_float word)) result }
+    ensures { Writes w.old w.new (field_bits w.old.words count mark ++ float_bits w.old.words word (small_float word))
+        result }
 {
     laws::marks_are_joined();
     let Some(carried) = carried_in_13(word) else {

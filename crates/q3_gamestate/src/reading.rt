@@ -37,7 +37,8 @@ pub fn read_gamestate(
     baselines: &mut Baselines,
     string: &mut BigString,
 ) -> Result<Numbers, GamestateError>
-    ensures { Reads r.old r.new (gamestate_at (record profile.now { code = r.old.words }) r.old.left) (with_settings configs.new baselines.new result) }
+    ensures { Reads r.old r.new (gamestate_at (record profile.now { code = r.old.words }) r.old.left)
+        (with_settings configs.new baselines.new result) }
 {
     configs.clear();
     baselines.clear();
@@ -64,7 +65,8 @@ fn read_settings(
     string: &mut BigString,
 ) -> Result<(), GamestateError>
     requires { IsCode r.old.words }
-    ensures { Reads r.old r.new (settings_at (record profile.now { code = r.old.words }) (length r.old.left) configs.old baselines.old r.old.left)
+    ensures { Reads r.old r.new (settings_at (record profile.now { code = r.old.words })
+        (length r.old.left) configs.old baselines.old r.old.left)
         (holding (configs.new, baselines.new) result) }
 {
     laws::read_was_put();
@@ -111,7 +113,8 @@ fn read_baseline(
     profile: &Profile,
     baselines: &mut Baselines,
 ) -> Result<(), GamestateError>
-    ensures { Reads r.old r.new (baseline_at (record profile.now { code = r.old.words }) baselines.old r.old.left) (holding baselines.new result) }
+    ensures { Reads r.old r.new (baseline_at (record profile.now { code = r.old.words }) baselines.old r.old.left)
+        (holding baselines.new result) }
 {
     let number = r.get(u32::from(profile.entity.bits()))? as u16;
     if number == profile.entity.end() {

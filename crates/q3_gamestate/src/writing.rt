@@ -27,7 +27,8 @@ pub fn write_gamestate(
     configs: &Configs,
     baselines: &Baselines,
 ) -> Result<(), Overflow>
-    ensures { Writes w.old w.new (gamestate_bits (record profile.now { code = w.old.words }) (gamestate_of numbers configs.now baselines.now)) result }
+    ensures { Writes w.old w.new (gamestate_bits (record profile.now { code = w.old.words })
+        (gamestate_of numbers configs.now baselines.now)) result }
 {
     laws::texts_are_written();
     w.put_all(&[(GAMESTATE, BYTE), (numbers.command, LONG)])?;
@@ -38,7 +39,8 @@ pub fn write_gamestate(
 
 /// Writes config strings, by index.
 fn write_configs(w: &mut Writer, configs: &Configs) -> Result<(), Overflow>
-    ensures { Writes w.old w.new (numbered places 0 (λ index. config_bits w.old.words index (string_at configs.now index))) result }
+    ensures { Writes w.old w.new (numbered places 0 (λ index. config_bits w.old.words index
+        (string_at configs.now index))) result }
 {
     laws::texts_are_written();
     // what stands there fits the room
@@ -65,7 +67,8 @@ fn write_config(w: &mut Writer, index: u32, text: &[u8]) -> Result<(), Overflow>
 
 /// Writes baselines, by number.
 fn write_baselines(w: &mut Writer, table: &Table, baselines: &Baselines) -> Result<(), Overflow>
-    ensures { Writes w.old w.new (numbered most_baselines 0 (λ number. baseline_bits w.old.words table.now (set_at baselines.now number))) result }
+    ensures { Writes w.old w.new (numbered most_baselines 0
+        (λ number. baseline_bits w.old.words table.now (set_at baselines.now number))) result }
 {
     laws::texts_are_written();
     // what stands there fits the room

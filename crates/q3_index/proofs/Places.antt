@@ -10,7 +10,7 @@ use Rattle.q3_fields.specs.Kinds.{Layout}
 use Rattle.q3_profile.specs.declared.profile.Profile.{Profile}
 use Rattle.q3_rings.specs.Rings.{HeldSnapshots}
 use Rattle.q3_savestate.specs.Cursor.{Cursor, Field, behind, field_at, number_at, end_at}
-use Rattle.q3_savestate.specs.Entities.{words_at, state_words_at, entity_at, entities_at, lines_at}
+use Rattle.q3_savestate.specs.Entities.{words_at, state_words_at, entity_at, entities_at, baselines_at}
 use Rattle.q3_savestate.specs.Texts.{strings_after, strings_at, some_pending_at, pending_at}
 use Rattle.q3_savestate.specs.Snapshots.{numbers_at, shorts_at, player_at, head_at, snapshot_at, snapshots_after, snapshots_at}
 use Rattle.q3_savestate.specs.State.{start_at, flag_at, state_at}
@@ -69,9 +69,9 @@ unfolding entities_at
 entities_stay end table zero least cursor is = ok_stays end [] cursor is
 entities_stay end table (suc count) least cursor is = search (then_stays, ok_stays, entity_stays, entities_stay end table count)
 
-lines_stay : (end : ℕ) (table : Layout) (cursor : Cursor) → Ends end cursor → Stays end (lines_at table cursor)
-unfolding lines_at
-lines_stay end table cursor is = search (then_stays, field_stays, ok_stays, entities_stay)
+baselines_stay : (end : ℕ) (table : Layout) (cursor : Cursor) → Ends end cursor → Stays end (baselines_at table cursor)
+unfolding baselines_at
+baselines_stay end table cursor is = search (then_stays, field_stays, ok_stays, entities_stay)
 
 -- ---- strings
 
@@ -152,7 +152,7 @@ state_refuses : (profile : Profile) (bytes : List ℕ) (cursor : Cursor) → cur
 unfolding state_at
 state_refuses profile bytes cursor first is =
     let here : Ends (length bytes) (record { at = 0; bytes = bytes }) = omega arith in
-    search (then_refuses, end_refuses, start_stays, pending_stays, flag_stays, strings_stay, lines_stay, snapshots_stay) depth 12
+    search (then_refuses, end_refuses, start_stays, pending_stays, flag_stays, strings_stay, baselines_stay, snapshots_stay) depth 12
 
 pub refused_within : (profile : Profile) (bytes : List ℕ) (place : ℕ) → state_at profile bytes ≡ Err place → place ≤ length bytes
 refused_within profile bytes place is = (state_refuses profile bytes (record { at = 0; bytes = bytes }) refl (omega arith)).refused place is

@@ -42,8 +42,10 @@ pub fn build_index<F: Files>(
     requires most { profile.now.parse_ring ≤ 65536 }
     requires demo { demo < F.given files.old }
     requires index { index < F.given files.old }
-    requires other { (told : Told) → F.told files.old ≡ Some told → (name_of told demo ≢ name_of told index) × (contents_of told.files (name_of told index) ≡ Some []) }
-    ensures builds { (told : Told) → F.told files.old ≡ Some told → Builds profile.now told demo index (F.told files.new) result }
+    requires other { (told : Told) → F.told files.old ≡ Some told
+        → (name_of told demo ≢ name_of told index) × (contents_of told.files (name_of told index) ≡ Some []) }
+    ensures builds { (told : Told) → F.told files.old ≡ Some told
+        → Builds profile.now told demo index (F.told files.new) result }
     ensures spaced { IfOk result (λ built. built.checkpoints ≡ built.records / spacing) }
     ensures untold { F.told files.old ≡ None → F.told files.new ≡ None }
     ensures given { F.given files.new ≡ F.given files.old }
@@ -75,7 +77,8 @@ fn count_records<F: Files>(
     requires most { profile.now.parse_ring ≤ 65536 }
     requires demo { demo < F.given files.old }
     ensures counts { (told : Told) → F.told files.old ≡ Some told
-        → Counts (play_of profile.now (contents_at told demo)).ending (length (records_of profile.now (contents_at told demo))) result }
+        → Counts (play_of profile.now (contents_at told demo)).ending
+        (length (records_of profile.now (contents_at told demo))) result }
     ensures few { IfOk result (λ records. records ≤ most_records) }
     ensures given { F.given files.new ≡ F.given files.old }
     ensures asks { OnlyAsks (F.told files.old) (F.told files.new) }
@@ -91,8 +94,10 @@ fn count_records<F: Files>(
 /// Plays the next record of all, if there is one.
 fn count_next<F: Files>(player: &mut Player, files: &mut F, demo: usize) -> Result<bool, DemoError>
     requires demo { demo < F.given files.old }
-    ensures counts { (told : Told) → F.told files.old ≡ Some told → CountsNext (step_of_all (contents_at told demo) player.old.played) player.new.played result }
-    ensures more { result ≡ Ok true → (player.new.played.records ≡ player.old.played.records + 1) × (player.old.played.records < most_records) }
+    ensures counts { (told : Told) → F.told files.old ≡ Some told
+        → CountsNext (step_of_all (contents_at told demo) player.old.played) player.new.played result }
+    ensures more { result ≡ Ok true → (player.new.played.records ≡ player.old.played.records + 1)
+        × (player.old.played.records < most_records) }
     ensures end { result ≡ Ok false → player.new.played ≡ player.old.played }
     ensures given { F.given files.new ≡ F.given files.old }
     ensures asks { OnlyAsks (F.told files.old) (F.told files.new) }
@@ -114,7 +119,8 @@ fn write_head<F: Files>(
 ) -> Result<(), DemoError>
     requires index { index < F.given files.old }
     requires checkpoints { built.checkpoints ≡ built.records / spacing }
-    ensures writes { (told : Told) → F.told files.old ≡ Some told → Extends told (F.told files.new) index (head_bytes Version.Second length mark width built.records) result }
+    ensures writes { (told : Told) → F.told files.old ≡ Some told
+        → Extends told (F.told files.new) index (head_bytes Version.Second length mark width built.records) result }
     ensures untold { F.told files.old ≡ None → F.told files.new ≡ None }
     ensures given { F.given files.new ≡ F.given files.old }
     ensures count { BuildWrites (F.write_faults files.old) (F.write_faults files.new) result }
@@ -144,9 +150,11 @@ fn write_checkpoints<F: Files>(
     requires demo { demo < F.given files.old }
     requires index { index < F.given files.old }
     requires few { checkpoints * spacing ≤ most_records }
-    ensures writes { (told : Told) → F.told files.old ≡ Some told → HasIndex told index → name_of told demo ≢ name_of told index
+    ensures writes { (told : Told) → F.told files.old ≡ Some told → HasIndex told index
+        → name_of told demo ≢ name_of told index
         → checkpoints ≡ length (records_of profile.now (contents_at told demo)) / spacing
-        → Extends told (F.told files.new) index (checkpoints_bytes profile.now (records_of profile.now (contents_at told demo))) result }
+        → Extends told (F.told files.new) index (checkpoints_bytes profile.now
+        (records_of profile.now (contents_at told demo))) result }
     ensures untold { F.told files.old ≡ None → F.told files.new ≡ None }
     ensures given { F.given files.new ≡ F.given files.old }
     ensures cause { BuildCause (F.faults files.old) (F.faults files.new) result }
@@ -176,8 +184,10 @@ fn write_next<F: Files>(
     requires few { player.old.played.records < most_records }
     requires aged { IsAged player.old.played }
     ensures writes { (told : Told) → F.told files.old ≡ Some told → HasIndex told index
-        → WritesNext player.old.played.state.profile told (F.told files.new) index (step (contents_at told demo) player.old.played) player.new.played result }
-    ensures more { result ≡ Ok true → (player.new.played.records ≡ player.old.played.records + 1) × IsAged player.new.played
+        → WritesNext player.old.played.state.profile told (F.told files.new) index
+        (step (contents_at told demo) player.old.played) player.new.played result }
+    ensures more { result ≡ Ok true → (player.new.played.records ≡ player.old.played.records + 1)
+        × IsAged player.new.played
         × (player.new.played.state.profile ≡ player.old.played.state.profile) }
     ensures untold { F.told files.old ≡ None → F.told files.new ≡ None }
     ensures given { F.given files.new ≡ F.given files.old }
@@ -198,8 +208,10 @@ fn play_next<F: Files>(player: &mut Player, files: &mut F, demo: usize) -> Resul
     requires demo { demo < F.given files.old }
     requires few { player.old.played.records < most_records }
     requires aged { IsAged player.old.played }
-    ensures plays { (told : Told) → F.told files.old ≡ Some told → CountsNext (step (contents_at told demo) player.old.played) player.new.played result }
-    ensures more { result ≡ Ok true → (player.new.played.records ≡ player.old.played.records + 1) × IsAged player.new.played
+    ensures plays { (told : Told) → F.told files.old ≡ Some told
+        → CountsNext (step (contents_at told demo) player.old.played) player.new.played result }
+    ensures more { result ≡ Ok true → (player.new.played.records ≡ player.old.played.records + 1)
+        × IsAged player.new.played
         × (player.new.played.state.profile ≡ player.old.played.state.profile) }
     ensures given { F.given files.new ≡ F.given files.old }
     ensures asks { OnlyAsks (F.told files.old) (F.told files.new) }
@@ -229,7 +241,8 @@ fn write_checkpoint<F: Files>(
     requires index { index < F.given files.old }
     requires ages { HasAges player.now.played.state.held }
     ensures writes { (told : Told) → F.told files.old ≡ Some told → HasIndex told index
-        → Extends told (F.told files.new) index (checkpoint_bytes player.now.played.state.profile player.now.played) result }
+        → Extends told (F.told files.new) index (checkpoint_bytes player.now.played.state.profile player.now.played)
+        result }
     ensures untold { F.told files.old ≡ None → F.told files.new ≡ None }
     ensures given { F.given files.new ≡ F.given files.old }
     ensures count { BuildWrites (F.write_faults files.old) (F.write_faults files.new) result }
@@ -251,7 +264,8 @@ fn write_numbers<F: Files>(
     index: usize,
 ) -> Result<(), DemoError>
     requires index { index < F.given files.old }
-    ensures writes { (told : Told) → F.told files.old ≡ Some told → Extends told (F.told files.new) index (numbers_bytes records place length) result }
+    ensures writes { (told : Told) → F.told files.old ≡ Some told
+        → Extends told (F.told files.new) index (numbers_bytes records place length) result }
     ensures untold { F.told files.old ≡ None → F.told files.new ≡ None }
     ensures given { F.given files.new ≡ F.given files.old }
     ensures count { BuildWrites (F.write_faults files.old) (F.write_faults files.new) result }
@@ -266,7 +280,8 @@ fn write_numbers<F: Files>(
 /// Puts bytes behind those of the index.
 fn append<F: Files>(files: &mut F, index: usize, bytes: &[u8]) -> Result<(), DemoError>
     requires index { index < F.given files.old }
-    ensures writes { (told : Told) → F.told files.old ≡ Some told → Extends told (F.told files.new) index bytes.now result }
+    ensures writes { (told : Told) → F.told files.old ≡ Some told
+        → Extends told (F.told files.new) index bytes.now result }
     ensures untold { F.told files.old ≡ None → F.told files.new ≡ None }
     ensures given { F.given files.new ≡ F.given files.old }
     ensures count { BuildWrites (F.write_faults files.old) (F.write_faults files.new) result }

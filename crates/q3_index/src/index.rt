@@ -51,7 +51,12 @@ impl Model for Index {
 
     ghost Value = { IndexState };
 
-    ghost view = { λ i. record { demo = i.demo; index = i.index; records = i.records; checkpoints = i.checkpoints.items } };
+    ghost view = { λ i. record {
+      demo = i.demo;
+      index = i.index;
+      records = i.records;
+      checkpoints = i.checkpoints.items;
+    } };
 
     ghost invariant = { λ i. ArePlaced i.checkpoints.items };
 }
@@ -80,15 +85,24 @@ impl Index {
         requires most { profile.now.parse_ring ≤ 65536 }
         requires demo { self.now.demo < F.given files.old }
         requires index { self.now.index < F.given files.old }
-        ensures seeks { (told : Told) → F.told files.old ≡ Some told → Seeks profile.now self.now (contents_at told self.now.demo) (contents_at told self.now.index) number result }
-        ensures plays { (told : Told) → F.told files.old ≡ Some told → IsMade profile.now self.now (contents_at told self.now.demo) (contents_at told self.now.index)
-            → number ≤ length (records_of profile.now (contents_at told self.now.demo)) → PlaysSo profile.now (contents_at told self.now.demo) number result }
-        ensures cost { IsTrue F.reads_whole → self.now.demo ≢ self.now.index → (told : Told) → F.told files.old ≡ Some told → (start played : Played)
+        ensures seeks { (told : Told) → F.told files.old ≡ Some told
+            → Seeks profile.now self.now (contents_at told self.now.demo)
+            (contents_at told self.now.index) number result }
+        ensures plays { (told : Told) → F.told files.old ≡ Some told
+            → IsMade profile.now self.now (contents_at told self.now.demo) (contents_at told self.now.index)
+            → number ≤ length (records_of profile.now (contents_at told self.now.demo))
+            → PlaysSo profile.now (contents_at told self.now.demo) number result }
+        ensures cost { IsTrue F.reads_whole → self.now.demo ≢ self.now.index → (told : Told)
+            → F.told files.old ≡ Some told → (start played : Played)
             → start_at profile.now (contents_at told self.now.index) self.now.checkpoints number ≡ Ok start
-            → seek_at profile.now (contents_at told self.now.demo) (contents_at told self.now.index) self.now.records self.now.checkpoints number ≡ Ok played
-            → asked_of (F.told files.new) self.now.demo + start.at ≤ asked_of (F.told files.old) self.now.demo + played.at }
-        ensures cheap { IsTrue F.reads_whole → self.now.demo ≢ self.now.index → (told : Told) → F.told files.old ≡ Some told
-            → IsMade profile.now self.now (contents_at told self.now.demo) (contents_at told self.now.index) → number ≤ length (records_of profile.now (contents_at told self.now.demo))
+            → seek_at profile.now (contents_at told self.now.demo)
+            (contents_at told self.now.index) self.now.records self.now.checkpoints number ≡ Ok played
+            → asked_of (F.told files.new) self.now.demo + start.at ≤ asked_of
+            (F.told files.old) self.now.demo + played.at }
+        ensures cheap { IsTrue F.reads_whole → self.now.demo ≢ self.now.index → (told : Told)
+            → F.told files.old ≡ Some told
+            → IsMade profile.now self.now (contents_at told self.now.demo) (contents_at told self.now.index)
+            → number ≤ length (records_of profile.now (contents_at told self.now.demo))
             → asked_of (F.told files.new) self.now.demo
             ≤ asked_of (F.told files.old) self.now.demo + bytes_between profile.now (contents_at told self.now.demo) (spacing * (number / spacing)) number }
         ensures past { self.now.records < number → result ≡ Err (SeekError.PastEnd self.now.records) }
@@ -121,7 +135,8 @@ impl Index {
         requires most { profile.now.parse_ring ≤ 65536 }
         requires index { self.now.index < F.given files.old }
         ensures starts { (told : Told) → F.told files.old ≡ Some told
-            → Answers played_by (start_at profile.now (contents_at told self.now.index) self.now.checkpoints number) result }
+            → Answers played_by (start_at profile.now (contents_at told self.now.index) self.now.checkpoints number)
+            result }
         ensures few { IfOk result (λ player. player.played.records ≤ number) }
         ensures refusal { IfErr result RefusesDemo }
         ensures given { F.given files.new ≡ F.given files.old }
@@ -171,7 +186,8 @@ fn restore<F: Files>(
     requires most { profile.now.parse_ring ≤ 65536 }
     requires index { index < F.given files.old }
     requires placed { IsPlaced checkpoint }
-    ensures restores { (told : Told) → F.told files.old ≡ Some told → Answers played_by (restored profile.now (contents_at told index) records checkpoint) result }
+    ensures restores { (told : Told) → F.told files.old ≡ Some told
+        → Answers played_by (restored profile.now (contents_at told index) records checkpoint) result }
     ensures records { IfOk result (λ player. player.played.records ≡ records) }
     ensures refusal { IfErr result RefusesDemo }
     ensures given { F.given files.new ≡ F.given files.old }
@@ -197,7 +213,8 @@ fn read_state<F: Files>(
     requires most { profile.now.parse_ring ≤ 65536 }
     requires index { index < F.given files.old }
     requires placed { IsPlaced checkpoint }
-    ensures reads { (told : Told) → F.told files.old ≡ Some told → Answers saved_in (saved_at profile.now (contents_at told index) checkpoint) result }
+    ensures reads { (told : Told) → F.told files.old ≡ Some told
+        → Answers saved_in (saved_at profile.now (contents_at told index) checkpoint) result }
     ensures profile { IfOk result (λ state. state.profile ≡ profile.now) }
     ensures refusal { IfErr result RefusesDemo }
     ensures given { F.given files.new ≡ F.given files.old }
@@ -230,7 +247,8 @@ fn go_on<F: Files>(
     requires demo { demo < F.given files.old }
     requires few { player.old.played.records ≤ number }
     ensures goes { (told : Told) → F.told files.old ≡ Some told
-        → Answers (λ _. player.new.played) (fault_as SeekError.Demo (play_first (number - player.old.played.records) (contents_at told demo) player.old.played)) result }
+        → Answers (λ _. player.new.played) (fault_as SeekError.Demo
+        (play_first (number - player.old.played.records) (contents_at told demo) player.old.played)) result }
     ensures refusal { IfErr result RefusesDemo }
     ensures given { F.given files.new ≡ F.given files.old }
     ensures asks { OnlyAsks (F.told files.old) (F.told files.new) }
@@ -250,13 +268,16 @@ fn go_on<F: Files>(
 fn play_next<F: Files>(player: &mut Player, files: &mut F, demo: usize) -> Result<(), SeekError>
     requires demo { demo < F.given files.old }
     requires few { player.old.played.records < 4294967295 }
-    ensures plays { (told : Told) → F.told files.old ≡ Some told → Answers (λ _. player.new.played) (play_one (contents_at told demo) player.old.played) result }
+    ensures plays { (told : Told) → F.told files.old ≡ Some told
+        → Answers (λ _. player.new.played) (play_one (contents_at told demo) player.old.played) result }
     ensures records { OnOk result (player.new.played.records ≡ player.old.played.records + 1) }
     ensures refusal { IfErr result RefusesDemo }
     ensures given { F.given files.new ≡ F.given files.old }
     ensures asks { OnlyAsks (F.told files.old) (F.told files.new) }
-    ensures cost { IsTrue F.reads_whole → (told : Told) → F.told files.old ≡ Some told → (stepped : Stepped) → step (contents_at told demo) player.old.played ≡ Ok (Some stepped)
-        → asked_of (F.told files.new) demo + player.old.played.at ≤ asked_of (F.told files.old) demo + stepped.played.at }
+    ensures cost { IsTrue F.reads_whole → (told : Told) → F.told files.old ≡ Some told → (stepped : Stepped)
+        → step (contents_at told demo) player.old.played ≡ Ok (Some stepped)
+        → asked_of (F.told files.new) demo + player.old.played.at ≤ asked_of
+        (F.told files.old) demo + stepped.played.at }
     ensures cause { SeekCause (F.faults files.old) (F.faults files.new) result }
     ensures others { F.write_faults files.new ≡ F.write_faults files.old }
 {

@@ -81,7 +81,8 @@ pub fn open_index<F: Files>(
     requires demo { demo < F.given files.old }
     requires index { index < F.given files.old }
     ensures opens { (told : Told) → F.told files.old ≡ Some told
-        → Opens demo index (open_at (length (contents_at told demo)) profile.now.mark profile.now.entity.number_bits (contents_at told index)) result }
+        → Opens demo index (open_at (length (contents_at told demo)) profile.now.mark profile.now.entity.number_bits
+        (contents_at told index)) result }
     ensures given { F.given files.new ≡ F.given files.old }
     ensures asks { OnlyAsks (F.told files.old) (F.told files.new) }
     ensures nothing { AsksNothing demo index (F.told files.old) (F.told files.new) }
@@ -122,7 +123,8 @@ pub fn open_index<F: Files>(
 fn read_head<F: Files>(files: &mut F, index: usize, end: u64) -> Result<Head, IndexError>
     requires index { index < F.given files.old }
     ensures reads { (told : Told) → F.told files.old ≡ Some told → end ≡ length (contents_at told index)
-        → Reads (λ head. (head, from_place (contents_at told index) (head_size head.version))) (head_at (from_place (contents_at told index) 0)) result }
+        → Reads (λ head. (head, from_place (contents_at told index) (head_size head.version)))
+        (head_at (from_place (contents_at told index) 0)) result }
     ensures count { IfOk result (λ head. head.count ≡ head.records / spacing) }
     ensures given { F.given files.new ≡ F.given files.old }
     ensures asks { OnlyAsks (F.told files.old) (F.told files.new) }
@@ -205,7 +207,8 @@ fn read_checkpoints<F: Files>(
     requires index { index < F.given files.old }
     requires count { head.count ≡ head.records / spacing }
     ensures reads { (told : Told) → F.told files.old ≡ Some told → end ≡ length (contents_at told index)
-        → Reads (λ checkpoints. checkpoints.items) (checkpoints_of head (from_place (contents_at told index) (head_size head.version))) result }
+        → Reads (λ checkpoints. checkpoints.items) (checkpoints_of head
+        (from_place (contents_at told index) (head_size head.version))) result }
     ensures placed { IfOk result (λ checkpoints. ArePlaced checkpoints.items) }
     ensures given { F.given files.new ≡ F.given files.old }
     ensures asks { OnlyAsks (F.told files.old) (F.told files.new) }
@@ -241,7 +244,8 @@ fn read_checkpoint<F: Files>(
 ) -> Result<Checkpoint, IndexError>
     requires index { index < F.given files.old }
     ensures reads { (told : Told) → F.told files.old ≡ Some told → end ≡ length (contents_at told index)
-        → Reads (read_to (contents_at told index)) (checkpoint_at number (least_of least) most (from_place (contents_at told index) at)) result }
+        → Reads (read_to (contents_at told index)) (checkpoint_at number (least_of least) most
+        (from_place (contents_at told index) at)) result }
     ensures placed { IfOk result IsPlaced }
     ensures given { F.given files.new ≡ F.given files.old }
     ensures asks { OnlyAsks (F.told files.old) (F.told files.new) }

@@ -78,11 +78,13 @@ impl<O: Sink> Sink for Line<O> {
     /// Bytes that fit beside what is held wait with it, and nothing is handed on. Otherwise what is held is handed on,
     /// and then the bytes wait alone, or go straight on where they are more than 1,024.
     fn write_all(&mut self, bytes: &[u8]) -> Result<(), Failed>
-        ensures adds { Adds (held_behind (O.written self.old.sink) self.old.held) (held_behind (O.written self.new.sink) self.new.held) bytes.now result }
+        ensures adds { Adds (held_behind (O.written self.old.sink) self.old.held)
+            (held_behind (O.written self.new.sink) self.new.held) bytes.now result }
         ensures cause { HasCause (O.faults self.old.sink) (O.faults self.new.sink) result }
         ensures holds { length self.old.held + length bytes.now ≤ most_held
             → IsOk result × (self.new ≡ record self.old { held = self.old.held ++ bytes.now }) }
-        ensures alone { most_held < length self.old.held + length bytes.now → self.new.held ≡ held_alone bytes.now result }
+        ensures alone { most_held < length self.old.held + length bytes.now
+            → self.new.held ≡ held_alone bytes.now result }
     {
         if self.held.keep(bytes) {
             return Ok(());
@@ -95,7 +97,8 @@ impl<O: Sink> Sink for Line<O> {
     }
 
     fn flush(&mut self) -> Result<(), Failed>
-        ensures adds { Adds (held_behind (O.written self.old.sink) self.old.held) (held_behind (O.written self.new.sink) self.new.held) [] result }
+        ensures adds { Adds (held_behind (O.written self.old.sink) self.old.held)
+            (held_behind (O.written self.new.sink) self.new.held) [] result }
         ensures flushed { NothingWaits (held_behind (O.written self.new.sink) self.new.held) }
         ensures cause { HasCause (O.faults self.old.sink) (O.faults self.new.sink) result }
         ensures empty { self.new.held ≡ [] }

@@ -51,10 +51,12 @@ impl Drawn {
     /// Draws the next line. `Err` is want of memory; what is drawn after it is no line of the script.
     pub fn next(&mut self, alloc: Global) -> Result<Event, NoMemory>
         requires few { self.old.drawn < 65000 }
-        ensures line { IfOk result (λ event. (event, self.new.generator) ≡ drawn_line (self.old.drawn + 1) self.old.made self.old.generator) }
+        ensures line { IfOk result (λ event. (event, self.new.generator) ≡ drawn_line
+            (self.old.drawn + 1) self.old.made self.old.generator) }
         ensures drawn { IfOk result (λ event. self.new.drawn ≡ self.old.drawn + 1) }
         ensures made { IfOk result (λ event. self.new.made ≡ self.old.made + made_by event) }
-        ensures rest { IfOk result (λ event. (left : ℕ) → rest_of (left + 1) self.old ≡ event ∷ rest_of left self.new) }
+        ensures rest { IfOk result (λ event. (left : ℕ) → rest_of
+            (left + 1) self.old ≡ event ∷ rest_of left self.new) }
         ensures of_replay { IfOk result IsReplayEvent }
     {
         let event = drawn_line(alloc, self.drawn + 1, self.made, &mut self.generator)?;

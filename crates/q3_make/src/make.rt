@@ -108,7 +108,8 @@ fn joins(c: u8) -> Event
 
 /// Forty baselines.
 fn push_baselines(events: &mut Vec<Event>) -> Result<(), NoMemory>
-    ensures { IfOk result (λ _. events.new.items ≡ events.old.items ++ map (λ n. Event.Baseline (state_with n 1 n)) (range_with_len 1 40)) }
+    ensures { IfOk result (λ _. events.new.items ≡ events.old.items ++ map (λ n. Event.Baseline (state_with n 1 n))
+        (range_with_len 1 40)) }
 {
     for k in 0..40 {
         events.push(Event::Baseline {
@@ -120,7 +121,8 @@ fn push_baselines(events: &mut Vec<Event>) -> Result<(), NoMemory>
 
 /// Forty entities.
 fn push_entities(events: &mut Vec<Event>) -> Result<(), NoMemory>
-    ensures { IfOk result (λ _. events.new.items ≡ events.old.items ++ map (λ n. Event.Entity (state_with n 1 n)) (range_with_len 1 40)) }
+    ensures { IfOk result (λ _. events.new.items ≡ events.old.items ++ map (λ n. Event.Entity (state_with n 1 n))
+        (range_with_len 1 40)) }
 {
     for k in 0..40 {
         events.push(Event::Entity {
@@ -132,7 +134,8 @@ fn push_entities(events: &mut Vec<Event>) -> Result<(), NoMemory>
 
 /// The first turns of each client.
 fn push_first_turns(events: &mut Vec<Event>) -> Result<(), NoMemory>
-    ensures { IfOk result (λ _. events.new.items ≡ events.old.items ++ flat_map (λ c. first_turns c (4 * c)) (range_with_len 0 4)) }
+    ensures { IfOk result (λ _. events.new.items ≡ events.old.items ++ flat_map (λ c. first_turns c (4 * c))
+        (range_with_len 0 4)) }
 {
     for c in 0..4 {
         push_first(c, 4 * u32::from(c), events)?;
@@ -177,7 +180,8 @@ fn push_drawn(
     events: &mut Vec<Event>,
 ) -> Result<(), NoMemory>
     requires { drawn.old.drawn + number ≤ 65000 }
-    ensures { IfOk result (λ _. events.new.items ++ rest_of 0 drawn.new ≡ events.old.items ++ rest_of number drawn.old) }
+    ensures { IfOk result (λ _. events.new.items ++ rest_of 0 drawn.new ≡ events.old.items
+        ++ rest_of number drawn.old) }
 {
     for _ in 0..number {
         events.push(drawn.next(alloc)?)?;
@@ -210,7 +214,8 @@ fn push_last_turns(c: u8, made: u32, events: &mut Vec<Event>) -> Result<(), NoMe
 /// Twenty turns of a client.
 fn push_twenty(c: u8, made: u32, events: &mut Vec<Event>) -> Result<(), NoMemory>
     requires { made ≤ 200000 }
-    ensures { IfOk result (λ _. events.new.items ≡ events.old.items ++ flat_map (λ k. last_turn c (made + 2 * k) (1000001 + k)) (range_with_len 0 20)) }
+    ensures { IfOk result (λ _. events.new.items ≡ events.old.items ++ flat_map
+        (λ k. last_turn c (made + 2 * k) (1000001 + k)) (range_with_len 0 20)) }
 {
     for k in 0..20 {
         push_turn(c, made + 2 * k, 1_000_001 + k, events)?;

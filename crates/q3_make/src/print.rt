@@ -101,7 +101,8 @@ fn print_client<O: Sink>(
     address: Address,
     out: &mut O,
 ) -> Result<(), Failed>
-    ensures adds { Adds (O.written out.old) (O.written out.new) (event_text (Event.Client c challenge qport dup address)) result }
+    ensures adds { Adds (O.written out.old) (O.written out.new)
+        (event_text (Event.Client c challenge qport dup address)) result }
     ensures cause { HasCause (O.faults out.old) (O.faults out.new) result }
 {
     print_all(
@@ -217,7 +218,8 @@ fn print_front<O: Sink>(word: &[u8], c: u8, out: &mut O) -> Result<(), Failed>
 
 /// Prints a word, and the number of an entity and its fields.
 fn print_state<O: Sink>(word: &[u8], state: &EntityState, out: &mut O) -> Result<(), Failed>
-    ensures adds { Adds (O.written out.old) (O.written out.new) (number_text word.now state.now.number ++ fields_text state.now.words) result }
+    ensures adds { Adds (O.written out.old) (O.written out.new)
+        (number_text word.now state.now.number ++ fields_text state.now.words) result }
     ensures cause { HasCause (O.faults out.old) (O.faults out.new) result }
 {
     laws::texts_follow();

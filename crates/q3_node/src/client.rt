@@ -126,7 +126,8 @@ impl ClientEnd {
         ensures bound { W.bound wire.new ≡ true }
         ensures recording { self.new.recording ≡ self.old.recording }
         ensures does { (told : Option Told) → DoesLine (send self.old c number) self.new
-            (effects (O.written out.old) (W.told wire.old) told) (effects (O.written out.new) (W.told wire.new) told) result }
+            (effects (O.written out.old) (W.told wire.old) told)
+            (effects (O.written out.new) (W.told wire.new) told) result }
         ensures flushed { OnOk result (NothingWaits (O.written out.new)) }
         ensures wire_cause { WireCause (W.faults wire.old) (W.faults wire.new) result }
         ensures write_cause { WriteCause (O.faults out.old) (O.faults out.new) result }
@@ -154,7 +155,8 @@ impl ClientEnd {
     ) -> Result<bool, NodeError>
         requires file { HasFile (F.told files.old) (F.given files.old) file.old self.old.recording }
         ensures does { (wire : Option Traffic) → DoesLine (record_to self.old c name.now) self.new
-            (effects (O.written out.old) wire (F.told files.old)) (effects (O.written out.new) wire (F.told files.new)) result }
+            (effects (O.written out.old) wire (F.told files.old))
+            (effects (O.written out.new) wire (F.told files.new)) result }
         ensures file { OnOk result (HasFile (F.told files.new) (F.given files.new) file.new self.new.recording) }
         ensures flushed { OnOk result (NothingWaits (O.written out.new)) }
         ensures wire_cause { (faults : ℕ) → WireCause faults faults result }
@@ -180,7 +182,8 @@ impl ClientEnd {
     ) -> Result<bool, NodeError>
         requires file { HasFile (F.told files.old) (F.given files.old) file self.old.recording }
         ensures does { (wire : Option Traffic) → DoesLine (stop self.old c) self.new
-            (effects (O.written out.old) wire (F.told files.old)) (effects (O.written out.new) wire (F.told files.new)) result }
+            (effects (O.written out.old) wire (F.told files.old))
+            (effects (O.written out.new) wire (F.told files.new)) result }
         ensures none { self.new.recording ≡ None }
         ensures flushed { OnOk result (NothingWaits (O.written out.new)) }
         ensures wire_cause { (faults : ℕ) → WireCause faults faults result }

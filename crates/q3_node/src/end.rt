@@ -43,7 +43,8 @@ pub(crate) trait End {
         requires file { HasFile (F.told files.old) (F.given files.old) file.old (records self.old) }
         ensures bound { W.bound wire.new ≡ true }
         ensures does { DoesLine (rules.line self.old event.now number) self.new
-            (effects (O.written out.old) (W.told wire.old) (F.told files.old)) (effects (O.written out.new) (W.told wire.new) (F.told files.new)) result }
+            (effects (O.written out.old) (W.told wire.old) (F.told files.old))
+            (effects (O.written out.new) (W.told wire.new) (F.told files.new)) result }
         ensures file { OnOk result (HasFile (F.told files.new) (F.given files.new) file.new (records self.new)) }
         ensures flushed { NothingWaits (O.written out.old) → OnOk result (NothingWaits (O.written out.new)) }
         ensures wire_cause { WireCause (W.faults wire.old) (W.faults wire.new) result }
@@ -86,7 +87,8 @@ pub(crate) fn tell<O: Sink>(answer: &Answer, out: &mut O) -> Result<(), NodeErro
 
 /// Tells the answer of a line that makes no datagram, and answers that.
 pub(crate) fn tell_line<O: Sink>(answer: &Answer, out: &mut O) -> Result<bool, NodeError>
-    ensures told { (traffic : Option Traffic) → Tells (Some (answered_of answer.now)) None (O.written out.old) (O.written out.new) traffic traffic result }
+    ensures told { (traffic : Option Traffic) → Tells (Some (answered_of answer.now)) None (O.written out.old)
+        (O.written out.new) traffic traffic result }
     ensures files { (told : Option Told) → DoesActs told told [] result }
     ensures only { IfErr result (λ e. e ≡ NodeError.WriteFault) }
     ensures flushed { OnOk result (NothingWaits (O.written out.new)) }
@@ -109,7 +111,8 @@ pub(crate) fn hand_over<W: Wire, O: Sink>(
     requires bound { W.bound wire.old ≡ true }
     ensures bound { W.bound wire.new ≡ true }
     ensures told { (piece : Option Piece) → HandsOut piece made.now.items
-        → Tells (Some (answered_of answer.now)) (parcel_to to piece) (O.written out.old) (O.written out.new) (W.told wire.old) (W.told wire.new) result }
+        → Tells (Some (answered_of answer.now)) (parcel_to to piece) (O.written out.old) (O.written out.new)
+        (W.told wire.old) (W.told wire.new) result }
     ensures files { (told : Option Told) → DoesActs told told [] result }
     ensures memory { IsErrOf result NodeError.NoMemory → ⊥ }
     ensures flushed { OnOk result (NothingWaits (O.written out.new)) }
@@ -127,7 +130,8 @@ fn send<W: Wire>(to: Option<Address>, made: &Datagram, wire: &mut W) -> Result<b
     requires bound { W.bound wire.old ≡ true }
     ensures bound { W.bound wire.new ≡ true }
     ensures only { IfErr result (λ e. e ≡ NodeError.WireFault) }
-    ensures sends { (piece : Option Piece) → HandsOut piece made.now.items → SendsParcel (parcel_to to piece) (W.told wire.old) (W.told wire.new) result }
+    ensures sends { (piece : Option Piece) → HandsOut piece made.now.items
+        → SendsParcel (parcel_to to piece) (W.told wire.old) (W.told wire.new) result }
     ensures cause { WireCause (W.faults wire.old) (W.faults wire.new) result }
 {
     let Some(to) = to else {

@@ -39,8 +39,10 @@ pub fn serve_loop<W: Wire, C: Clock, O: Sink>(
     requires events { All (IsEventOf kinds.Serve) events.now }
     requires few { length events.now ≤ most_events }
     requires unbound { W.bound wire.old ≡ false }
-    ensures ran { RanBound (W.bound wire.new) server_rules (new_node (new_server profile.now places) events.now) at (C.readings clock.old) (C.readings clock.new)
-        (effects (O.written out.old) (W.told wire.old) None) (effects (O.written out.new) (W.told wire.new) None) result }
+    ensures ran { RanBound (W.bound wire.new) server_rules (new_node (new_server profile.now places) events.now) at
+        (C.readings clock.old) (C.readings clock.new)
+        (effects (O.written out.old) (W.told wire.old) None)
+        (effects (O.written out.new) (W.told wire.new) None) result }
     ensures unbound { W.bound wire.new ≡ false → (clock.new ≡ clock.old) × (out.new ≡ out.old) }
     ensures flushed { StaysFlushed (O.written out.old) (O.written out.new) result }
     ensures wire_cause { WireCause (W.faults wire.old) (W.faults wire.new) result }
@@ -82,8 +84,10 @@ pub fn join_loop<F: Files, W: Wire, C: Clock, O: Sink>(
     requires few { length events.now ≤ most_events }
     requires unbound { W.bound wire.old ≡ false }
     ensures ran { (end : EndValue) → client_of profile.now server events.now ≡ Some end
-        → RanBound (W.bound wire.new) client_rules (new_node end events.now) at (C.readings clock.old) (C.readings clock.new)
-        (effects (O.written out.old) (W.told wire.old) (F.told files.old)) (effects (O.written out.new) (W.told wire.new) (F.told files.new)) result }
+        → RanBound (W.bound wire.new) client_rules (new_node end events.now) at (C.readings clock.old)
+        (C.readings clock.new)
+        (effects (O.written out.old) (W.told wire.old) (F.told files.old))
+        (effects (O.written out.new) (W.told wire.new) (F.told files.new)) result }
     ensures unbound { W.bound wire.new ≡ false → (clock.new ≡ clock.old) × (out.new ≡ out.old) }
     ensures flushed { StaysFlushed (O.written out.old) (O.written out.new) result }
     ensures wire_cause { WireCause (W.faults wire.old) (W.faults wire.new) result }
@@ -112,8 +116,10 @@ fn run<E: End, F: Files, W: Wire, C: Clock, O: Sink>(
     requires few { length events.now ≤ most_events }
     requires unbound { W.bound wire.old ≡ false }
     requires none { E.records end.old ≡ None }
-    ensures ran { RanBound (W.bound wire.new) E.rules (new_node end.old events.now) at (C.readings clock.old) (C.readings clock.new)
-        (effects (O.written out.old) (W.told wire.old) (F.told files.old)) (effects (O.written out.new) (W.told wire.new) (F.told files.new)) result }
+    ensures ran { RanBound (W.bound wire.new) E.rules (new_node end.old events.now) at (C.readings clock.old)
+        (C.readings clock.new)
+        (effects (O.written out.old) (W.told wire.old) (F.told files.old))
+        (effects (O.written out.new) (W.told wire.new) (F.told files.new)) result }
     ensures unbound { W.bound wire.new ≡ false → (clock.new ≡ clock.old) × (out.new ≡ out.old) }
     ensures flushed { StaysFlushed (O.written out.old) (O.written out.new) result }
     ensures wire_cause { WireCause (W.faults wire.old) (W.faults wire.new) result }

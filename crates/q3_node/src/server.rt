@@ -65,7 +65,8 @@ impl ServerEnd {
         requires bound { W.bound wire.old ≡ true }
         ensures bound { W.bound wire.new ≡ true }
         ensures does { (told : Option Told) → DoesLine (serve self.old c number) self.new
-            (effects (O.written out.old) (W.told wire.old) told) (effects (O.written out.new) (W.told wire.new) told) result }
+            (effects (O.written out.old) (W.told wire.old) told)
+            (effects (O.written out.new) (W.told wire.new) told) result }
         ensures flushed { OnOk result (NothingWaits (O.written out.new)) }
         ensures wire_cause { WireCause (W.faults wire.old) (W.faults wire.new) result }
         ensures write_cause { WriteCause (O.faults out.old) (O.faults out.new) result }
@@ -85,7 +86,8 @@ impl ServerEnd {
     /// Does a line of the game, if it is one, and tells its answer.
     fn game_line<O: Sink>(&mut self, event: &Event, out: &mut O) -> Result<bool, NodeError>
         requires event { IsInRange event.now }
-        ensures does { (wire : Option Traffic) (told : Option Told) → DoesLine (game_done self.old (server_line self.old event.now)) self.new
+        ensures does { (wire : Option Traffic) (told : Option Told)
+            → DoesLine (game_done self.old (server_line self.old event.now)) self.new
             (effects (O.written out.old) wire told) (effects (O.written out.new) wire told) result }
         ensures flushed { NothingWaits (O.written out.old) → OnOk result (NothingWaits (O.written out.new)) }
         ensures wire_cause { (faults : ℕ) → WireCause faults faults result }

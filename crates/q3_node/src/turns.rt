@@ -76,7 +76,11 @@ impl Course {
     /// Goes on after a line, which made a datagram or none.
     fn go_on(&mut self, event: &Event, made: bool)
         requires few { (self.old.next < most_events) × (self.old.made < most_events) }
-        ensures { self.new ≡ record self.old { next = self.old.next + 1; time = time_behind self.old.time event.now; made = if made then self.old.made + 1 else self.old.made } }
+        ensures { self.new ≡ record self.old {
+          next = self.old.next + 1;
+          time = time_behind self.old.time event.now;
+          made = if made then self.old.made + 1 else self.old.made;
+        } }
     {
         self.next += 1;
         self.time = time_behind(self.time, event);
@@ -131,7 +135,8 @@ pub(crate) fn run_turns<E: End, F: Files, W: Wire, C: Clock, O: Sink>(
     requires none { E.records end.old ≡ None }
     ensures bound { W.bound wire.new ≡ true }
     ensures ran { RanNode E.rules (new_node end.old events.now) (C.readings clock.old) (C.readings clock.new)
-        (effects (O.written out.old) (W.told wire.old) (F.told files.old)) (effects (O.written out.new) (W.told wire.new) (F.told files.new)) result }
+        (effects (O.written out.old) (W.told wire.old) (F.told files.old))
+        (effects (O.written out.new) (W.told wire.new) (F.told files.new)) result }
     ensures flushed { StaysFlushed (O.written out.old) (O.written out.new) result }
     ensures wire_cause { WireCause (W.faults wire.old) (W.faults wire.new) result }
     ensures write_cause { WriteCause (O.faults out.old) (O.faults out.new) result }
@@ -183,8 +188,10 @@ fn turn<E: End, F: Files, W: Wire, C: Clock, O: Sink>(
     ensures room { length buffer.new ≡ length buffer.old }
     ensures course { OnOk result (IsOn events.now course.new) }
     ensures file { OnOk result (HasFile (F.told files.new) (F.given files.new) file.new (E.records end.new)) }
-    ensures takes { TakesTurn E.rules (node_of end.old events.now course.old) (node_of end.new events.now course.new) (C.readings clock.old) (C.readings clock.new)
-        (effects (O.written out.old) (W.told wire.old) (F.told files.old)) (effects (O.written out.new) (W.told wire.new) (F.told files.new)) result }
+    ensures takes { TakesTurn E.rules (node_of end.old events.now course.old) (node_of end.new events.now course.new)
+        (C.readings clock.old) (C.readings clock.new)
+        (effects (O.written out.old) (W.told wire.old) (F.told files.old))
+        (effects (O.written out.new) (W.told wire.new) (F.told files.new)) result }
     ensures flushed { NothingWaits (O.written out.old) → OnOk result (NothingWaits (O.written out.new)) }
     ensures wire_cause { WireCause (W.faults wire.old) (W.faults wire.new) result }
     ensures write_cause { WriteCause (O.faults out.old) (O.faults out.new) result }
@@ -217,8 +224,11 @@ fn do_line<E: End, F: Files, W: Wire, O: Sink>(
     ensures next { OnOk result (course.new.next ≡ course.old.next + 1) }
     ensures made { OnOk result (course.new.made ≤ course.old.made + 1) }
     ensures file { OnOk result (HasFile (F.told files.new) (F.given files.new) file.new (E.records end.new)) }
-    ensures does { (events : List EventValue) (found : Option Parcel) → DoesTurn (line_turn E.rules (node_of end.old events course.old) event.now) found (node_of end.new events course.new)
-        (effects (O.written out.old) (W.told wire.old) (F.told files.old)) (effects (O.written out.new) (W.told wire.new) (F.told files.new)) result }
+    ensures does { (events : List EventValue) (found : Option Parcel)
+        → DoesTurn (line_turn E.rules (node_of end.old events course.old) event.now) found
+        (node_of end.new events course.new)
+        (effects (O.written out.old) (W.told wire.old) (F.told files.old))
+        (effects (O.written out.new) (W.told wire.new) (F.told files.new)) result }
     ensures flushed { NothingWaits (O.written out.old) → OnOk result (NothingWaits (O.written out.new)) }
     ensures wire_cause { WireCause (W.faults wire.old) (W.faults wire.new) result }
     ensures write_cause { WriteCause (O.faults out.old) (O.faults out.new) result }
@@ -245,8 +255,10 @@ fn receive<E: End, F: Files, W: Wire, O: Sink>(
     ensures bound { W.bound wire.new ≡ true }
     ensures room { length buffer.new ≡ length buffer.old }
     ensures file { OnOk result (HasFile (F.told files.new) (F.given files.new) file (E.records end.new)) }
-    ensures does { (found : Option Parcel) × ((events : List EventValue) (course : CourseValue) → DoesTurn (receive_turn E.rules (node_of end.old events course) found) found (node_of end.new events course)
-        (effects (O.written out.old) (W.told wire.old) (F.told files.old)) (effects (O.written out.new) (W.told wire.new) (F.told files.new)) result) }
+    ensures does { (found : Option Parcel) × ((events : List EventValue) (course : CourseValue)
+        → DoesTurn (receive_turn E.rules (node_of end.old events course) found) found (node_of end.new events course)
+        (effects (O.written out.old) (W.told wire.old) (F.told files.old))
+        (effects (O.written out.new) (W.told wire.new) (F.told files.new)) result) }
     ensures flushed { NothingWaits (O.written out.old) → OnOk result (NothingWaits (O.written out.new)) }
     ensures wire_cause { WireCause (W.faults wire.old) (W.faults wire.new) result }
     ensures write_cause { WriteCause (O.faults out.old) (O.faults out.new) result }

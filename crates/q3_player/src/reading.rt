@@ -22,7 +22,8 @@ pub fn read_player(
     from: &PlayerState,
     into: &mut PlayerState,
 ) -> Result<(), PlayerError>
-    ensures { Reads r.old r.new (player_at r.old.words table.now.kinds from.now r.old.left) (holding into.new result) }
+    ensures { Reads r.old r.new (player_at r.old.words table.now.kinds from.now r.old.left)
+        (holding into.new result) }
 {
     *into = *from;
     read_counted(r, StateKind::Player, table, &mut into.words)?;

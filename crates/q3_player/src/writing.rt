@@ -45,7 +45,8 @@ fn write_arrays(w: &mut Writer, from: &PlayerState, to: &PlayerState) -> Result<
 
 /// Writes each array.
 fn write_each(w: &mut Writer, from: &PlayerState, to: &PlayerState) -> Result<(), Overflow>
-    ensures { Writes w.old w.new (flat_map (λ array. array_bits w.old.words array.0 array.1) (player_changes from.now to.now)) result }
+    ensures { Writes w.old w.new (flat_map (λ array. array_bits w.old.words array.0 array.1)
+        (player_changes from.now to.now)) result }
 {
     laws::texts_are_written();
     write_shorts(w, &from.stats, &to.stats)?;
@@ -86,7 +87,8 @@ fn same_words(from: &[u32; 16], to: &[u32; 16]) -> bool
 
 /// Writes an array of signed values.
 fn write_shorts(w: &mut Writer, from: &[i16; 16], to: &[i16; 16]) -> Result<(), Overflow>
-    ensures { Writes w.old w.new (array_bits w.old.words (Kind.Signed 16) (changes (patterns_of from.now) (patterns_of to.now))) result }
+    ensures { Writes w.old w.new (array_bits w.old.words (Kind.Signed 16)
+        (changes (patterns_of from.now) (patterns_of to.now))) result }
 {
     write_array(w, Kind::Signed(16), &patterns(from), &patterns(to))
 }

@@ -157,7 +157,7 @@ front_is profile context number message read e = front_read profile context numb
 -- a snapshot is accepted of a message's section: what it left, and its number
 record Accepts (state : AppliedState) (number : ℕ) (snapshot : Snapshot) (applied : Application) : Type 0 where
   profile_is : applied.state.profile ≡ state.profile
-  lines_are : applied.state.baselines ≡ state.baselines
+  baselines_are : applied.state.baselines ≡ state.baselines
   number_is : applied.state.number ≡ number
   held_are : applied.state.held ≡ accept_at state.held snapshot
 
@@ -172,7 +172,7 @@ section_accepts state commands number base snapshot found =
     cond_both (is_stale state.held number) (passes now number Stale) (accepts now number base snapshot)
     (λ (applied : Application). (heard_with state commands applied).accepted ≡ Some found → Accepts state number snapshot (heard_with state commands applied))
     (λ stale e. absurd (none_accepted found e))
-    (λ new e. record { profile_is = refl; lines_are = refl; number_is = refl; held_are = refl })
+    (λ new e. record { profile_is = refl; baselines_are = refl; number_is = refl; held_are = refl })
 
 -- ---- a message that was applied
 
@@ -208,7 +208,7 @@ some_message one other e = cc
 -- what the message is that is composed
 record IsWhole (noted : Noted) (snapshot : Snapshot) (read message : Message) : Type 0 where
   profile_is : noted.applied.state.profile ≡ noted.before.profile
-  lines_are : noted.applied.state.baselines ≡ noted.before.baselines
+  baselines_are : noted.applied.state.baselines ≡ noted.before.baselines
   fits : IsRead noted.before.profile (context_of noted.before.held noted.before.baselines) noted.applied.answer.number read
   message_is : message ≡ whole_message (front_of read) snapshot
 
@@ -246,7 +246,7 @@ module _ (spelled : ReadIsSpelled) (accepted : AcceptedIsHeld) (contexts : Appli
       ∙ front_is profile context number noted.message (read, behind.0) behind.1 in
       record {
         profile_is = accepts.profile_is;
-        lines_are = accepts.lines_are;
+        baselines_are = accepts.baselines_are;
         fits = fits;
         message_is = some_message message (whole_message (front_of read) snapshot)
             (sym whole
@@ -302,7 +302,7 @@ pub whole_applies : WrittenIsRead → ReadIsSpelled → MessageHoldsBits → Acc
     → (message : Message) → whole_of noted.applied.state noted.message ≡ Some message → (bytes : List ℕ) → composed (whole_bits noted.applied.state message) ≡ Some bytes
     → (play : AppliedState) → play.profile ≡ noted.before.profile → play.baselines ≡ noted.before.baselines → IsContext play.profile (context_of play.held play.baselines)
     → server_message_in play.profile (context_of play.held play.baselines) noted.applied.answer.number (bits_of bytes) ≡ Ok (record { ack = read.ack; commands = read.commands; section = Snap 0 head entities })
-whole_applies written spelled holds accepted contexts noted is read by base head entities section took message whole bytes e play same_profile same_lines is_context =
+whole_applies written spelled holds accepted contexts noted is read by base head entities section took message whole bytes e play same_profile same_baselines is_context =
     let snapshot : Snapshot = record { head = head; entities = entities } in
     let number = noted.applied.answer.number in
     let is_whole = is_whole_message spelled accepted contexts noted is read by base snapshot section took message whole in
@@ -311,7 +311,7 @@ whole_applies written spelled holds accepted contexts noted is read by base head
     let text : whole_bits noted.applied.state message ≡ server_message_bits play.profile play.baselines None (whole_message (front_of read) snapshot) =
     ap (λ (m : Message). server_message_bits noted.applied.state.profile noted.applied.state.baselines None m) is_whole.message_is
     ∙ (ap (λ (p : Profile). server_message_bits p noted.applied.state.baselines None (whole_message (front_of read) snapshot)) (is_whole.profile_is ∙ sym same_profile)
-    ∙ ap (λ (l : Baselines). server_message_bits play.profile l None (whole_message (front_of read) snapshot)) (is_whole.lines_are ∙ sym same_lines)) in
+    ∙ ap (λ (l : Baselines). server_message_bits play.profile l None (whole_message (front_of read) snapshot)) (is_whole.baselines_are ∙ sym same_baselines)) in
     whole_is_read written holds play.profile context other number base snapshot read bytes
     (subst (λ (p : Profile). IsCodec p) (sym same_profile) is.stands.profile) is_context
     (subst (λ (p : Profile). IsRead p context number read) (sym same_profile) is_whole.fits) section

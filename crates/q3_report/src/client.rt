@@ -94,7 +94,8 @@ fn print_delivered<O: Sink>(
     log: &Log,
     out: &mut O,
 ) -> Result<(), Failed>
-    ensures adds { Adds (O.written out.old) (O.written out.new) (client_text state.now c (ClientTook.Applied applied.now) log.now.commands) result }
+    ensures adds { Adds (O.written out.old) (O.written out.new)
+        (client_text state.now c (ClientTook.Applied applied.now) log.now.commands) result }
     ensures cause { HasCause (O.faults out.old) (O.faults out.new) result }
 {
     laws::texts_follow();

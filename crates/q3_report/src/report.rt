@@ -101,7 +101,8 @@ fn print_line<'a, O: Sink>(
     rest: &'a [u8],
     out: &mut O,
 ) -> Result<(), Failed>
-    ensures adds { Adds (O.written out.old) (O.written out.new) (concat (word.now ∷ decimal number ∷ rest.now ∷ [])) result }
+    ensures adds { Adds (O.written out.old) (O.written out.new)
+        (concat (word.now ∷ decimal number ∷ rest.now ∷ [])) result }
     ensures cause { HasCause (O.faults out.old) (O.faults out.new) result }
 {
     print_all(
@@ -121,7 +122,8 @@ fn print_outcome<E: Refusal, O: Sink>(
     outcome: &Result<(), E>,
     out: &mut O,
 ) -> Result<(), Failed>
-    ensures adds { Adds (O.written out.old) (O.written out.new) (concat (word.now ∷ decimal number ∷ handed_in_text E.told outcome.now ∷ [])) result }
+    ensures adds { Adds (O.written out.old) (O.written out.new)
+        (concat (word.now ∷ decimal number ∷ handed_in_text E.told outcome.now ∷ [])) result }
     ensures cause { HasCause (O.faults out.old) (O.faults out.new) result }
 {
     match outcome {
@@ -137,7 +139,8 @@ fn print_issued<E: Refusal, O: Sink>(
     outcome: &Result<u32, E>,
     out: &mut O,
 ) -> Result<(), Failed>
-    ensures adds { Adds (O.written out.old) (O.written out.new) (concat (word.now ∷ decimal c ∷ issued_text E.told outcome.now ∷ [])) result }
+    ensures adds { Adds (O.written out.old) (O.written out.new)
+        (concat (word.now ∷ decimal c ∷ issued_text E.told outcome.now ∷ [])) result }
     ensures cause { HasCause (O.faults out.old) (O.faults out.new) result }
 {
     match outcome {
@@ -194,7 +197,8 @@ fn print_taken<O: Sink>(front: &Front, taker: &Taker, out: &mut O) -> Result<(),
 
 /// Prints the line of bytes that nobody took.
 fn print_untaken<O: Sink>(front: &Front, cause: &TakeRefused, out: &mut O) -> Result<(), Failed>
-    ensures adds { Adds (O.written out.old) (O.written out.new) (front_text front.now ++ untaken_text cause.now) result }
+    ensures adds { Adds (O.written out.old) (O.written out.new)
+        (front_text front.now ++ untaken_text cause.now) result }
     ensures cause { HasCause (O.faults out.old) (O.faults out.new) result }
 {
     laws::texts_follow();
@@ -255,7 +259,8 @@ fn print_client_took<O: Sink>(
     ended: bool,
     out: &mut O,
 ) -> Result<(), Failed>
-    ensures adds { Adds (O.written out.old) (O.written out.new) (client_text client.now.state c took.now log.now.commands ++ ended_text ended) result }
+    ensures adds { Adds (O.written out.old) (O.written out.new)
+        (client_text client.now.state c took.now log.now.commands ++ ended_text ended) result }
     ensures cause { HasCause (O.faults out.old) (O.faults out.new) result }
 {
     laws::texts_follow();

@@ -61,7 +61,8 @@ fn print_snapshot<O: Sink>(
     datagram: u32,
     out: &mut O,
 ) -> Result<(), Failed>
-    ensures adds { Adds (O.written out.old) (O.written out.new) (serve_text slot (emitted.Snapshot number base bytes) datagram) result }
+    ensures adds { Adds (O.written out.old) (O.written out.new)
+        (serve_text slot (emitted.Snapshot number base bytes) datagram) result }
     ensures cause { HasCause (O.faults out.old) (O.faults out.new) result }
 {
     print_all(
@@ -90,7 +91,8 @@ fn print_game<O: Sink>(
     datagram: u32,
     out: &mut O,
 ) -> Result<(), Failed>
-    ensures adds { Adds (O.written out.old) (O.written out.new) (serve_text slot (emitted.Game number bytes) datagram) result }
+    ensures adds { Adds (O.written out.old) (O.written out.new)
+        (serve_text slot (emitted.Game number bytes) datagram) result }
     ensures cause { HasCause (O.faults out.old) (O.faults out.new) result }
 {
     print_all(
@@ -111,7 +113,8 @@ fn print_game<O: Sink>(
 
 /// Prints the line of a further piece of a message.
 fn print_fragment<O: Sink>(slot: u8, number: u32, datagram: u32, out: &mut O) -> Result<(), Failed>
-    ensures adds { Adds (O.written out.old) (O.written out.new) (serve_text slot (emitted.Fragment number) datagram) result }
+    ensures adds { Adds (O.written out.old) (O.written out.new)
+        (serve_text slot (emitted.Fragment number) datagram) result }
     ensures cause { HasCause (O.faults out.old) (O.faults out.new) result }
 {
     print_all(
@@ -182,7 +185,8 @@ fn print_word<O: Sink>(slot: u8, word: &[u8], out: &mut O) -> Result<(), Failed>
 
 /// Prints the line of a message that isn't legible.
 fn print_illegible<O: Sink>(slot: u8, cause: ClientIllegible, out: &mut O) -> Result<(), Failed>
-    ensures adds { Adds (O.written out.old) (O.written out.new) (illegible_text slot (cause_word cause) (cause_number cause)) result }
+    ensures adds { Adds (O.written out.old) (O.written out.new)
+        (illegible_text slot (cause_word cause) (cause_number cause)) result }
     ensures cause { HasCause (O.faults out.old) (O.faults out.new) result }
 {
     let Some(number) = cause_number(cause) else {
@@ -272,7 +276,8 @@ fn print_ran<O: Sink>(
     out: &mut O,
 ) -> Result<(), Failed>
     ensures adds { Adds (O.written out.old) (O.written out.new)
-        (ran_text slot number ++ concat (commands_text commands.now ∷ entered_text entered ∷ flat_map move_text moves.now ∷ [])) result }
+        (ran_text slot number ++ concat (commands_text commands.now ∷ entered_text entered
+        ∷ flat_map move_text moves.now ∷ [])) result }
     ensures cause { HasCause (O.faults out.old) (O.faults out.new) result }
 {
     laws::texts_follow();
@@ -306,7 +311,8 @@ fn print_front<O: Sink>(
     commands: &[Command],
     out: &mut O,
 ) -> Result<(), Failed>
-    ensures adds { Adds (O.written out.old) (O.written out.new) (ran_text slot number ++ commands_text commands.now) result }
+    ensures adds { Adds (O.written out.old) (O.written out.new)
+        (ran_text slot number ++ commands_text commands.now) result }
     ensures cause { HasCause (O.faults out.old) (O.faults out.new) result }
 {
     laws::texts_follow();

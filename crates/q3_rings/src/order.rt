@@ -59,7 +59,8 @@ impl Rings {
 
     /// Lends the entities of the snapshot of a number: none where they are gone.
     pub fn entities_of(&self, number: u32) -> Run<'_>
-        ensures entities { (held : HeldSnapshot) → spec.held_under self.now.held number ≡ Some held → run_of result ≡ held.snapshot.entities }
+        ensures entities { (held : HeldSnapshot) → spec.held_under self.now.held number ≡ Some held
+            → run_of result ≡ held.snapshot.entities }
         ensures rises { Rises (run_of result) }
     {
         let _newest = self.newest();
@@ -77,7 +78,8 @@ fn nearer(rings: &Rings, place: u8, last: u32, next: u32) -> u32
     ensures above { last < result }
     ensures most { result ≤ next }
     ensures held { (result ≡ next) ⊎ (spec.held_under rings.now.held result ≢ None) }
-    ensures least { (number : ℕ) → place_of number ≡ place → last < number → number < result → spec.held_under rings.now.held number ≡ None }
+    ensures least { (number : ℕ) → place_of number ≡ place → last < number → number < result
+        → spec.held_under rings.now.held number ≡ None }
 {
     let _newest = rings.newest();
     match rings.held(place) {

@@ -162,7 +162,8 @@ impl Rings {
         requires placed { age ≤ self.old.placed }
         requires can { CanPutBack self.old.held head.now.number age (length entities.now) }
         requires rises { Rises entities.now }
-        ensures { self.new ≡ put_back_in self.old (record { snapshot = record { head = head.now; entities = entities.now }; age = age }) }
+        ensures { self.new ≡ put_back_in self.old
+            (record { snapshot = record { head = head.now; entities = entities.now }; age = age }) }
     {
         self.begin_back(head, age, entities.len());
         for entity in entities {
@@ -190,7 +191,8 @@ impl Rings {
 
     /// Places the next entity of the snapshot that is being put back. Its number is above that of the one before.
     pub fn place_back(&mut self, entity: &EntityState)
-        requires { MatchOption self.old.begun ⊥ (λ begun. (length begun.entities < begun.count) × Rises (begun.entities ++ entity.now ∷ [])) }
+        requires { MatchOption self.old.begun ⊥ (λ begun. (length begun.entities < begun.count)
+            × Rises (begun.entities ++ entity.now ∷ [])) }
         ensures { self.new ≡ place_in self.old entity.now }
     {
         put_is_next();

@@ -67,13 +67,13 @@ set_again front [] (suc count) long stand = absurd (omega arith)
 set_again front (baseline ∷ baselines) zero long stand = absurd (omega arith)
 set_again front (None ∷ baselines) (suc count) long stand =
     let next : length (front ++ None ∷ []) ≡ length front + 1 = length-append front (None ∷ []) in
-    ap (λ lines'. fold with_baseline lines' (set_baselines baselines)) (sym (append_assoc front (None ∷ []) (replicate count None)))
+    ap (λ baselines'. fold with_baseline baselines' (set_baselines baselines)) (sym (append_assoc front (None ∷ []) (replicate count None)))
     ∙ set_again (front ++ None ∷ []) baselines count (omega arith) (subst (λ n. StandFrom n baselines) (sym next) stand)
     ∙ append_assoc front (None ∷ []) baselines
 set_again front (Some state ∷ baselines) (suc count) long stand =
     let next : length (front ++ Some state ∷ []) ≡ length front + 1 = length-append front (Some state ∷ []) in
     let here : with_baseline (front ++ None ∷ replicate count None) state ≡ front ++ Some state ∷ replicate count None = set_at front None (replicate count None) (Some state) state.number (sym stand.0) in
-    ap (λ lines'. fold with_baseline lines' (set_baselines baselines)) (here ∙ sym (append_assoc front (Some state ∷ []) (replicate count None)))
+    ap (λ baselines'. fold with_baseline baselines' (set_baselines baselines)) (here ∙ sym (append_assoc front (Some state ∷ []) (replicate count None)))
     ∙ set_again (front ++ Some state ∷ []) baselines count (omega arith) (subst (λ n. StandFrom n baselines) (sym next) stand.1)
     ∙ append_assoc front (Some state ∷ []) baselines
 

@@ -109,7 +109,8 @@ impl<'a> Cursor<'a> {
 
     /// So many bytes, whatever they are.
     pub fn take(&mut self, count: usize) -> Result<&'a [u8], usize>
-        ensures { found (result_map_both (λ bytes. bytes.now) (λ place. place) result) self.new ≡ field_at count (λ bytes. bytes) (λ bytes. true) self.old }
+        ensures { found (result_map_both (λ bytes. bytes.now) (λ place. place) result) self.new ≡ field_at count
+            (λ bytes. bytes) (λ bytes. true) self.old }
     {
         if self.left.len() < count {
             return Err(self.place);
@@ -122,7 +123,8 @@ impl<'a> Cursor<'a> {
 
     /// So many bytes that a text may hold.
     pub fn text(&mut self, count: usize) -> Result<&'a [u8], usize>
-        ensures { found (result_map_both (λ bytes. bytes.now) (λ place. place) result) self.new ≡ text_at count self.old }
+        ensures { found (result_map_both (λ bytes. bytes.now) (λ place. place) result) self.new
+            ≡ text_at count self.old }
     {
         let place = self.place;
         let bytes = self.take(count)?;

@@ -86,7 +86,7 @@ pub(crate) fn write_baselines<O: Sink>(
     ensures cause { HasCause (O.faults out.old) (O.faults out.new) result }
 {
     laws::texts_follow();
-    write_short(baselines.len(), out)?;
+    write_short(baselines.count(), out)?;
     for number in 0..MOST_BASELINES {
         write_baseline(table, baselines, number, out)?;
     }
@@ -100,7 +100,8 @@ fn write_baseline<O: Sink>(
     number: u16,
     out: &mut O,
 ) -> Result<(), Failed>
-    ensures adds { Adds (O.written out.old) (O.written out.new) (flat_map (entity_bytes table.now) (set_baselines (set_at baselines.now number ∷ []))) result }
+    ensures adds { Adds (O.written out.old) (O.written out.new)
+        (flat_map (entity_bytes table.now) (set_baselines (set_at baselines.now number ∷ []))) result }
     ensures cause { HasCause (O.faults out.old) (O.faults out.new) result }
     ensures places { length baselines.now ≡ most_baselines }
 {

@@ -68,7 +68,8 @@ fn write_numbered<O: Sink>(
     out: &mut O,
 ) -> Result<(), Failed>
     requires ages { HasAges rings.now.held }
-    ensures adds { Adds (O.written out.old) (O.written out.new) (flat_map (snapshot_bytes profile.now) (one_of (held_under rings.now.held number))) result }
+    ensures adds { Adds (O.written out.old) (O.written out.new)
+        (flat_map (snapshot_bytes profile.now) (one_of (held_under rings.now.held number))) result }
     ensures cause { HasCause (O.faults out.old) (O.faults out.new) result }
 {
     match rings.held_under(number) {
@@ -86,7 +87,12 @@ fn write_snapshot<O: Sink>(
 ) -> Result<(), Failed>
     requires age { held.age < 2 ^ 32 }
     requires few { length (run_of entities) ≤ most_entities }
-    ensures adds { Adds (O.written out.old) (O.written out.new) (snapshot_bytes profile.now (record { snapshot = record { head = held.entry.head.now; entities = run_of entities.entry }; age = held.entry.age })) result }
+    ensures adds { Adds (O.written out.old) (O.written out.new)
+        (snapshot_bytes profile.now
+        (record {
+          snapshot = record { head = held.entry.head.now; entities = run_of entities.entry };
+          age = held.entry.age;
+        })) result }
     ensures cause { HasCause (O.faults out.old) (O.faults out.new) result }
 {
     laws::texts_follow();
@@ -99,7 +105,8 @@ fn write_snapshot<O: Sink>(
 /// Writes entities after their number.
 fn write_run<O: Sink>(profile: &Profile, entities: Run, out: &mut O) -> Result<(), Failed>
     requires few { length (run_of entities) ≤ most_entities }
-    ensures adds { Adds (O.written out.old) (O.written out.new) (counted (entity_bytes profile.now.entity) (run_of entities.entry)) result }
+    ensures adds { Adds (O.written out.old) (O.written out.new)
+        (counted (entity_bytes profile.now.entity) (run_of entities.entry)) result }
     ensures cause { HasCause (O.faults out.old) (O.faults out.new) result }
 {
     laws::texts_follow();
@@ -114,7 +121,8 @@ fn write_each<O: Sink>(
     entities: &[EntityState],
     out: &mut O,
 ) -> Result<(), Failed>
-    ensures adds { Adds (O.written out.old) (O.written out.new) (flat_map (entity_bytes profile.now.entity) entities.now) result }
+    ensures adds { Adds (O.written out.old) (O.written out.new)
+        (flat_map (entity_bytes profile.now.entity) entities.now) result }
     ensures cause { HasCause (O.faults out.old) (O.faults out.new) result }
 {
     laws::items_follow::<EntityState>();
@@ -203,7 +211,8 @@ fn read_snapshot(
 ) -> Result<u32, usize>
     requires least { 512 ≤ profile.now.parse_ring }
     requires may { MayPutBack profile.now.parse_ring most rings.old }
-    ensures found { found_with result rings.new.held cursor.new ≡ as_field (behind_one rings.old.held) (snapshot_at profile.now rings.old.held newest left most cursor.old) }
+    ensures found { found_with result rings.new.held cursor.new ≡ as_field (behind_one rings.old.held)
+        (snapshot_at profile.now rings.old.held newest left most cursor.old) }
     ensures may { IfOk result (λ most. MayPutBack profile.now.parse_ring most rings.new) }
 {
     let number = read_slot(cursor, newest, left, rings)?;
@@ -270,7 +279,8 @@ fn read_entities(
 ) -> Result<(), usize>
     requires begun { MatchOption rings.old.begun ⊥ (λ begun. (begun.entities ≡ []) × (begun.count ≡ count)) }
     requires few { count ≤ most_entities }
-    ensures { found_in result rings.new cursor.new ≡ as_field (placed_in rings.old) (entities_at profile.now.entity count 0 cursor.old) }
+    ensures { found_in result rings.new cursor.new ≡ as_field (placed_in rings.old)
+        (entities_at profile.now.entity count 0 cursor.old) }
 {
     let _end = profile.entity.end();
     let mut entity = EntityState::zero(0);

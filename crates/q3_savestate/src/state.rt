@@ -77,7 +77,8 @@ pub(crate) struct Start {
 /// Writes a state. `Failed` comes where the sink failed, after a front of the text.
 pub fn write_state<O: Sink>(profile: &Profile, parts: Parts, out: &mut O) -> Result<(), Failed>
     requires ages { HasAges parts.rings.now.held }
-    ensures adds { Adds (O.written out.old) (O.written out.new) (state_bytes profile.now (parts_of parts.entry)) result }
+    ensures adds { Adds (O.written out.old) (O.written out.new)
+        (state_bytes profile.now (parts_of parts.entry)) result }
     ensures cause { HasCause (O.faults out.old) (O.faults out.new) result }
 {
     laws::texts_follow();
@@ -149,7 +150,8 @@ fn read_parts(
     requires configs { configs.old ≡ no_strings }
     requires baselines { baselines.old ≡ no_baselines }
     requires rings { rings.old ≡ no_rings profile.now.parse_ring }
-    ensures whole { read_as (λ read. saved_from (start_of read.0) read.1 configs.new baselines.new rings.new.held) result ≡ state_at profile.now bytes.now }
+    ensures whole { read_as (λ read. saved_from (start_of read.0) read.1 configs.new baselines.new rings.new.held)
+        result ≡ state_at profile.now bytes.now }
     ensures none { IfOk result (λ read. rings.new.begun ≡ None) }
 {
     let mut cursor = Cursor::new(bytes, 0);

@@ -81,8 +81,11 @@ pub(crate) fn read_strings(cursor: &mut Cursor, configs: &mut Configs) -> Result
 #[tactic(auto, unfolding(crate::specs::Texts::strings_after))]
 fn read_string(cursor: &mut Cursor, least: u16, configs: &mut Configs) -> Result<u16, usize>
     requires { (index : ℕ) → least ≤ index → slice_index_or configs.old.texts index [] ≡ [] }
-    ensures step { (count : ℕ) → MatchResult result (λ next. strings_after (suc count) least configs.old.texts cursor.old ≡ strings_after count next configs.new.texts cursor.new) (λ at. strings_after (suc count) least configs.old.texts cursor.old ≡ Err at) }
-    ensures empty { IfOk result (λ next. (index : ℕ) → next ≤ index → slice_index_or configs.new.texts index [] ≡ []) }
+    ensures step { (count : ℕ) → MatchResult result (λ next. strings_after
+        (suc count) least configs.old.texts cursor.old ≡ strings_after count next configs.new.texts cursor.new)
+        (λ at. strings_after (suc count) least configs.old.texts cursor.old ≡ Err at) }
+    ensures empty { IfOk result (λ next. (index : ℕ) → next ≤ index
+        → slice_index_or configs.new.texts index [] ≡ []) }
     ensures pending { configs.new.pending ≡ configs.old.pending }
 {
     let index = cursor.short(least, STRINGS - 1)?;

@@ -20,7 +20,7 @@ use Rattle.q3_client.specs.declared.client.MoveError.{MoveError}
 use Rattle.q3_clmsg.specs.Values.{Message}
 use Rattle.q3_clmsg.specs.declared.moves.Move.{Move}
 use Rattle.q3_config.specs.Laws.{piece_texts}
-use Rattle.q3_config.specs.Strings.{admit_fault}
+use Rattle.q3_config.specs.Strings.{admit_fault, has_string}
 use Rattle.q3_config.specs.declared.error.ConfigError.{ConfigError}
 use Rattle.q3_frames.specs.Frames.{FramesState}
 use Rattle.q3_gamestate.specs.Values.{Gamestate}
@@ -34,7 +34,7 @@ use Rattle.q3_world.specs.ByTags.{IsOwn}
 use Rattle.q3_schedules.specs.Schedules.{IsScheduled}
 use Rattle.q3_script.specs.declared.event.Event.{Event}
 use Rattle.q3_script.specs.declared.event.Event.TheVariants as events
-use Rattle.q3_server.specs.Server.{Handed, Saying, add_apart, add_client_at, add_to, change_or, change_unless, emit_at, emit_from, give, is_same, new_map_at, on_map, own_string, places, say_at, say_to, set_config_at, slot_at}
+use Rattle.q3_server.specs.Server.{Handed, Saying, add_apart, add_client_at, add_to, change_or, change_unless, emit_at, emit_from, give, new_map_at, on_map, own_string, places, say_at, say_to, set_config_at, slot_at}
 use Rattle.q3_server.specs.Taking.{taken_at, unmoved}
 use Rattle.q3_server.specs.declared.server.ConfigRefused.{ConfigRefused}
 use Rattle.q3_server.specs.declared.server.ConfigRefused.TheVariants.{Own}
@@ -432,7 +432,7 @@ module _ (profile : Profile) (whole : Whole) (old : List Move) (time c : ℕ) (l
       (λ e. subst (λ (s : Option SlotState). Past old time s run) (sym (slot_changed on_new_map server.slots c))
       (past_mapped old time on_new_map (slot_at server c) run (λ slot. refl) is))
 
-  config_changes : (index : ℕ) (text : List ℕ) → is_same whole.ends.server.map index text ≡ false → (full : Option ℕ)
+  config_changes : (index : ℕ) (text : List ℕ) → has_string whole.ends.server.map.strings index text ≡ false → (full : Option ℕ)
       → ConfigSo old time c whole index text (change_unless whole.ends.server index text full)
   config_changes index text apart (Some k) = is
   config_changes index text apart None =
@@ -451,7 +451,7 @@ module _ (profile : Profile) (whole : Whole) (old : List Move) (time c : ℕ) (l
   config_or index text (Some fault) = is
   config_or index text None =
       let server = whole.ends.server in
-      cond_both (is_same server.map index text) (record { server = server; answer = Ok tt }) (change_unless server index text (position (lacks_room (piece_texts index text)) server.slots))
+      cond_both (has_string server.map.strings index text) (record { server = server; answer = Ok tt }) (change_unless server index text (position (lacks_room (piece_texts index text)) server.slots))
       (ConfigSo old time c whole index text)
       (λ e. subst (λ (b : Bool). Past old time (slot_at server c) (history_at (if b then whole.histories else with_texts_told server (piece_texts index text) whole.histories) c).run) (sym e) is)
       (λ e. config_changes index text e (position (lacks_room (piece_texts index text)) server.slots))

@@ -52,7 +52,7 @@ use Rattle.q3_world.specs.declared.made.Direction.{Direction}
 use Rattle.q3_world.specs.declared.made.Direction.TheVariants.{ToClient, ToServer}
 use Rattle.q3_world.proofs.Holding.{Holds, has_client, has_slot}
 use Rattle.q3_schedules.proofs.Follows.{follows_built}
-use Rattle.q3_schedules.proofs.FollowsGiven.{At, Of, both_changed, configs, gives, history_changed, in_range_follows, joins, lines, maps, noting, ports, records, same_map, same_state, says, state_in, stops, unnoted}
+use Rattle.q3_schedules.proofs.FollowsGiven.{At, Of, both_changed, configs, gives, history_changed, in_range_follows, joins, baselines, maps, noting, ports, records, same_map, same_state, says, state_in, stops, unnoted}
 use Rattle.q3_schedules.proofs.FollowsHeard.{BeginsSo, TellsOf, emits_so, hears_it, take_follows}
 
 -- ---- where a state stays
@@ -246,7 +246,7 @@ module _ (profile : Profile) (whole : Whole) (old : History) (c : ℕ) (lt : c <
   follows_on flow does_so laws (events.Map id feed) replay none = maps profile whole old c lt holds is id feed
   follows_on flow does_so laws (events.Baseline state) replay none =
       in_range_follows profile whole old c lt holds is state.number (answers.Baseline state.number (Err unset.OutOfRange)) (at_server.set_baseline whole.ends.server state)
-      (lines profile whole old c lt holds is state)
+      (baselines profile whole old c lt holds is state)
   follows_on flow does_so laws (events.Entity state) replay none =
       in_range_follows profile whole old c lt holds is state.number (answers.Entity state.number (Err (record {}))) (at_server.set_entity whole.ends.server state) is
   follows_on flow does_so laws (events.Remove number) replay none =

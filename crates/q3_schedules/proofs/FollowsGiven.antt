@@ -9,7 +9,7 @@ use Rattle.q3_clstate.specs.State.{AppliedState}
 use Rattle.q3_config.specs.Changes.{after_commands}
 use Rattle.q3_config.specs.Commands.{change_in, piece_count}
 use Rattle.q3_config.specs.Laws.{piece_texts}
-use Rattle.q3_config.specs.Strings.{Pending, Strings, admit_fault, with_string}
+use Rattle.q3_config.specs.Strings.{Pending, Strings, admit_fault, with_string, has_string}
 use Rattle.q3_config.specs.declared.error.ConfigError.{ConfigError}
 use Rattle.q3_entity.specs.Baselines.{with_baseline}
 use Rattle.q3_entity.specs.Entities.{normal_entity}
@@ -21,7 +21,7 @@ use Rattle.q3_map.specs.Map.{MapState, after_new_map, with_config}
 use Rattle.q3_map.specs.declared.map.Late.{Late}
 use Rattle.q3_map.specs.declared.map.NotLater.{NotLater}
 use Rattle.q3_profile.specs.declared.profile.Profile.{Profile}
-use Rattle.q3_server.specs.Server.{Handed, Saying, ServerState, add_apart, add_client_at, add_to, change_or, change_unless, give, is_same, new_map_at, own_string, places, say_at, say_to, set_baseline_at, set_config_at, slot_at}
+use Rattle.q3_server.specs.Server.{Handed, Saying, ServerState, add_apart, add_client_at, add_to, change_or, change_unless, give, new_map_at, own_string, places, say_at, say_to, set_baseline_at, set_config_at, slot_at}
 use Rattle.q3_server.specs.declared.server.ConfigRefused.{ConfigRefused}
 use Rattle.q3_server.specs.declared.server.ConfigRefused.TheVariants.{Own}
 use Rattle.q3_server.specs.declared.server.SlotError.{SlotError}
@@ -310,7 +310,7 @@ module _ (profile : Profile) (whole : Whole) (old : History) (c : ℕ) (lt : c <
           (λ e. silent (untold profile whole c slot lt holds at e))
           (λ e. follows_issued map.id map.strings old.built old.server_commands (state_in (place_at whole.ends c)) history.built history.games history.server_commands now (piece_texts index text) makes (pieces_leave laws.read map.strings index text may) is)
 
-  config_changes : ConfigLaws → (index : ℕ) (text : List ℕ) → admit_fault whole.ends.server.map.strings index text ≡ None → is_same whole.ends.server.map index text ≡ false → (full : Option ℕ)
+  config_changes : ConfigLaws → (index : ℕ) (text : List ℕ) → admit_fault whole.ends.server.map.strings index text ≡ None → has_string whole.ends.server.map.strings index text ≡ false → (full : Option ℕ)
       → ConfigSo old c whole index text (change_unless whole.ends.server index text full)
   config_changes laws index text may apart (Some k) = is
   config_changes laws index text may apart None =
@@ -329,7 +329,7 @@ module _ (profile : Profile) (whole : Whole) (old : History) (c : ℕ) (lt : c <
   config_or laws index text (Some fault) at = is
   config_or laws index text None may =
       let server = whole.ends.server in
-      cond_both (is_same server.map index text) (record { server = server; answer = Ok tt }) (change_unless server index text (position (lacks_room (piece_texts index text)) server.slots))
+      cond_both (has_string server.map.strings index text) (record { server = server; answer = Ok tt }) (change_unless server index text (position (lacks_room (piece_texts index text)) server.slots))
       (ConfigSo old c whole index text)
       (λ e. subst (λ (b : Bool). Of old server.map (place_at whole.ends c) (history_at (if b then whole.histories else with_texts_told server (piece_texts index text) whole.histories) c)) (sym e) is)
       (λ e. config_changes laws index text may e (position (lacks_room (piece_texts index text)) server.slots))

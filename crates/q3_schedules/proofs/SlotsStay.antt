@@ -15,7 +15,7 @@ use Rattle.q3_profile.specs.declared.profile.Profile.{Profile}
 use Rattle.q3_map.specs.declared.map.NotLater.{NotLater}
 use Rattle.q3_map.specs.Map as of_map
 use Rattle.q3_config.specs.declared.error.ConfigError.{ConfigError}
-use Rattle.q3_config.specs.Strings.{admit_fault}
+use Rattle.q3_config.specs.Strings.{admit_fault, has_string}
 use Rattle.q3_config.specs.Laws.{piece_texts}
 use Rattle.q3_slot.specs.Slot.{SlotState, is_of, new_slot, on_new_map, with_area, with_player}
 use Rattle.q3_slot.specs.Slots.{lacks_room, say_slot, tells}
@@ -25,7 +25,7 @@ use Rattle.q3_server.specs.declared.server.SlotError.{SlotError}
 use Rattle.q3_server.specs.declared.server.SlotError.TheVariants.{Range}
 use Rattle.q3_server.specs.declared.server.ConfigRefused.{ConfigRefused}
 use Rattle.q3_server.specs.declared.server.ConfigRefused.TheVariants.{Own}
-use Rattle.q3_server.specs.Server.{ServerState, Handed, places, slot_at, add_apart, add_to, add_client_at, on_map, new_map_at, is_same, own_string, change_unless, change_where, change_or, set_config_at, give, say_to, say_at, emit_from, emit_at}
+use Rattle.q3_server.specs.Server.{ServerState, Handed, places, slot_at, add_apart, add_to, add_client_at, on_map, new_map_at, own_string, change_unless, change_where, change_or, set_config_at, give, say_to, say_at, emit_from, emit_at}
 use Rattle.q3_server.specs.Taking as hears
 use Rattle.q3_server.specs.Taking.{take_by, take_from, take_headed}
 use Rattle.q3_script.specs.declared.event.Event.{Event}
@@ -132,7 +132,7 @@ changes_unless server index text None = map_stays (tells (piece_texts index text
 
 changes_where : (server : ServerState) (index : ℕ) (text : List ℕ) → SlotsStay server (change_where server index text).server
 changes_where server index text =
-    cond_both (is_same server.map index text) (record { server = server; answer = Ok tt }) (change_unless server index text (position (lacks_room (piece_texts index text)) server.slots))
+    cond_both (has_string server.map.strings index text) (record { server = server; answer = Ok tt }) (change_unless server index text (position (lacks_room (piece_texts index text)) server.slots))
     (λ (handed : Handed ConfigRefused). SlotsStay server handed.server) (λ same d is. is) (λ other. changes_unless server index text (position (lacks_room (piece_texts index text)) server.slots))
 
 changes_or : (server : ServerState) (index : ℕ) (text : List ℕ) (fault : Option ConfigError) → SlotsStay server (change_or server index text fault).server

@@ -94,7 +94,8 @@ impl Course {
 
     /// Goes on after a line of a client's script.
     fn go_on_client(&mut self, event: &Event) -> Result<(), LineCause>
-        ensures { result_map_both (λ _. self.new) (λ cause. cause) result ≡ client_behind self.old self.old.client event.now }
+        ensures { result_map_both (λ _. self.new) (λ cause. cause) result
+            ≡ client_behind self.old self.old.client event.now }
     {
         match self.client {
             None => self.go_on_first(event),

@@ -2,7 +2,7 @@
 
 ghost use Rattle.std.specs.Prelude.{◌≡◌, ◌≤◌, ◌∷◌, IfOk};
 ghost use Rattle.q3_words.specs.Words.{words_of, words_left};
-ghost use Rattle.q3_words.specs.Numbers.{last_client};
+ghost use Rattle.q3_words.specs.Numbers.{last_client, last_entity};
 ghost use Rattle.q3_script.specs.Lines.{only_number, client_line, port_line, map_line, entity_line, remove_line, baseline_line, player_line, area_line, time_line, config_at, config_line, command_at, say_line, type_line, serve_line, send_line, deliver_line, record_line, stop_line, show_line, bytes_line, hand_at, toclient_line, toserver_line, at_line, end_line, turn_lines, line_in, line_at};
 
 use crate::cause::ScriptKind;
@@ -40,6 +40,15 @@ fn only_client(left: &[u8]) -> Result<u8, LineCause>
 {
     let word = only_word(left).ok_or(LineCause::Count)?;
     client_word(word)
+}
+
+/// The only word, the number of an entity.
+#[tactic(auto, using(crate::proofs::Steps::only_steps))]
+fn only_entity(left: &[u8]) -> Result<u16, LineCause>
+    ensures { result ≡ only_number 0 last_entity (words_left left.now) }
+{
+    let word = only_word(left).ok_or(LineCause::Count)?;
+    entity_word(word)
 }
 
 #[tactic(auto, using(crate::proofs::Steps::client_steps))]
@@ -100,7 +109,7 @@ fn remove(left: &[u8]) -> Result<Event, LineCause>
     ensures { result ≡ remove_line (words_left left.now) }
 {
     Ok(Event::Remove {
-        number: only_number(left, 0, LAST_ENTITY)? as u16,
+        number: only_entity(left)?,
     })
 }
 

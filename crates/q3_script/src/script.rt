@@ -56,7 +56,8 @@ fn line_behind(bytes: &[u8], pieces: u32) -> u32
 /// The events of all lines, up to the first bad one.
 fn events(alloc: Global, kind: ScriptKind, bytes: &[u8]) -> Result<Vec<Event>, ScriptError>
     requires { length bytes.now ≤ longest_script }
-    ensures { Reads (with_items result) (events_from kind (line_behind bytes.now) 1 0 no_course (lines_of bytes.now)) }
+    ensures { Reads (with_items result) (events_from kind (line_behind bytes.now) 1 0 no_course
+        (lines_of bytes.now)) }
 {
     let mut events = Vec::new(alloc);
     let mut course = Course::new();
@@ -110,7 +111,8 @@ pub fn read_script(alloc: Global, kind: ScriptKind, bytes: &[u8]) -> Result<Vec<
     // What is read is a script of these events.
     ensures found { IfOk result (λ events. SpellsScript kind bytes.now events.items) }
     // What is a script of some events is read as them, unless memory runs out.
-    ensures only { (events : List EventValue) → SpellsScript kind bytes.now events → Reads (with_items result) (Ok events) }
+    ensures only { (events : List EventValue) → SpellsScript kind bytes.now events
+        → Reads (with_items result) (Ok events) }
     // Each event is one that a script of the kind may have.
     ensures each { IfOk result (λ events. All (IsEventOf kind) events.items) }
     // Which line is the first bad one, and why.

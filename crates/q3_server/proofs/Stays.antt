@@ -15,7 +15,7 @@ use Rattle.q3_player.specs.declared.state.PlayerState.{PlayerState}
 use Rattle.q3_player.specs.State.{IsState}
 use Rattle.q3_entity.specs.declared.state.EntityState.{EntityState}
 use Rattle.q3_config.specs.declared.error.ConfigError.{ConfigError}
-use Rattle.q3_config.specs.Strings.{admit_fault}
+use Rattle.q3_config.specs.Strings.{admit_fault, has_string}
 use Rattle.q3_config.specs.Laws.{piece_texts}
 use Rattle.q3_map.specs.declared.map.NotLater.{NotLater}
 use Rattle.q3_map.specs.Map as of_map
@@ -26,7 +26,7 @@ use Rattle.q3_slot.specs.Taking.{take_slot}
 use Rattle.q3_server.specs.declared.server.SlotError.{SlotError}
 use Rattle.q3_server.specs.declared.server.SlotError.TheVariants.{Range}
 use Rattle.q3_server.specs.declared.server.ConfigRefused.{ConfigRefused}
-use Rattle.q3_server.specs.Server.{ServerState, Handed, own_string, slot_at, with_slot, new_server, add_apart, add_to, add_client_at, set_time_at, set_entity_at, remove_entity_at, on_map, new_map_at, set_baseline_at, is_same, change_unless, change_or, set_config_at, give, set_player_at, set_area_at, set_delayed_at, say_to, say_at, emit_from, emit_at}
+use Rattle.q3_server.specs.Server.{ServerState, Handed, own_string, slot_at, with_slot, new_server, add_apart, add_to, add_client_at, set_time_at, set_entity_at, remove_entity_at, on_map, new_map_at, set_baseline_at, change_unless, change_or, set_config_at, give, set_player_at, set_area_at, set_delayed_at, say_to, say_at, emit_from, emit_at}
 use Rattle.q3_server.specs.Taking.{sender_of, take_by, take_from, take_headed, take_at}
 use Rattle.q3_server.specs.Standing.{IsServer, IsJoined, IsServerState, Below}
 use Rattle.q3_server.proofs.KeepsMap.{map_none, map_new}
@@ -157,5 +157,5 @@ module _ (below : Below) (server : ServerState) (is : IsServerState server) wher
       of_fault other (Some fault) found = is
       of_fault other None found =
           let change = position (lacks_room (piece_texts index text)) server.slots in
-          cond_both (is_same server.map index text) (record { server = server; answer = Ok tt }) (change_unless server index text change)
+          cond_both (has_string server.map.strings index text) (record { server = server; answer = Ok tt }) (change_unless server index text change)
           (λ (handed : Handed ConfigRefused). Stays handed) (λ same. is) (λ other_text. of_place other found change)

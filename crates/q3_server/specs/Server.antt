@@ -11,10 +11,9 @@ use Rattle.q3_map.specs.Map as of_map
 use Rattle.q3_map.specs.Map.{MapState, no_map, with_config}
 use Rattle.q3_map.specs.declared.map.NotLater.{NotLater}
 use Rattle.q3_map.specs.declared.map.Late.{Late}
-use Rattle.q3_text.specs.Texts.{translated}
 use Rattle.q3_config.specs.declared.error.ConfigError.{ConfigError}
 use Rattle.q3_config.specs.declared.error.ConfigError.TheVariants as faults
-use Rattle.q3_config.specs.Strings.{string_at, admit_fault}
+use Rattle.q3_config.specs.Strings.{has_string, admit_fault}
 use Rattle.q3_config.specs.Laws.{piece_texts}
 use Rattle.q3_slot.specs.declared.answer.Emitted.{Emitted}
 use Rattle.q3_slot.specs.declared.answer.Emitted.TheVariants as emitted
@@ -29,7 +28,6 @@ use Rattle.q3_server.specs.declared.server.SlotError.{SlotError}
 use Rattle.q3_server.specs.declared.server.SlotError.TheVariants.{Range, Taken, Twin}
 use Rattle.q3_server.specs.declared.server.ConfigRefused.{ConfigRefused}
 use Rattle.q3_server.specs.declared.server.ConfigRefused.TheVariants.{Index, Own, Chars, Long, Full, WindowFull}
-use Rattle.std.specs.Str.{bytes_eq}
 
 -- how many clients there may be
 abbrev pub places : ℕ
@@ -127,10 +125,6 @@ refused_for (faults.Chars byte) = Chars byte
 refused_for faults.Long = Long
 refused_for faults.Full = Full
 
--- whether a string is a text already, as it is kept
-abbrev pub is_same : MapState → ℕ → List ℕ → Bool
-is_same of_server index text = bytes_eq (string_at of_server.strings index) (map translated text)
-
 -- the string is changed, and each client for which a gamestate was begun is told by commands
 abbrev pub change_config : ServerState → ℕ → List ℕ → ServerState
 change_config server index text = record server {
@@ -146,7 +140,7 @@ change_unless server index text None = record { server = change_config server in
 -- a change to the text that is there is none
 abbrev pub change_where : ServerState → ℕ → List ℕ → Handed ConfigRefused
 change_where server index text =
-    if is_same server.map index text then record { server = server; answer = Ok tt }
+    if has_string server.map.strings index text then record { server = server; answer = Ok tt }
     else change_unless server index text (position (lacks_room (piece_texts index text)) server.slots)
 
 abbrev pub change_or : ServerState → ℕ → List ℕ → Option ConfigError → Handed ConfigRefused

@@ -102,8 +102,10 @@ impl Model for Server {
 
     ghost view = { λ s. record { profile = s.profile; map = s.map; slots = s.slots.items; frames = s.frames } };
 
-    ghost invariant = { λ s. (length s.slots.items ≤ places) × (length s.frames.slots ≡ length s.slots.items) × HoldLists s.profile.entity s.frames
-        × (length s.buffer.items ≡ longest_message) × (length s.whole.items ≡ longest_message) × IsServer s.profile s.map s.slots.items };
+    ghost invariant = { λ s. (length s.slots.items ≤ places) × (length s.frames.slots ≡ length s.slots.items)
+        × HoldLists s.profile.entity s.frames
+        × (length s.buffer.items ≡ longest_message) × (length s.whole.items ≡ longest_message)
+        × IsServer s.profile s.map s.slots.items };
 }
 
 impl Server {

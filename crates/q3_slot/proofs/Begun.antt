@@ -41,5 +41,5 @@ pub is_begun : (profile : Profile) (map : MapState) (frames built : FramesState)
     → built ≡ build_at frames c snapshot → baselines ≡ map.baselines
     → built_of (telling_under profile (slot_with issued client) number) baselines (base_of built c number (asked (slot_with issued client))) snapshot
     ≡ begun_next profile map frames c (slot_of sending gathering issued client)
-is_begun profile map frames built c sending gathering issued client number snapshot baselines number_is snapshot_is built_is lines_are =
-    rw (number_is, built_is, lines_are, snapshot_is) refl
+is_begun profile map frames built c sending gathering issued client number snapshot baselines number_is snapshot_is built_is baselines_are =
+    rw (number_is, built_is, baselines_are, snapshot_is) refl

@@ -47,7 +47,8 @@ pub(crate) fn begin_game(
     ensures answer { (gathering : Gathering) (frames : FramesState) → result
         ≡ (game_emission profile.now map.old frames slot (slot_of sender.old gathering issued.now client.old)).answer }
     ensures piece { (gathering : Gathering) (frames : FramesState)
-        → HandsOut (game_emission profile.now map.old frames slot (slot_of sender.old gathering issued.now client.old)).piece out.new.items }
+        → HandsOut (game_emission profile.now map.old frames slot
+        (slot_of sender.old gathering issued.now client.old)).piece out.new.items }
     ensures number { sender.new.number < sequence_end }
     ensures buffer { length buffer.new ≡ longest_message }
 {
@@ -98,7 +99,8 @@ pub(crate) fn begin_snapshot(
     ensures answer { (gathering : Gathering) → result
         ≡ (snapshot_emission profile.now map.now frames.old to.entry.slot (slot_of sender.old gathering to.entry.issued.now to.entry.client.now)).answer }
     ensures piece { (gathering : Gathering)
-        → HandsOut (snapshot_emission profile.now map.now frames.old to.entry.slot (slot_of sender.old gathering to.entry.issued.now to.entry.client.now)).piece out.new.items }
+        → HandsOut (snapshot_emission profile.now map.now frames.old to.entry.slot
+        (slot_of sender.old gathering to.entry.issued.now to.entry.client.now)).piece out.new.items }
     ensures slots { length frames.new.slots ≡ length frames.old.slots }
     ensures lists { HoldLists profile.now.entity frames.new }
     ensures number { sender.new.number < sequence_end }

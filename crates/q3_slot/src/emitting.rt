@@ -53,7 +53,8 @@ pub fn build(frames: &mut Frames, slot: u8, head: &SnapHead, entities: &[EntityS
     requires rises { Rises entities.now }
     ensures built { frames.new ≡ build_at frames.old slot (record { head = head.now; entities = entities.now }) }
     ensures slots { length frames.new.slots ≡ length frames.old.slots }
-    ensures lists { (table : Layout) → IsList table entities.now → HoldLists table frames.old → HoldLists table frames.new }
+    ensures lists { (table : Layout) → IsList table entities.now → HoldLists table frames.old
+        → HoldLists table frames.new }
 {
     laws::build_keeps();
     laws::held_was_built();
@@ -77,9 +78,11 @@ pub(crate) fn write_next(
     requires lists { HoldLists profile.now.entity frames.old }
     requires numbers { RiseFrom (end_mark profile.now.entity) 0 map.now.entities }
     requires buffer { length buffer.old ≡ longest_message }
-    ensures written { HoldsBuilt profile.now (begun_next profile.now map.now frames.old to.entry.slot (slot_of sender.now (new_gathering (client_form None)) to.entry.issued.now to.entry.client.now))
+    ensures written { HoldsBuilt profile.now (begun_next profile.now map.now frames.old to.entry.slot
+        (slot_of sender.now (new_gathering (client_form None)) to.entry.issued.now to.entry.client.now))
         buffer.new result }
-    ensures frames { frames.new ≡ next_frames map.now frames.old to.entry.slot (slot_of sender.now (new_gathering (client_form None)) to.entry.issued.now to.entry.client.now) }
+    ensures frames { frames.new ≡ next_frames map.now frames.old to.entry.slot
+        (slot_of sender.now (new_gathering (client_form None)) to.entry.issued.now to.entry.client.now) }
     ensures slots { length frames.new.slots ≡ length frames.old.slots }
     ensures lists { HoldLists profile.now.entity frames.new }
 {
@@ -103,7 +106,8 @@ fn write_against(
     requires lists { HoldLists profile.now.entity frames.now }
     requires listed { IsList profile.now.entity entities.now }
     requires buffer { length buffer.old ≡ longest_message }
-    ensures { HoldsBuilt profile.now (built_of (telling_under profile.now (slot_with to.entry.issued.now to.entry.client.now) head.now.number) map.now.baselines
+    ensures { HoldsBuilt profile.now (built_of (telling_under profile.now
+        (slot_with to.entry.issued.now to.entry.client.now) head.now.number) map.now.baselines
         (base_of frames.now to.entry.slot head.now.number (asked (slot_with to.entry.issued.now to.entry.client.now)))
         (record { head = head.now; entities = entities.now })) buffer.new result }
 {
@@ -128,7 +132,8 @@ fn base_in<'a>(frames: &'a Frames, slot: u8, number: u32, delta: u32) -> (u32, O
     ensures number { result.0 ≡ number_of (base_of frames.now slot number delta) }
     ensures base { option_map base_viewed result.1 ≡ option_map base_from (base_of frames.now slot number delta) }
     ensures named { IsNamed (option_map base_viewed result.1) number result.0 }
-    ensures listed { (table : Layout) → HoldLists table frames.now → IsList table (base_entities (option_map base_viewed result.1)) }
+    ensures listed { (table : Layout) → HoldLists table frames.now
+        → IsList table (base_entities (option_map base_viewed result.1)) }
 {
     laws::base_is_near();
     match frames.base_for(slot, number, delta) {

@@ -154,7 +154,8 @@ impl Joined {
         bytes: &mut [u8],
         into: &mut ClientMessage,
     ) -> Result<Origin, ClientIllegible>
-        ensures { came_of (said_of into.new) result ≡ said_by profile.now map.now (slot_with issued.now self.now) bytes.old }
+        ensures { came_of (said_of into.new) result ≡ said_by profile.now map.now
+            (slot_with issued.now self.now) bytes.old }
     {
         let heads = read_heads(&profile.code, bytes)?;
         check_ack(issued, heads.command)?;
@@ -184,7 +185,8 @@ impl Joined {
         ensures slot { (sending : Sending) (gathering : Gathering) → slot_of sending gathering issued.new self.new
             ≡ (run_read map.now (slot_of sending gathering issued.old self.old) slot number (came_of (said_of message.now) read)).slot }
         ensures answer { (sending : Sending) (gathering : Gathering)
-            → result ≡ (run_read map.now (slot_of sending gathering issued.old self.old) slot number (came_of (said_of message.now) read)).answer }
+            → result ≡ (run_read map.now (slot_of sending gathering issued.old self.old) slot number
+            (came_of (said_of message.now) read)).answer }
         ensures commands { (sending : Sending) (gathering : Gathering) → heard.new.commands
             ≡ (run_read map.now (slot_of sending gathering issued.old self.old) slot number (came_of (said_of message.now) read)).commands }
         ensures moves { (sending : Sending) (gathering : Gathering) → heard.new.moves.items
@@ -219,8 +221,12 @@ impl Joined {
     ) -> ServerTook
         ensures slot { (sending : Sending) (gathering : Gathering) → slot_of sending gathering issued.new self.new
             ≡ (ignores map.now (slot_of sending gathering issued.old self.old) slot (leading_of heads)).slot }
-        ensures answer { (sending : Sending) (gathering : Gathering) → result ≡ (ignores map.now (slot_of sending gathering issued.old self.old) slot (leading_of heads)).answer }
-        ensures owed { (sending : Sending) (gathering : Gathering) → heard.new.owed ≡ (ignores map.now (slot_of sending gathering issued.old self.old) slot (leading_of heads)).owed }
+        ensures answer { (sending : Sending) (gathering : Gathering)
+            → result ≡ (ignores map.now (slot_of sending gathering issued.old self.old) slot
+            (leading_of heads)).answer }
+        ensures owed { (sending : Sending) (gathering : Gathering)
+            → heard.new.owed ≡ (ignores map.now (slot_of sending gathering issued.old self.old) slot
+            (leading_of heads)).owed }
         ensures commands { heard.new.commands ≡ heard.old.commands }
         ensures moves { heard.new.moves.items ≡ heard.old.moves.items }
         ensures entered { heard.new.entered ≡ heard.old.entered }
@@ -265,8 +271,10 @@ impl Joined {
             ≡ record (played self.old (goes_with sending gathering issued.old self.old (said_of message.now))) { executed = executes self.old.executed (said_of message.now).commands } }
         ensures issued { issued.new ≡ (acknowledge_at issued.old (said_of message.now).command).window }
         ensures commands { heard.new.commands ≡ fresh_of self.old.executed.executed (said_of message.now).commands }
-        ensures moves { (sending : Sending) (gathering : Gathering) → heard.new.moves.items ≡ (goes_with sending gathering issued.old self.old (said_of message.now)).moves }
-        ensures entered { (sending : Sending) (gathering : Gathering) → heard.new.entered ≡ (goes_with sending gathering issued.old self.old (said_of message.now)).entered }
+        ensures moves { (sending : Sending) (gathering : Gathering)
+            → heard.new.moves.items ≡ (goes_with sending gathering issued.old self.old (said_of message.now)).moves }
+        ensures entered { (sending : Sending) (gathering : Gathering)
+            → heard.new.entered ≡ (goes_with sending gathering issued.old self.old (said_of message.now)).entered }
         ensures owed { heard.new.owed ≡ heard.old.owed }
     {
         self.play(message, heard);
@@ -303,7 +311,11 @@ impl Joined {
     fn enter(&mut self, time: u32, rest: &[Move], heard: &mut Heard)
         requires few { length rest.now ≤ 32 }
         requires no_moves { heard.old.moves.items ≡ [] }
-        ensures client { self.new ≡ record self.old { stage = Active; delta = 0; last_run = last_run_of time rest.now } }
+        ensures client { self.new ≡ record self.old {
+          stage = Active;
+          delta = 0;
+          last_run = last_run_of time rest.now;
+        } }
         ensures moves { heard.new.moves.items ≡ runs time rest.now }
         ensures entered { heard.new.entered ≡ Some time }
         ensures commands { heard.new.commands ≡ heard.old.commands }
@@ -335,7 +347,8 @@ impl Joined {
     /// don't count.
     pub fn fill(&self, sender: &Sender, map: &Map, head: &mut SnapHead)
         requires { sender.now.number + 1 < 2 ^ 32 }
-        ensures head { head.new ≡ (next_snapshot map.now (slot_of sender.now (new_gathering (client_form None)) new_outgoing self.now)).head }
+        ensures head { head.new ≡ (next_snapshot map.now (slot_of sender.now
+            (new_gathering (client_form None)) new_outgoing self.now)).head }
         ensures number { head.new.number ≡ sender.now.number + 1 }
     {
         head.number = sender.number() + 1;

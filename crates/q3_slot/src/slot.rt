@@ -66,7 +66,8 @@ impl Model for Slot {
     ghost view = { λ s. option_map (slot_of s.sender s.gatherer s.issued) s.client };
 
     ghost invariant = { λ s. (s.sender.number < sequence_end)
-        × MatchOption s.client ((s.sender ≡ new_sending (server_form None) 0) × (s.gatherer ≡ new_gathering (client_form None)) × (s.issued ≡ new_outgoing)) (λ client. ⊤) };
+        × MatchOption s.client ((s.sender ≡ new_sending (server_form None) 0)
+        × (s.gatherer ≡ new_gathering (client_form None)) × (s.issued ≡ new_outgoing)) (λ client. ⊤) };
 }
 
 impl Slot {
@@ -282,7 +283,8 @@ impl Slot {
         requires not_owed { heard.old.owed ≡ false }
         ensures slot { self.new ≡ slot_behind profile.now map.now slot from datagram.now self.old }
         ensures answer { result ≡ (taken_of profile.now map.now slot from datagram.now self.old).answer }
-        ensures commands { heard.new.commands ≡ (taken_of profile.now map.now slot from datagram.now self.old).commands }
+        ensures commands { heard.new.commands ≡ (taken_of profile.now map.now slot from datagram.now
+            self.old).commands }
         ensures moves { heard.new.moves.items ≡ (taken_of profile.now map.now slot from datagram.now self.old).moves }
         ensures entered { heard.new.entered ≡ (taken_of profile.now map.now slot from datagram.now self.old).entered }
         ensures owed { heard.new.owed ≡ (taken_of profile.now map.now slot from datagram.now self.old).owed }
@@ -432,7 +434,8 @@ fn changes_own(text: &Text) -> bool
 fn issue_pieces(issued: &mut Outgoing, index: u32, text: &[u8])
     requires index { index < places }
     requires chars { All (λ byte. IsTrue (is_config_byte byte)) text.now }
-    requires fits { fits issued.old (length (piece_texts index text.now)) (total_of (piece_texts index text.now)) ≡ true }
+    requires fits { fits issued.old (length (piece_texts index text.now))
+        (total_of (piece_texts index text.now)) ≡ true }
     ensures { issued.new ≡ with_texts issued.old (piece_texts index text.now) }
 {
     for k in 0..pieces(text.len()) {

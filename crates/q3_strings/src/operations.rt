@@ -28,7 +28,8 @@ pub fn read_row(
     commands: &mut Commands,
 ) -> Result<u32, OperationError>
     requires { IsCode r.old.words }
-    ensures reads { Reads r.old r.new (row_at r.old.words command (length r.old.left) commands.old r.old.left) (rowed commands.new result) }
+    ensures reads { Reads r.old r.new (row_at r.old.words command (length r.old.left) commands.old r.old.left)
+        (rowed commands.new result) }
     ensures byte { IfOk result (λ operation. operation < 256) }
 {
     laws::turns_are_taken();

@@ -40,7 +40,8 @@ fn write_fours(w: &mut Writer, bytes: &[u8], count: usize) -> Result<(), Overflo
 /// The number whose four bytes, least byte first, stand at a place.
 fn four_at(bytes: &[u8], place: usize) -> u32
     requires { place + 4 ≤ length bytes.now }
-    ensures { (words : List (List Bool)) → field_bits words 32 result ≡ bytes_row words (take 4 (drop place bytes.now)) }
+    ensures { (words : List (List Bool)) → field_bits words 32 result ≡ bytes_row words
+        (take 4 (drop place bytes.now)) }
 {
     u32::from_le_bytes([
         bytes[place],

@@ -80,9 +80,12 @@ fn read_snapshot(
     entities: &mut List,
 ) -> Result<Section, Illegible>
     requires { Rises (base_entities (option_map base_viewed against)) }
-    ensures reads { (game : Gamestate) → Reads r.old r.new (snapshot_at (record profile.now { code = r.old.words }) baselines.now (option_map base_viewed against.entry) base head.old r.old.left)
+    ensures reads { (game : Gamestate) → Reads r.old r.new (snapshot_at
+        (record profile.now { code = r.old.words }) baselines.now
+        (option_map base_viewed against.entry) base head.old r.old.left)
         (telling game head.new entities.new.items result) }
-    ensures list { (game : Gamestate) → IfOk result (λ section. HasList profile.now.entity (section_of section game head.new entities.new.items)) }
+    ensures list { (game : Gamestate) → IfOk result (λ section. HasList profile.now.entity
+        (section_of section game head.new entities.new.items)) }
     ensures number { head.new.number ≡ head.old.number }
 {
     let zero = PlayerState::zero();
@@ -114,9 +117,11 @@ fn read_against<B: Bases>(
     head: &mut SnapHead,
     entities: &mut List,
 ) -> Result<Section, Illegible>
-    ensures reads { (game : Gamestate) → Reads r.old r.new (against_base (record profile.now { code = r.old.words }) (B.context bases.now) distance base (held_base (B.context bases.now) base) head.old r.old.left)
+    ensures reads { (game : Gamestate) → Reads r.old r.new (against_base (record profile.now { code = r.old.words })
+        (B.context bases.now) distance base (held_base (B.context bases.now) base) head.old r.old.left)
         (telling game head.new entities.new.items result) }
-    ensures list { (game : Gamestate) → IfOk result (λ section. HasList profile.now.entity (section_of section game head.new entities.new.items)) }
+    ensures list { (game : Gamestate) → IfOk result (λ section. HasList profile.now.entity
+        (section_of section game head.new entities.new.items)) }
     ensures number { head.new.number ≡ head.old.number }
 {
     let against = held(bases, base);
@@ -137,9 +142,11 @@ fn read_section<B: Bases>(
     head: &mut SnapHead,
     entities: &mut List,
 ) -> Result<Section, Illegible>
-    ensures reads { (game : Gamestate) → Reads r.old r.new (section_at (record profile.now { code = r.old.words }) (B.context bases.now) number r.old.left)
+    ensures reads { (game : Gamestate) → Reads r.old r.new (section_at (record profile.now { code = r.old.words })
+        (B.context bases.now) number r.old.left)
         (telling game head.new entities.new.items result) }
-    ensures list { (game : Gamestate) → IfOk result (λ section. HasList profile.now.entity (section_of section game head.new entities.new.items)) }
+    ensures list { (game : Gamestate) → IfOk result (λ section. HasList profile.now.entity
+        (section_of section game head.new entities.new.items)) }
     ensures number { head.new.number ≡ number }
 {
     *head = SnapHead::new();
@@ -155,7 +162,8 @@ fn read_section<B: Bases>(
 /// Reads a gamestate after its operation, into its places.
 #[tactic(auto, unfolding(crate::specs::Reading::game_at))]
 fn read_game(r: &mut Reader, profile: &Profile, into: &mut ServerMessage) -> Result<(), Illegible>
-    ensures reads { Reads r.old r.new (game_at (record profile.now { code = r.old.words }) r.old.left) (holding (Game (game_of into.new)) result) }
+    ensures reads { Reads r.old r.new (game_at (record profile.now { code = r.old.words }) r.old.left)
+        (holding (Game (game_of into.new)) result) }
     ensures ack { into.new.ack ≡ into.old.ack }
     ensures commands { into.new.commands ≡ into.old.commands }
 {
@@ -187,7 +195,8 @@ fn read_rest<B: Bases>(
     requires number { HasNumber number (told_of into.old).section }
     requires code { IsCode r.old.words }
     requires byte { operation < 256 }
-    ensures reads { Reads r.old r.new (rest_at (record profile.now { code = r.old.words }) (B.context bases.now) number operation (told_of into.old) r.old.left)
+    ensures reads { Reads r.old r.new (rest_at (record profile.now { code = r.old.words })
+        (B.context bases.now) number operation (told_of into.old) r.old.left)
         (holding (told_of into.new) result) }
     ensures list { OnOk result (HasList profile.now.entity (told_of into.new).section) }
     ensures number { OnOk result (HasNumber number (told_of into.new).section) }
@@ -226,7 +235,8 @@ fn read_operations<B: Bases>(
     requires list { HasList profile.now.entity (told_of into.old).section }
     requires number { HasNumber number (told_of into.old).section }
     requires code { IsCode r.old.words }
-    ensures reads { Reads r.old r.new (operations_at (record profile.now { code = r.old.words }) (B.context bases.now) number (told_of into.old) r.old.left)
+    ensures reads { Reads r.old r.new (operations_at (record profile.now { code = r.old.words })
+        (B.context bases.now) number (told_of into.old) r.old.left)
         (holding (told_of into.new) result) }
     ensures list { OnOk result (HasList profile.now.entity (told_of into.new).section) }
     ensures number { OnOk result (HasNumber number (told_of into.new).section) }
@@ -253,7 +263,8 @@ pub fn read_server_message<B: Bases>(
     bases: &B,
     into: &mut ServerMessage,
 ) -> Result<(), Illegible>
-    ensures reads { holding (told_of into.new) result ≡ server_message_in profile.now (B.context bases.now) number (bits_of bytes.now) }
+    ensures reads { holding (told_of into.new) result ≡ server_message_in profile.now (B.context bases.now) number
+        (bits_of bytes.now) }
     ensures list { OnOk result (HasList profile.now.entity (told_of into.new).section) }
     ensures number { OnOk result (HasNumber number (told_of into.new).section) }
 {

@@ -38,7 +38,8 @@ pub fn write_snap(
     requires base_entities { IsList profile.now.entity (base_entities (option_map base_viewed base)) }
     requires some { 1 ≤ length into.old }
     requires most { length into.old ≤ 16384 }
-    ensures { Fills into.old into.new (server_message_bits profile.now baselines.now (option_map base_viewed base.entry) (told_of message.now)) result }
+    ensures { Fills into.old into.new (server_message_bits profile.now baselines.now
+        (option_map base_viewed base.entry) (told_of message.now)) result }
 {
     match message.section {
         Section::Snap {
@@ -65,7 +66,8 @@ pub fn write_parts(
     requires base_entities { IsList profile.now.entity (base_entities (option_map base_viewed base)) }
     requires some { 1 ≤ length into.old }
     requires most { length into.old ≤ 16384 }
-    ensures { Fills into.old into.new (server_message_bits profile.now baselines.now (option_map base_viewed base.entry) (parts_told parts.entry)) result }
+    ensures { Fills into.old into.new (server_message_bits profile.now baselines.now
+        (option_map base_viewed base.entry) (parts_told parts.entry)) result }
 {
     let mut w = Writer::new(&profile.code, into.len());
     write_snap_bits(&mut w, profile, parts, baselines, base)?;
@@ -82,7 +84,8 @@ pub fn write_game(
     requires game { message.now.section ≡ Section.Game }
     requires some { 1 ≤ length into.old }
     requires most { length into.old ≤ 16384 }
-    ensures { (baselines : Baselines) → Fills into.old into.new (server_message_bits profile.now baselines None (told_of message.now)) result }
+    ensures { (baselines : Baselines) → Fills into.old into.new
+        (server_message_bits profile.now baselines None (told_of message.now)) result }
 {
     write_game_parts(profile, game_parts_of(message), into)
 }
@@ -95,7 +98,8 @@ pub fn write_game_parts(
 ) -> Result<usize, Overflow>
     requires some { 1 ≤ length into.old }
     requires most { length into.old ≤ 16384 }
-    ensures { (baselines : Baselines) → Fills into.old into.new (server_message_bits profile.now baselines None (game_told parts.entry)) result }
+    ensures { (baselines : Baselines) → Fills into.old into.new
+        (server_message_bits profile.now baselines None (game_told parts.entry)) result }
 {
     fill_game(profile, parts, into)
 }
@@ -104,7 +108,8 @@ pub fn write_game_parts(
 fn fill_game(profile: &Profile, parts: GameParts, into: &mut [u8]) -> Result<usize, Overflow>
     requires some { 1 ≤ length into.old }
     requires most { length into.old ≤ 16384 }
-    ensures { Fills into.old into.new (server_message_bits profile.now no_baselines None (game_told parts.entry)) result }
+    ensures { Fills into.old into.new (server_message_bits profile.now no_baselines None (game_told parts.entry))
+        result }
 {
     let mut w = Writer::new(&profile.code, into.len());
     write_game_bits(&mut w, profile, parts)?;
@@ -167,7 +172,8 @@ fn write_snap_bits(
     requires named { IsNamed (option_map base_viewed base) parts.head.now.number parts.base }
     requires entities { IsList profile.now.entity (run_of parts.entities) }
     requires base_entities { IsList profile.now.entity (base_entities (option_map base_viewed base)) }
-    ensures { Writes w.old w.new (server_message_bits (record profile.now { code = w.old.words }) baselines.now (option_map base_viewed base.entry) (parts_told parts.entry)) result }
+    ensures { Writes w.old w.new (server_message_bits (record profile.now { code = w.old.words }) baselines.now
+        (option_map base_viewed base.entry) (parts_told parts.entry)) result }
 {
     laws::texts_are_written();
     write_front(w, parts.ack, parts.commands)?;
@@ -186,7 +192,8 @@ fn write_snap_bits(
 /// Writes a message with a gamestate: the front, the gamestate, and the end.
 #[tactic(auto, unfolding(crate::specs::Texts::server_message_bits, crate::specs::Texts::section_bits))]
 fn write_game_bits(w: &mut Writer, profile: &Profile, parts: GameParts) -> Result<(), Overflow>
-    ensures { Writes w.old w.new (server_message_bits (record profile.now { code = w.old.words }) no_baselines None (game_told parts.entry)) result }
+    ensures { Writes w.old w.new (server_message_bits (record profile.now { code = w.old.words }) no_baselines None
+        (game_told parts.entry)) result }
 {
     laws::texts_are_written();
     write_front(w, parts.ack, parts.commands)?;
@@ -196,7 +203,8 @@ fn write_game_bits(w: &mut Writer, profile: &Profile, parts: GameParts) -> Resul
 
 /// Writes what begins each message: the last client command executed, and the commands.
 fn write_front(w: &mut Writer, ack: u32, commands: CommandRun) -> Result<(), Overflow>
-    ensures { Writes w.old w.new (row_bits w.old.words ((ack, 32) ∷ []) ++ commands_bits w.old.words 5 (commands_of commands.entry)) result }
+    ensures { Writes w.old w.new (row_bits w.old.words ((ack, 32) ∷ []) ++ commands_bits w.old.words 5
+        (commands_of commands.entry)) result }
 {
     laws::texts_are_written();
     w.put_all(&[(ack, LONG)])?;
@@ -217,7 +225,8 @@ fn write_snapshot(
     requires number { number ≤ head.now.number }
     requires entities { IsList profile.now.entity (run_of entities) }
     requires base_entities { IsList profile.now.entity (base_entities (option_map base_viewed base)) }
-    ensures { Writes w.old w.new (snapshot_bits (record profile.now { code = w.old.words }) baselines.now (option_map base_viewed base.entry) number head.now (run_of entities.entry)) result }
+    ensures { Writes w.old w.new (snapshot_bits (record profile.now { code = w.old.words }) baselines.now
+        (option_map base_viewed base.entry) number head.now (run_of entities.entry)) result }
 {
     laws::texts_are_written();
     let zero = PlayerState::zero();

@@ -29,7 +29,8 @@ impl Store {
     pub fn put(&mut self, name: &[u8], bytes: &[u8], count: usize) -> bool
         requires { length bytes.now ≤ count }
         ensures fits { result ≡ has_room self.old name.now count }
-        ensures whole { self.new ≡ (if has_room self.old name.now count then after_put self.old name.now bytes.now count else self.old) }
+        ensures whole { self.new ≡ (if has_room self.old name.now count
+            then after_put self.old name.now bytes.now count else self.old) }
     {
         let Some(left) = self.room().checked_sub(count) else {
             return false;
@@ -52,7 +53,8 @@ impl Store {
     /// Puts bytes after those of the file of this name, where there is one and they fit.
     pub fn append(&mut self, name: &[u8], bytes: &[u8]) -> bool
         ensures fits { result ≡ can_add self.old name.now bytes.now }
-        ensures whole { self.new ≡ (if can_add self.old name.now bytes.now then after_add self.old name.now bytes.now else self.old) }
+        ensures whole { self.new ≡ (if can_add self.old name.now bytes.now then after_add self.old name.now bytes.now
+            else self.old) }
     {
         let Some(place) = self.find(name) else {
             return false;

@@ -36,7 +36,8 @@ impl Model for MemFiles {
 
     ghost view = { λ m. files_state m.store m.numbers m.calls m.faults m.write_faults };
 
-    ghost invariant = { λ m. (m.store.room ≤ m.numbers.room) × All (λ name. IsSome (contents_of m.store.files name)) m.numbers.numbers };
+    ghost invariant = { λ m. (m.store.room ≤ m.numbers.room)
+        × All (λ name. IsSome (contents_of m.store.files name)) m.numbers.numbers };
 }
 
 impl MemFiles {
@@ -70,7 +71,8 @@ impl MemFiles {
 
     /// What the file of this name holds.
     pub fn contents(&self, name: &str) -> Option<&[u8]>
-        ensures { MatchOption result (contents_of self.now.told.files name.now ≡ None) (λ bytes. contents_of self.now.told.files name.now ≡ Some bytes.now) }
+        ensures { MatchOption result (contents_of self.now.told.files name.now ≡ None)
+            (λ bytes. contents_of self.now.told.files name.now ≡ Some bytes.now) }
     {
         let place = self.store.find(name.as_bytes())?;
         Some(self.store.contents(place))

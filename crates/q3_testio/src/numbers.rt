@@ -32,15 +32,23 @@ impl Model for Numbers {
       room = n.names.room;
     } };
 
-    ghost invariant = { λ n. (length n.creates.items ≡ length n.names.texts) × (length n.asked.items ≡ length n.names.texts)
-        × (length n.names.texts + n.names.spare ≤ vec_capacity n.creates) × (length n.names.texts + n.names.spare ≤ vec_capacity n.asked) };
+    ghost invariant = { λ n. (length n.creates.items ≡ length n.names.texts)
+        × (length n.asked.items ≡ length n.names.texts)
+        × (length n.names.texts + n.names.spare ≤ vec_capacity n.creates)
+        × (length n.names.texts + n.names.spare ≤ vec_capacity n.asked) };
 }
 
 impl Numbers {
     /// No numbers, with room for so many, and for names of so many bytes.
     #[tactic(auto, unfolding(crate::specs::FileNumbers::named_of))]
     pub fn new(alloc: Global, numbers: usize, room: usize) -> Result<Numbers, NoMemory>
-        ensures { IfOk result (λ new. new ≡ record { numbers = []; asked = []; named = []; spare = numbers; room = room }) }
+        ensures { IfOk result (λ new. new ≡ record {
+          numbers = [];
+          asked = [];
+          named = [];
+          spare = numbers;
+          room = room;
+        }) }
     {
         Ok(Numbers {
             names: Texts::new(alloc, numbers, room)?,

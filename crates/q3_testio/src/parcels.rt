@@ -21,9 +21,14 @@ impl Model for Parcels {
 
     ghost Value = { ParcelsState };
 
-    ghost view = { λ p. record { parcels = parcels_of p.addresses.items p.texts.texts; spare = p.texts.spare; room = p.texts.room } };
+    ghost view = { λ p. record {
+      parcels = parcels_of p.addresses.items p.texts.texts;
+      spare = p.texts.spare;
+      room = p.texts.room;
+    } };
 
-    ghost invariant = { λ p. (length p.addresses.items ≡ length p.texts.texts) × (length p.texts.texts + p.texts.spare ≤ vec_capacity p.addresses) };
+    ghost invariant = { λ p. (length p.addresses.items ≡ length p.texts.texts)
+        × (length p.texts.texts + p.texts.spare ≤ vec_capacity p.addresses) };
 }
 
 #[tactic(auto, using(crate::proofs::ParcelPlaces::length_parcels_of))]
@@ -75,7 +80,8 @@ impl Parcels {
     pub fn push(&mut self, address: Address, bytes: &[u8])
         requires spare { 0 < self.old.spare }
         requires room { length bytes.now ≤ self.old.room }
-        ensures parcels { self.new.parcels ≡ self.old.parcels ++ record { address = address; bytes = bytes.now } ∷ [] }
+        ensures parcels { self.new.parcels ≡ self.old.parcels
+            ++ record { address = address; bytes = bytes.now } ∷ [] }
         ensures left { self.new.spare ≡ self.old.spare - 1 }
         ensures room { self.new.room ≡ self.old.room - length bytes.now }
     {

@@ -33,7 +33,12 @@ impl Model for MemSink {
 impl MemSink {
     /// A sink with room for so many bytes, whose calls with these numbers fail, counted from 1.
     pub fn new(alloc: Global, room: usize, fails: &[u64]) -> Result<MemSink, NoMemory>
-        ensures { IfOk result (λ sink. sink ≡ record { written = []; room = room; calls = record { made = 0; fails = fails.now }; faults = 0 }) }
+        ensures { IfOk result (λ sink. sink ≡ record {
+          written = [];
+          room = room;
+          calls = record { made = 0; fails = fails.now };
+          faults = 0;
+        }) }
     {
         Ok(MemSink {
             written: Vec::with_capacity(alloc, room)?,

@@ -24,7 +24,11 @@ impl Model for Store {
 
     ghost Value = { StoreState };
 
-    ghost view = { λ s. record { files = files_of s.names.texts s.contents.texts; spare = s.names.spare; room = s.room } };
+    ghost view = { λ s. record {
+      files = files_of s.names.texts s.contents.texts;
+      spare = s.names.spare;
+      room = s.room;
+    } };
 
     ghost invariant = { λ s. (length s.contents.texts ≡ length s.names.texts) × (s.contents.spare ≡ s.names.spare)
         × (s.room ≤ s.names.room) × (s.room ≤ s.contents.room) };
@@ -98,7 +102,8 @@ impl Store {
     pub fn add_at(&mut self, place: usize, bytes: &[u8])
         requires within { place < length self.old.files }
         requires room { length bytes.now ≤ self.old.room }
-        ensures files { self.new.files ≡ with_contents_at self.old.files place ((file_at self.old.files place).contents ++ bytes.now) }
+        ensures files { self.new.files ≡ with_contents_at self.old.files place
+            ((file_at self.old.files place).contents ++ bytes.now) }
         ensures spare { self.new.spare ≡ self.old.spare }
         ensures left { self.new.room ≡ self.old.room - length bytes.now }
     {

@@ -86,7 +86,8 @@ impl Texts {
     pub fn add(&mut self, place: usize, bytes: &[u8])
         requires within { place < length self.old.texts }
         requires room { length bytes.now ≤ self.old.room }
-        ensures texts { self.new.texts ≡ slice_set self.old.texts place (slice_index_or self.old.texts place [] ++ bytes.now) }
+        ensures texts { self.new.texts ≡ slice_set self.old.texts place
+            (slice_index_or self.old.texts place [] ++ bytes.now) }
         ensures left { self.new.spare ≡ self.old.spare }
         ensures room { self.new.room ≡ self.old.room - length bytes.now }
     {
@@ -101,7 +102,8 @@ impl Texts {
         requires room { length bytes.now ≤ self.old.room }
         ensures texts { self.new.texts ≡ slice_set self.old.texts place bytes.now }
         ensures left { self.new.spare ≡ self.old.spare }
-        ensures room { self.new.room ≡ self.old.room + length (slice_index_or self.old.texts place []) - length bytes.now }
+        ensures room { self.new.room ≡ self.old.room + length
+            (slice_index_or self.old.texts place []) - length bytes.now }
     {
         self.clear(place);
         self.add(place, bytes);

@@ -46,7 +46,8 @@ impl Model for MemWire {
     } };
 
     ghost invariant = { λ w. (length w.ready.items ≡ length w.arrivals.parcels) × (w.next ≤ length w.ready.items)
-        × (length w.arrivals.parcels + w.arrivals.spare ≤ vec_capacity w.ready) × (w.room ≤ w.arrivals.room) × (w.room ≤ w.sent.room) };
+        × (length w.arrivals.parcels + w.arrivals.spare ≤ vec_capacity w.ready) × (w.room ≤ w.arrivals.room)
+        × (w.room ≤ w.sent.room) };
 }
 
 impl MemWire {
@@ -77,7 +78,8 @@ impl MemWire {
     /// One further `receive` finds this datagram, after all that was told before. False exactly where the room is spent.
     pub fn ready(&mut self, from: Address, bytes: &[u8]) -> bool
         ensures told { result ≡ can_tell self.old bytes.now }
-        ensures whole { self.new ≡ after_telling self.old (Some (record { address = from; bytes = bytes.now })) bytes.now }
+        ensures whole { self.new ≡ after_telling self.old (Some (record { address = from; bytes = bytes.now }))
+            bytes.now }
     {
         if self.arrivals.spare() == 0 || bytes.len() > self.room {
             return false;
@@ -100,7 +102,8 @@ impl MemWire {
 
     /// The datagram that was sent at this place, counted from 0: where it went to, and its bytes.
     pub fn sent(&self, k: usize) -> Option<(Address, &[u8])>
-        ensures { option_map (λ sent. record { address = sent.0; bytes = sent.1.now }) result ≡ slice_get self.now.traffic.sent k }
+        ensures { option_map (λ sent. record { address = sent.0; bytes = sent.1.now }) result
+            ≡ slice_get self.now.traffic.sent k }
     {
         if k >= self.sent.count() {
             return None;

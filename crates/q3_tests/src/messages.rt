@@ -18,7 +18,7 @@ struct NoneHeld {
 impl Bases for NoneHeld {
     ghost use Rattle.std.specs.Prelude.{None};
 
-    ghost context = { λ h. record { base = λ n. None; lines = h.baselines } };
+    ghost context = { λ h. record { base = λ n. None; baselines = h.baselines } };
 
     fn base(&self, _number: u32) -> Option<BaseView<'_>> {
         None

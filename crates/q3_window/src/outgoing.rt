@@ -193,7 +193,8 @@ fn no_command() -> Command
 /// Puts a command into the place of its number.
 fn put(cells: &mut Vec<Command>, number: u32, text: &Text)
     requires { length cells.old.items ≡ places }
-    ensures { cells.new.items ≡ slice_set cells.old.items (number % places) (record { number = number; text = text.now }) }
+    ensures { cells.new.items ≡ slice_set cells.old.items (number % places)
+        (record { number = number; text = text.now }) }
 {
     set_command(&mut cells[(number % PLACES) as usize], number, text);
 }

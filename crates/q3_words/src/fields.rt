@@ -29,7 +29,8 @@ fn field(letter: &[u8], limit: u32, least: u32, word: &[u8]) -> Option<(u32, u32
 /// after them. A field has no letter; the values of an array have one.
 pub fn take_fields<'a>(letter: &[u8], values: &mut [u32], start: &'a [u8]) -> &'a [u8]
     requires { (1 ≤ length values.old) × (length values.old < 2 ^ 32) }
-    ensures values { values.new ≡ with_changes values.old (fields_at letter.now (length values.old) 0 (words_left start.now)).fields }
+    ensures values { values.new ≡ with_changes values.old (fields_at letter.now (length values.old) 0
+        (words_left start.now)).fields }
     ensures left { words_left result.now ≡ (fields_at letter.now (length values.old) 0 (words_left start.now)).left }
 {
     let limit = values.len() as u32;

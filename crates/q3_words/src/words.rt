@@ -28,7 +28,8 @@ pub fn next_word(left: &[u8]) -> Option<(&[u8], &[u8])>
 
 /// The next three words in what is left of a line, and what is left after them.
 pub fn next_three(left: &[u8]) -> Option<(&[u8], &[u8], &[u8], &[u8])>
-    ensures { option_map (λ next. (next.0.now, next.1.now, next.2.now, words_left next.3.now)) result ≡ three_of (words_left left.now) }
+    ensures { option_map (λ next. (next.0.now, next.1.now, next.2.now, words_left next.3.now)) result ≡ three_of
+        (words_left left.now) }
 {
     let (first, left) = next_word(left)?;
     let (second, left) = next_word(left)?;

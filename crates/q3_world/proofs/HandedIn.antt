@@ -18,7 +18,7 @@ use Rattle.q3_entity.specs.Entities.{normal_entity}
 use Rattle.q3_entity.specs.Baselines.{with_baseline}
 use Rattle.q3_text.specs.Texts.{IsText}
 use Rattle.q3_config.specs.declared.error.ConfigError.{ConfigError}
-use Rattle.q3_config.specs.Strings.{with_string, admit_fault}
+use Rattle.q3_config.specs.Strings.{with_string, admit_fault, has_string}
 use Rattle.q3_config.specs.Laws.{piece_texts}
 use Rattle.q3_config.proofs.Faults.{Admitted, admitted}
 use Rattle.q3_window.specs.Outgoing.{IsOutgoing, fits as has_room, total_of, with_texts}
@@ -36,7 +36,7 @@ use Rattle.q3_slot.specs.Slot.{new_slot, SlotState, is_connected, is_of, on_new_
 use Rattle.q3_slot.specs.Slots.{changes_own, lacks_room, tells}
 use Rattle.q3_server.specs.declared.server.ConfigRefused.{ConfigRefused}
 use Rattle.q3_server.specs.declared.server.ConfigRefused.TheVariants.{Own}
-use Rattle.q3_server.specs.Server.{ServerState, Handed, places, own_string, slot_at, with_slot, is_same, change_config, change_unless, change_or}
+use Rattle.q3_server.specs.Server.{ServerState, Handed, places, own_string, slot_at, with_slot, change_config, change_unless, change_or}
 use Rattle.q3_report.specs.declared.answer.HandedIn.{HandedIn}
 use Rattle.q3_report.specs.declared.answer.HandedIn.TheVariants as answers
 use Rattle.q3_report.specs.declared.answer.BaselineRefused.TheVariants as unset
@@ -379,7 +379,7 @@ holds_config profile whole index text cited bytes holds =
           own = pieces_own cited.below.configs.read index text other may.within may.carried;
         }) holds
 
-    of_place : (index ≡ 1 → ⊥) → Admitted whole.ends.server.map.strings index text → admit_fault whole.ends.server.map.strings index text ≡ None → is_same whole.ends.server.map index text ≡ false → (found : Option ℕ)
+    of_place : (index ≡ 1 → ⊥) → Admitted whole.ends.server.map.strings index text → admit_fault whole.ends.server.map.strings index text ≡ None → has_string whole.ends.server.map.strings index text ≡ false → (found : Option ℕ)
         → position (lacks_room (piece_texts index text)) whole.ends.server.slots ≡ found → Configured profile whole index text (change_unless whole.ends.server index text found)
     of_place other may fault changed (Some c) found = holds
     of_place other may fault changed None found = rw changed (told other may fault found)
@@ -387,7 +387,7 @@ holds_config profile whole index text cited bytes holds =
     of_fault : (index ≡ 1 → ⊥) → (fault : Option ConfigError) → admit_fault whole.ends.server.map.strings index text ≡ fault → Configured profile whole index text (change_or whole.ends.server index text fault)
     of_fault other (Some fault) refused = holds
     of_fault other None none =
-        elim (cases_Bool (is_same whole.ends.server.map index text)) [
+        elim (cases_Bool (has_string whole.ends.server.map.strings index text)) [
           | inl same ↦ rw same (rw same holds)
           | inr changed ↦ rw changed (of_place other (admitted whole.ends.server.map.strings index text none) none changed (position (lacks_room (piece_texts index text)) whole.ends.server.slots) refl)
         ]

@@ -1,4 +1,4 @@
--- Which texts of config strings may go out as commands.
+-- The pieces of a change to a config string leave string 1 alone.
 use Rattle.std.proofs.Common.{◌≡◌, ℕ, ◌<◌, true, false, List, length, get_or, Option, Some, refl, sym, ap, ◌∙◌, inl}
 use Rattle.std.specs.Prelude.{All}
 use Rattle.std.specs.List.{range_with_len}

@@ -30,7 +30,8 @@ use Rattle.q3_client.specs.Client.{Taken, receive_message, take_gathered}
 use Rattle.q3_client.specs.Sending as speaks
 use Rattle.q3_client.specs.Sending.{Said, said_bytes}
 use Rattle.q3_report.specs.ServerLines.{Run}
-use Rattle.q3_server.specs.Server.{ServerState, Emission, places, slot_at, emit_at, is_same}
+use Rattle.q3_config.specs.Strings.{has_string}
+use Rattle.q3_server.specs.Server.{ServerState, Emission, places, slot_at, emit_at}
 use Rattle.q3_server.specs.Taking as hears
 use Rattle.q3_report.specs.declared.answer.HandedIn.TheVariants as handed
 use Rattle.q3_report.specs.declared.answer.Front.TheVariants as fronts
@@ -200,7 +201,7 @@ with_texts_told server texts histories =
 -- if it did; a change to the text that was there issues nothing
 abbrev pub with_told : ServerState → ℕ → List ℕ → Answered → List History → List History
 with_told server index text (Given (handed.Config i (Ok x))) histories =
-    if is_same server.map index text then histories else with_texts_told server (piece_texts index text) histories
+    if has_string server.map.strings index text then histories else with_texts_told server (piece_texts index text) histories
 with_told server index text other histories = histories
 
 -- a command that it issued, if it did

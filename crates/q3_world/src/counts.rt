@@ -47,7 +47,12 @@ impl Counts {
 
     /// An event, and these lines of a client that took a datagram.
     fn of_client(accepted: u64, skipped: u64, commands: usize) -> Counts
-        ensures { result ≡ record no_counts { events = 1; accepted = accepted; skipped = skipped; server_commands = commands } }
+        ensures { result ≡ record no_counts {
+          events = 1;
+          accepted = accepted;
+          skipped = skipped;
+          server_commands = commands;
+        } }
     {
         Counts {
             events: 1,

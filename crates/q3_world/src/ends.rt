@@ -97,9 +97,11 @@ impl Ends {
         requires line { IsSome (step_in (line_of profile.now self.old event.now)) }
         requires numbered { AreNumbered (F.told files.old) (F.given files.old) numbers.old self.old }
         ensures does { IfSome (step_in (line_of profile.now self.old event.now))
-            (λ step. EndsDo self.old self.new counts.old counts.new (O.written out.old) (O.written out.new) (O.faults out.old) (O.faults out.new) step result) }
+            (λ step. EndsDo self.old self.new counts.old counts.new (O.written out.old) (O.written out.new)
+            (O.faults out.old) (O.faults out.new) step result) }
         ensures memory { IsErrOf result StepError.NoMemory → TakesMemory event.now }
-        ensures files { DoesFiles (F.told files.old) (F.told files.new) (F.given files.old) (F.given files.new) (F.faults files.old) (F.faults files.new)
+        ensures files { DoesFiles (F.told files.old) (F.told files.new) (F.given files.old) (F.given files.new)
+            (F.faults files.old) (F.faults files.new)
             (F.write_faults files.old) (F.write_faults files.new) (line_acts self.old event.now) result }
         ensures numbered { AreNumbered (F.told files.new) (F.given files.new) numbers.new self.new }
         ensures same { IsErrOf result StepError.NoMemory → numbers.new ≡ numbers.old }
@@ -162,7 +164,8 @@ impl Ends {
     ) -> Result<HandedIn, NoMemory>
         requires profile { IsProfile profile.now }
         requires place { c < places }
-        ensures ok { IfOk result (λ handed. join profile.now self.old c challenge qport dup address ≡ record { ends = self.new; answer = Given handed }) }
+        ensures ok { IfOk result (λ handed. join profile.now self.old c challenge qport dup address
+            ≡ record { ends = self.new; answer = Given handed }) }
         ensures err { OnErr result (self.new ≡ self.old) }
     {
         let client = Client::new(alloc, profile, challenge, qport, dup)?;
@@ -206,7 +209,8 @@ impl Ends {
         requires event { IsReplayEvent event.now }
         requires line { IsSome (server_line self.old.server event.now) }
         ensures ends { self.new ≡ (game_step self.old (server_line self.old.server event.now)).ends }
-        ensures told { Tells counts.old counts.new (O.written out.old) (O.written out.new) (O.faults out.old) (O.faults out.new)
+        ensures told { Tells counts.old counts.new (O.written out.old) (O.written out.new) (O.faults out.old)
+            (O.faults out.new)
             (game_step self.old (server_line self.old.server event.now)).answer result }
     {
         let handed = server_line(&mut self.server, event).unwrap();
@@ -254,10 +258,13 @@ impl Ends {
         requires place { c < places }
         requires fresh { fresh ≡ new_recording fresh.name }
         requires numbered { AreNumbered (F.told files.old) (F.given files.old) numbers.old self.old }
-        ensures does { EndsDo self.old self.new counts.old counts.new (O.written out.old) (O.written out.new) (O.faults out.old) (O.faults out.new) (record_to self.old c fresh.name) result }
+        ensures does { EndsDo self.old self.new counts.old counts.new (O.written out.old) (O.written out.new)
+            (O.faults out.old) (O.faults out.new) (record_to self.old c fresh.name) result }
         ensures memory { IsErrOf result StepError.NoMemory → ⊥ }
-        ensures files { DoesFiles (F.told files.old) (F.told files.new) (F.given files.old) (F.given files.new) (F.faults files.old) (F.faults files.new)
-            (F.write_faults files.old) (F.write_faults files.new) (begin_acts (place_at self.old c) fresh.name) result }
+        ensures files { DoesFiles (F.told files.old) (F.told files.new) (F.given files.old) (F.given files.new)
+            (F.faults files.old) (F.faults files.new)
+            (F.write_faults files.old) (F.write_faults files.new)
+            (begin_acts (place_at self.old c) fresh.name) result }
         ensures numbered { AreNumbered (F.told files.new) (F.given files.new) numbers.new self.new }
     {
         let Some(place) = &mut self.clients[c as usize] else {
@@ -292,9 +299,11 @@ impl Ends {
     ) -> Result<(), StepError>
         requires place { c < places }
         requires numbered { AreNumbered (F.told files.old) (F.given files.old) numbers.now self.old }
-        ensures does { EndsDo self.old self.new counts.old counts.new (O.written out.old) (O.written out.new) (O.faults out.old) (O.faults out.new) (stop self.old c) result }
+        ensures does { EndsDo self.old self.new counts.old counts.new (O.written out.old) (O.written out.new)
+            (O.faults out.old) (O.faults out.new) (stop self.old c) result }
         ensures memory { IsErrOf result StepError.NoMemory → ⊥ }
-        ensures files { DoesFiles (F.told files.old) (F.told files.new) (F.given files.old) (F.given files.new) (F.faults files.old) (F.faults files.new)
+        ensures files { DoesFiles (F.told files.old) (F.told files.new) (F.given files.old) (F.given files.new)
+            (F.faults files.old) (F.faults files.new)
             (F.write_faults files.old) (F.write_faults files.new) (stop_acts (place_at self.old c)) result }
         ensures numbered { AreNumbered (F.told files.new) (F.given files.new) numbers.now self.new }
     {
@@ -320,8 +329,12 @@ impl Ends {
     fn end_at<F: Files>(&mut self, c: u8, number: usize, files: &mut F) -> Result<(), Failed>
         requires place { c < places }
         requires file { HasFile (F.told files.old) (F.given files.old) number (recording_at (place_at self.old c)) }
-        ensures ends { self.new ≡ record self.old { clients = slice_set self.old.clients c (without (place_at self.old c)) } }
-        ensures files { WritesFiles (F.told files.old) (F.told files.new) (F.given files.old) (F.given files.new) (F.faults files.old) (F.faults files.new)
+        ensures ends { self.new ≡ record self.old {
+          clients = slice_set self.old.clients c
+              (without (place_at self.old c));
+        } }
+        ensures files { WritesFiles (F.told files.old) (F.told files.new) (F.given files.old) (F.given files.new)
+            (F.faults files.old) (F.faults files.new)
             (F.write_faults files.old) (F.write_faults files.new) (stop_acts (place_at self.old c)) result }
     {
         let Some(place) = &mut self.clients[c as usize] else {
@@ -334,7 +347,8 @@ impl Ends {
     /// Every recording that goes on has its end, by client. `Failed` comes where one can't be written.
     pub fn finish<F: Files>(&mut self, numbers: &[usize; 16], files: &mut F) -> Result<(), Failed>
         requires numbered { AreNumbered (F.told files.old) (F.given files.old) numbers.now self.old }
-        ensures files { WritesFiles (F.told files.old) (F.told files.new) (F.given files.old) (F.given files.new) (F.faults files.old) (F.faults files.new)
+        ensures files { WritesFiles (F.told files.old) (F.told files.new) (F.given files.old) (F.given files.new)
+            (F.faults files.old) (F.faults files.new)
             (F.write_faults files.old) (F.write_faults files.new) (ending_acts self.old) result }
         ensures ended { OnOk result (self.new ≡ ended self.old) }
         ensures numbered { AreNumbered (F.told files.new) (F.given files.new) numbers.now self.new }
@@ -379,10 +393,12 @@ impl Ends {
     ) -> Result<(), StepError>
         requires place { c < places }
         requires numbered { AreNumbered (F.told files.old) (F.given files.old) numbers.now self.old }
-        ensures does { EndsDo self.old self.new counts.old counts.new (O.written out.old) (O.written out.new) (O.faults out.old) (O.faults out.new)
+        ensures does { EndsDo self.old self.new counts.old counts.new (O.written out.old) (O.written out.new)
+            (O.faults out.old) (O.faults out.new)
             (client_takes self.old c front bytes.now (place_at self.old c)) result }
         ensures memory { IsErrOf result StepError.NoMemory → ⊥ }
-        ensures files { DoesFiles (F.told files.old) (F.told files.new) (F.given files.old) (F.given files.new) (F.faults files.old) (F.faults files.new)
+        ensures files { DoesFiles (F.told files.old) (F.told files.new) (F.given files.old) (F.given files.new)
+            (F.faults files.old) (F.faults files.new)
             (F.write_faults files.old) (F.write_faults files.new) (take_acts (place_at self.old c) bytes.now) result }
         ensures numbered { AreNumbered (F.told files.new) (F.given files.new) numbers.now self.new }
     {
@@ -413,7 +429,8 @@ impl Ends {
     ) -> Result<(), StepError>
         requires { c < places }
         ensures ends { self.new ≡ (hand_server self.old c bytes.now).ends }
-        ensures told { Tells counts.old counts.new (O.written out.old) (O.written out.new) (O.faults out.old) (O.faults out.new)
+        ensures told { Tells counts.old counts.new (O.written out.old) (O.written out.new) (O.faults out.old)
+            (O.faults out.new)
             (hand_server self.old c bytes.now).answer result }
     {
         let front = Front::Toserver { c };
@@ -436,7 +453,8 @@ impl Ends {
         out: &mut O,
     ) -> Result<(), StepError>
         ensures ends { self.new ≡ (server_takes self.old front from bytes.now).ends }
-        ensures told { Tells counts.old counts.new (O.written out.old) (O.written out.new) (O.faults out.old) (O.faults out.new)
+        ensures told { Tells counts.old counts.new (O.written out.old) (O.written out.new) (O.faults out.old)
+            (O.faults out.new)
             (server_takes self.old front from bytes.now).answer result }
     {
         tell(
@@ -460,11 +478,14 @@ impl Ends {
     ) -> Result<(), StepError>
         requires number { 1 ≤ number }
         requires numbered { AreNumbered (F.told files.old) (F.given files.old) numbers.now self.old }
-        ensures does { EndsDo self.old self.new counts.old counts.new (O.written out.old) (O.written out.new) (O.faults out.old) (O.faults out.new)
+        ensures does { EndsDo self.old self.new counts.old counts.new (O.written out.old) (O.written out.new)
+            (O.faults out.old) (O.faults out.new)
             (deliver_at self.old number (slice_get datagrams.now (number - 1))) result }
         ensures memory { IsErrOf result StepError.NoMemory → ⊥ }
-        ensures files { DoesFiles (F.told files.old) (F.told files.new) (F.given files.old) (F.given files.new) (F.faults files.old) (F.faults files.new)
-            (F.write_faults files.old) (F.write_faults files.new) (deliver_acts self.old (slice_get datagrams.now (number - 1))) result }
+        ensures files { DoesFiles (F.told files.old) (F.told files.new) (F.given files.old) (F.given files.new)
+            (F.faults files.old) (F.faults files.new)
+            (F.write_faults files.old) (F.write_faults files.new)
+            (deliver_acts self.old (slice_get datagrams.now (number - 1))) result }
         ensures numbered { AreNumbered (F.told files.new) (F.given files.new) numbers.now self.new }
     {
         let front = Front::Deliver { datagram: number };
@@ -505,9 +526,11 @@ impl Ends {
         requires room { length datagrams.old.items + 1 ≤ vec_capacity datagrams.old }
         requires bytes { (bytes.items ≡ []) × (DATAGRAM_ROOM ≤ vec_capacity bytes) }
         ensures kept { (kept : Kept) → kept.ends ≡ self.old → kept.datagrams ≡ datagrams.old.items
-            → (kept_serve kept c (emit_at kept.ends.server c)).kept ≡ record kept { ends = self.new; datagrams = datagrams.new.items } }
+            → (kept_serve kept c (emit_at kept.ends.server c)).kept
+            ≡ record kept { ends = self.new; datagrams = datagrams.new.items } }
         ensures told { (kept : Kept) → kept.ends ≡ self.old → kept.datagrams ≡ datagrams.old.items
-            → Tells counts.old counts.new (O.written out.old) (O.written out.new) (O.faults out.old) (O.faults out.new)
+            → Tells counts.old counts.new (O.written out.old) (O.written out.new) (O.faults out.old)
+            (O.faults out.new)
             (kept_serve kept c (emit_at kept.ends.server c)).answer result }
     {
         let datagram = datagrams.len() as u32 + 1;
@@ -536,9 +559,11 @@ impl Ends {
         requires room { length datagrams.old.items + 1 ≤ vec_capacity datagrams.old }
         requires bytes { (bytes.items ≡ []) × (DATAGRAM_ROOM ≤ vec_capacity bytes) }
         ensures kept { (kept : Kept) → kept.ends ≡ self.old → kept.datagrams ≡ datagrams.old.items
-            → (kept_send kept c (place_at kept.ends c)).kept ≡ record kept { ends = self.new; datagrams = datagrams.new.items } }
+            → (kept_send kept c (place_at kept.ends c)).kept
+            ≡ record kept { ends = self.new; datagrams = datagrams.new.items } }
         ensures told { (kept : Kept) → kept.ends ≡ self.old → kept.datagrams ≡ datagrams.old.items
-            → Tells counts.old counts.new (O.written out.old) (O.written out.new) (O.faults out.old) (O.faults out.new)
+            → Tells counts.old counts.new (O.written out.old) (O.written out.new) (O.faults out.old)
+            (O.faults out.new)
             (kept_send kept c (place_at kept.ends c)).answer result }
     {
         let datagram = datagrams.len() as u32 + 1;

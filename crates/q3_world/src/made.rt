@@ -64,7 +64,8 @@ pub(crate) fn keep(
     requires client { client < places }
     requires room { length datagrams.old.items + 1 ≤ vec_capacity datagrams.old }
     requires bytes { (bytes.items ≡ []) × (DATAGRAM_ROOM ≤ vec_capacity bytes) }
-    ensures { (piece : Option Piece) → HandsOut piece out.now.items → datagrams.new.items ≡ datagrams_after datagrams.old.items client direction piece }
+    ensures { (piece : Option Piece) → HandsOut piece out.now.items
+        → datagrams.new.items ≡ datagrams_after datagrams.old.items client direction piece }
 {
     let mut bytes = bytes;
     if !out.is_empty() {

@@ -64,10 +64,13 @@ impl Place {
     ) -> Result<Result<(), RecordRefused>, Failed>
         requires file { HasFile (F.told files.old) (F.given files.old) number.old self.old.recording }
         ensures kept { self.new ≡ record self.old { recording = self.new.recording } }
-        ensures recording { OnOk result (self.new.recording ≡ (begin_at self.old.client self.old.recording fresh).recording) }
+        ensures recording { OnOk result (self.new.recording
+            ≡ (begin_at self.old.client self.old.recording fresh).recording) }
         ensures answer { IfOk result (λ answer. answer ≡ (begin_at self.old.client self.old.recording fresh).answer) }
-        ensures files { WritesFiles (F.told files.old) (F.told files.new) (F.given files.old) (F.given files.new) (F.faults files.old) (F.faults files.new)
-            (F.write_faults files.old) (F.write_faults files.new) (begin_at self.old.client self.old.recording fresh).acts (done result) }
+        ensures files { WritesFiles (F.told files.old) (F.told files.new) (F.given files.old) (F.given files.new)
+            (F.faults files.old) (F.faults files.new)
+            (F.write_faults files.old) (F.write_faults files.new)
+            (begin_at self.old.client self.old.recording fresh).acts (done result) }
         ensures file { HasFile (F.told files.new) (F.given files.new) number.new self.new.recording }
     {
         begin(&self.client, &mut self.recording, fresh, number, files)
@@ -82,7 +85,8 @@ impl Place {
         requires file { HasFile (F.told files.old) (F.given files.old) number self.old.recording }
         ensures place { self.new ≡ record self.old { recording = (stop_at self.old.recording).recording } }
         ensures answer { IfOk result (λ answer. answer ≡ (stop_at self.old.recording).answer) }
-        ensures files { WritesFiles (F.told files.old) (F.told files.new) (F.given files.old) (F.given files.new) (F.faults files.old) (F.faults files.new)
+        ensures files { WritesFiles (F.told files.old) (F.told files.new) (F.given files.old) (F.given files.new)
+            (F.faults files.old) (F.faults files.new)
             (F.write_faults files.old) (F.write_faults files.new) (stop_at self.old.recording).acts (done result) }
     {
         stop(&mut self.recording, number, files)
@@ -101,10 +105,13 @@ impl Place {
         out: &mut O,
     ) -> Result<(), StepError>
         requires file { HasFile (F.told files.old) (F.given files.old) number self.old.recording }
-        ensures takes { TakesAt self.old (take_at self.old.client bytes.now) self.new front c counts.old counts.new (O.written out.old) (O.written out.new)
+        ensures takes { TakesAt self.old (take_at self.old.client bytes.now) self.new front c counts.old counts.new
+            (O.written out.old) (O.written out.new)
             (O.faults out.old) (O.faults out.new) result }
-        ensures files { DoesFiles (F.told files.old) (F.told files.new) (F.given files.old) (F.given files.new) (F.faults files.old) (F.faults files.new)
-            (F.write_faults files.old) (F.write_faults files.new) (note_taken self.old.recording self.old.client (take_at self.old.client bytes.now)).acts result }
+        ensures files { DoesFiles (F.told files.old) (F.told files.new) (F.given files.old) (F.given files.new)
+            (F.faults files.old) (F.faults files.new)
+            (F.write_faults files.old) (F.write_faults files.new)
+            (note_taken self.old.recording self.old.client (take_at self.old.client bytes.now)).acts result }
         ensures file { HasFile (F.told files.new) (F.given files.new) number self.new.recording }
     {
         let Ok((took, ended)) = take(
@@ -130,7 +137,10 @@ impl Place {
 
     /// The client makes a datagram, which it sends from this address.
     pub(crate) fn send(&mut self, out: &mut Datagram) -> (Sent, Address)
-        ensures place { self.new ≡ record self.old { client = (emit_at (asking self.old.client self.old.recording)).client } }
+        ensures place { self.new ≡ record self.old {
+          client = (emit_at
+              (asking self.old.client self.old.recording)).client;
+        } }
         ensures answer { result ≡ ((emit_at (asking self.old.client self.old.recording)).answer, self.old.address) }
         ensures piece { HandsOut (emit_at (asking self.old.client self.old.recording)).piece out.new.items }
     {

@@ -24,7 +24,8 @@ pub(crate) fn tell<O: Sink>(
     counts: &mut Counts,
     out: &mut O,
 ) -> Result<(), StepError>
-    ensures { Tells counts.old counts.new (O.written out.old) (O.written out.new) (O.faults out.old) (O.faults out.new) (answered_of answer.now) result }
+    ensures { Tells counts.old counts.new (O.written out.old) (O.written out.new) (O.faults out.old)
+        (O.faults out.new) (answered_of answer.now) result }
 {
     *counts = counts.with(lines_in(answer));
     match print_answer(answer, out) {

@@ -78,7 +78,8 @@ impl World {
         requires { IsProfile profile.now }
         ensures stands { IfOk result (λ world. StandsFor profile.now world.kept (opening profile.now)) }
         ensures counts { IfOk result (λ world. world.counts ≡ no_counts) }
-        ensures numbered { IfOk result (λ world. (told : Option Told) (given : ℕ) → AreNumbered told given world.numbers world.kept.ends) }
+        ensures numbered { IfOk result (λ world. (told : Option Told) (given : ℕ)
+            → AreNumbered told given world.numbers world.kept.ends) }
     {
         laws::layers();
         let world = World::empty(alloc, profile)?;
@@ -127,18 +128,23 @@ impl World {
         ensures stands { OnOk result ((profile : ProfileValue) (whole : Whole) → StandsFor profile self.old.kept whole
             → StandsFor profile self.new.kept (step_of profile whole event.now).whole) }
         ensures kept { OnOk result (self.new.kept ≡ (kept_step self.old.kept event.now).kept) }
-        ensures counts { OnOk result (self.new.counts ≡ counted self.old.counts (kept_step self.old.kept event.now).answer) }
-        ensures counts_whole { OnOk result ((profile : ProfileValue) (whole : Whole) → StandsFor profile self.old.kept whole
+        ensures counts { OnOk result (self.new.counts ≡ counted self.old.counts
+            (kept_step self.old.kept event.now).answer) }
+        ensures counts_whole { OnOk result ((profile : ProfileValue) (whole : Whole)
+            → StandsFor profile self.old.kept whole
             → self.new.counts ≡ counted self.old.counts (step_of profile whole event.now).answer) }
-        ensures printed { Prints (O.written out.old) (O.written out.new) (lines_of (kept_step self.old.kept event.now).answer) result }
+        ensures printed { Prints (O.written out.old) (O.written out.new)
+            (lines_of (kept_step self.old.kept event.now).answer) result }
         ensures lines { (profile : ProfileValue) (whole : Whole) → StandsFor profile self.old.kept whole
-            → Prints (O.written out.old) (O.written out.new) (lines_of (step_of profile whole event.now).answer) result }
+            → Prints (O.written out.old) (O.written out.new)
+            (lines_of (step_of profile whole event.now).answer) result }
         ensures flushed { OnOk result (NothingWaits (O.written out.new)) }
         ensures cause { HasStepCause (O.faults out.old) (O.faults out.new) result }
         ensures no_memory { IsErrOf result StepError.NoMemory
             → TakesMemory event.now × (self.new ≡ self.old) × (O.written out.new ≡ O.written out.old) }
         ensures few { length self.new.kept.datagrams ≤ length self.old.kept.datagrams + 1 }
-        ensures files { DoesFiles (F.told files.old) (F.told files.new) (F.given files.old) (F.given files.new) (F.faults files.old) (F.faults files.new)
+        ensures files { DoesFiles (F.told files.old) (F.told files.new) (F.given files.old) (F.given files.new)
+            (F.faults files.old) (F.faults files.new)
             (F.write_faults files.old) (F.write_faults files.new) (acts_of self.old.kept event.now) result }
         ensures numbered { AreNumbered (F.told files.new) (F.given files.new) self.new.numbers self.new.kept.ends }
     {
@@ -158,9 +164,11 @@ impl World {
         requires event { IsReplayEvent event.now }
         requires few { length self.old.kept.datagrams < most_datagrams }
         requires numbered { AreNumbered (F.told files.old) (F.given files.old) self.old.numbers self.old.kept.ends }
-        ensures does { Does self.old self.new (O.written out.old) (O.written out.new) (O.faults out.old) (O.faults out.new) (kept_step self.old.kept event.now) result }
+        ensures does { Does self.old self.new (O.written out.old) (O.written out.new) (O.faults out.old)
+            (O.faults out.new) (kept_step self.old.kept event.now) result }
         ensures memory { IsErrOf result StepError.NoMemory → TakesMemory event.now }
-        ensures files { DoesFiles (F.told files.old) (F.told files.new) (F.given files.old) (F.given files.new) (F.faults files.old) (F.faults files.new)
+        ensures files { DoesFiles (F.told files.old) (F.told files.new) (F.given files.old) (F.given files.new)
+            (F.faults files.old) (F.faults files.new)
             (F.write_faults files.old) (F.write_faults files.new) (acts_of self.old.kept event.now) result }
         ensures numbered { AreNumbered (F.told files.new) (F.given files.new) self.new.numbers self.new.kept.ends }
     {
@@ -184,9 +192,11 @@ impl World {
         requires line { IsSome (step_in (line_of self.old.kept.profile self.old.kept.ends event.now)) }
         requires numbered { AreNumbered (F.told files.old) (F.given files.old) self.old.numbers self.old.kept.ends }
         ensures does { IfSome (step_in (line_of self.old.kept.profile self.old.kept.ends event.now))
-            (λ step. Does self.old self.new (O.written out.old) (O.written out.new) (O.faults out.old) (O.faults out.new) (kept_ends self.old.kept step) result) }
+            (λ step. Does self.old self.new (O.written out.old) (O.written out.new) (O.faults out.old)
+            (O.faults out.new) (kept_ends self.old.kept step) result) }
         ensures memory { IsErrOf result StepError.NoMemory → TakesMemory event.now }
-        ensures files { DoesFiles (F.told files.old) (F.told files.new) (F.given files.old) (F.given files.new) (F.faults files.old) (F.faults files.new)
+        ensures files { DoesFiles (F.told files.old) (F.told files.new) (F.given files.old) (F.given files.new)
+            (F.faults files.old) (F.faults files.new)
             (F.write_faults files.old) (F.write_faults files.new) (line_acts self.old.kept.ends event.now) result }
         ensures numbered { AreNumbered (F.told files.new) (F.given files.new) self.new.numbers self.new.kept.ends }
     {
@@ -207,7 +217,8 @@ impl World {
     fn serve<O: Sink>(&mut self, c: u8, out: &mut O) -> Result<(), StepError>
         requires place { c < places }
         requires few { length self.old.kept.datagrams < most_datagrams }
-        ensures does { Does self.old self.new (O.written out.old) (O.written out.new) (O.faults out.old) (O.faults out.new)
+        ensures does { Does self.old self.new (O.written out.old) (O.written out.new) (O.faults out.old)
+            (O.faults out.new)
             (kept_serve self.old.kept c (emit_at self.old.kept.ends.server c)) result }
         ensures leaves { LeavesRecordings self.old self.new result }
     {
@@ -222,7 +233,8 @@ impl World {
     fn send<O: Sink>(&mut self, c: u8, out: &mut O) -> Result<(), StepError>
         requires place { c < places }
         requires few { length self.old.kept.datagrams < most_datagrams }
-        ensures does { Does self.old self.new (O.written out.old) (O.written out.new) (O.faults out.old) (O.faults out.new)
+        ensures does { Does self.old self.new (O.written out.old) (O.written out.new) (O.faults out.old)
+            (O.faults out.new)
             (kept_send self.old.kept c (place_at self.old.kept.ends c)) result }
         ensures leaves { LeavesRecordings self.old self.new result }
     {
@@ -242,10 +254,13 @@ impl World {
     ) -> Result<(), StepError>
         requires number { 1 ≤ number }
         requires numbered { AreNumbered (F.told files.old) (F.given files.old) self.old.numbers self.old.kept.ends }
-        ensures does { Does self.old self.new (O.written out.old) (O.written out.new) (O.faults out.old) (O.faults out.new)
-            (kept_ends self.old.kept (deliver_at self.old.kept.ends number (slice_get self.old.kept.datagrams (number - 1)))) result }
+        ensures does { Does self.old self.new (O.written out.old) (O.written out.new) (O.faults out.old)
+            (O.faults out.new)
+            (kept_ends self.old.kept (deliver_at self.old.kept.ends number
+            (slice_get self.old.kept.datagrams (number - 1)))) result }
         ensures memory { IsErrOf result StepError.NoMemory → ⊥ }
-        ensures files { DoesFiles (F.told files.old) (F.told files.new) (F.given files.old) (F.given files.new) (F.faults files.old) (F.faults files.new)
+        ensures files { DoesFiles (F.told files.old) (F.told files.new) (F.given files.old) (F.given files.new)
+            (F.faults files.old) (F.faults files.new)
             (F.write_faults files.old) (F.write_faults files.new)
             (deliver_acts self.old.kept.ends (slice_get self.old.kept.datagrams (number - 1))) result }
         ensures numbered { AreNumbered (F.told files.new) (F.given files.new) self.new.numbers self.new.kept.ends }
@@ -265,8 +280,10 @@ impl World {
     /// The bytes of the datagram of a number are printed, if it was made.
     fn tell_bytes<O: Sink>(&mut self, number: u32, out: &mut O) -> Result<(), StepError>
         requires { 1 ≤ number }
-        ensures does { Does self.old self.new (O.written out.old) (O.written out.new) (O.faults out.old) (O.faults out.new)
-            (record { kept = self.old.kept; answer = Bytes number (kept_bytes self.old.kept.datagrams number) }) result }
+        ensures does { Does self.old self.new (O.written out.old) (O.written out.new) (O.faults out.old)
+            (O.faults out.new)
+            (record { kept = self.old.kept; answer = Bytes number (kept_bytes self.old.kept.datagrams number) })
+            result }
         ensures memory { IsErrOf result StepError.NoMemory → ⊥ }
         ensures leaves { LeavesRecordings self.old self.new result }
     {
@@ -282,9 +299,11 @@ impl World {
     /// comes where one can't be written.
     pub fn finish<F: Files>(&mut self, files: &mut F) -> Result<(), Failed>
         requires numbered { AreNumbered (F.told files.old) (F.given files.old) self.old.numbers self.old.kept.ends }
-        ensures files { WritesFiles (F.told files.old) (F.told files.new) (F.given files.old) (F.given files.new) (F.faults files.old) (F.faults files.new)
+        ensures files { WritesFiles (F.told files.old) (F.told files.new) (F.given files.old) (F.given files.new)
+            (F.faults files.old) (F.faults files.new)
             (F.write_faults files.old) (F.write_faults files.new) (ending_acts self.old.kept.ends) result }
-        ensures ended { OnOk result (self.new ≡ record self.old { kept = record self.old.kept { ends = ended self.old.kept.ends } }) }
+        ensures ended { OnOk result
+            (self.new ≡ record self.old { kept = record self.old.kept { ends = ended self.old.kept.ends } }) }
         ensures numbered { AreNumbered (F.told files.new) (F.given files.new) self.new.numbers self.new.kept.ends }
     {
         self.ends.finish(&self.numbers, files)

@@ -139,7 +139,8 @@ fn with_three<'a>(
     second: &'a str,
     third: &'a str,
 ) -> Option<Command<'a>>
-    ensures value { option_map command_value result ≡ command_of (word.now ∷ first.now ∷ second.now ∷ third.now ∷ []) }
+    ensures value { option_map command_value result ≡ command_of
+        (word.now ∷ first.now ∷ second.now ∷ third.now ∷ []) }
     ensures runs { IfSome result MayRun }
 {
     if word == "trial" {
@@ -183,7 +184,8 @@ fn with_four<'a>(
     third: &'a str,
     fourth: &'a str,
 ) -> Option<Command<'a>>
-    ensures value { option_map command_value result ≡ command_of (word.now ∷ first.now ∷ second.now ∷ third.now ∷ fourth.now ∷ []) }
+    ensures value { option_map command_value result ≡ command_of
+        (word.now ∷ first.now ∷ second.now ∷ third.now ∷ fourth.now ∷ []) }
     ensures runs { IfSome result MayRun }
 {
     if word == "join" {

@@ -30,8 +30,10 @@ pub fn play<F: Files, O: Sink>(
     files: &mut F,
     out: &mut O,
 ) -> Result<(), Fault>
-    ensures executes { Executes (Some (Play profile.now demo.now)) (of_files (F.told files.old)) (O.written out.old) (O.written out.new) result }
-    ensures gives { LeavesFiles (Some (Play profile.now demo.now)) (of_files (F.told files.old)) (F.told files.new) result }
+    ensures executes { Executes (Some (Play profile.now demo.now)) (of_files (F.told files.old)) (O.written out.old)
+        (O.written out.new) result }
+    ensures gives { LeavesFiles (Some (Play profile.now demo.now)) (of_files (F.told files.old))
+        (F.told files.new) result }
     ensures writes { F.write_faults files.new ≡ F.write_faults files.old }
     ensures read_cause { ReadCause (F.faults files.old) (F.faults files.new) result }
     ensures write_cause { WriteCause (O.faults out.old) (O.faults out.new) result }
@@ -53,8 +55,10 @@ pub fn index<F: Files, O: Sink>(
     out: &mut O,
 ) -> Result<(), Fault>
     requires other { index.now ≢ demo.now }
-    ensures executes { Executes (Some (Index profile.now demo.now index.now)) (of_files (F.told files.old)) (O.written out.old) (O.written out.new) result }
-    ensures gives { LeavesFiles (Some (Index profile.now demo.now index.now)) (of_files (F.told files.old)) (F.told files.new) result }
+    ensures executes { Executes (Some (Index profile.now demo.now index.now)) (of_files (F.told files.old))
+        (O.written out.old) (O.written out.new) result }
+    ensures gives { LeavesFiles (Some (Index profile.now demo.now index.now)) (of_files (F.told files.old))
+        (F.told files.new) result }
     ensures file_cause { FileCause (F.write_faults files.old) (F.write_faults files.new) result }
     ensures read_cause { ReadCause (F.faults files.old) (F.faults files.new) result }
     ensures write_cause { WriteCause (O.faults out.old) (O.faults out.new) result }
@@ -124,9 +128,12 @@ pub fn seek<F: Files, O: Sink>(
     files: &mut F,
     out: &mut O,
 ) -> Result<(), Fault>
-    ensures executes { Executes (Some (Seek profile.now demo.now index.now records)) (of_files (F.told files.old)) (O.written out.old) (O.written out.new) result }
-    ensures gives { LeavesFiles (Some (Seek profile.now demo.now index.now records)) (of_files (F.told files.old)) (F.told files.new) result }
-    ensures sought { EndsAsPlays (Some (Seek profile.now demo.now index.now records)) (of_files (F.told files.old)) (O.written out.old) (O.written out.new) result }
+    ensures executes { Executes (Some (Seek profile.now demo.now index.now records)) (of_files (F.told files.old))
+        (O.written out.old) (O.written out.new) result }
+    ensures gives { LeavesFiles (Some (Seek profile.now demo.now index.now records)) (of_files (F.told files.old))
+        (F.told files.new) result }
+    ensures sought { EndsAsPlays (Some (Seek profile.now demo.now index.now records)) (of_files (F.told files.old))
+        (O.written out.old) (O.written out.new) result }
     ensures writes { F.write_faults files.new ≡ F.write_faults files.old }
     ensures read_cause { ReadCause (F.faults files.old) (F.faults files.new) result }
     ensures write_cause { WriteCause (O.faults out.old) (O.faults out.new) result }

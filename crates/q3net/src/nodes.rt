@@ -26,10 +26,13 @@ pub fn serve<F: Files, W: Wire, C: Clock, O: Sink>(
     out: &mut O,
 ) -> Result<(), Fault>
     requires unbound { W.bound wire.old ≡ false }
-    ensures executes { ExecutesWired (Some (Serve profile.now script.now at)) (outside (F.told files.old) (W.told wire.old) (C.readings clock.old))
+    ensures executes { ExecutesWired (Some (Serve profile.now script.now at))
+        (outside (F.told files.old) (W.told wire.old) (C.readings clock.old))
         (O.written out.old) (O.written out.new) (left_so (W.told wire.new) (F.told files.new)) result }
-    ensures gives { LeavesFiles (Some (Serve profile.now script.now at)) (outside (F.told files.old) (W.told wire.old) (C.readings clock.old)) (F.told files.new) result }
-    ensures binds { W.bound wire.new ≡ true → MayBind (Some (Serve profile.now script.now at)) (outside (F.told files.old) (W.told wire.old) (C.readings clock.old)) }
+    ensures gives { LeavesFiles (Some (Serve profile.now script.now at))
+        (outside (F.told files.old) (W.told wire.old) (C.readings clock.old)) (F.told files.new) result }
+    ensures binds { W.bound wire.new ≡ true → MayBind (Some (Serve profile.now script.now at))
+        (outside (F.told files.old) (W.told wire.old) (C.readings clock.old)) }
     ensures unbound { W.bound wire.new ≡ false → clock.new ≡ clock.old }
     ensures writes { F.write_faults files.new ≡ F.write_faults files.old }
     ensures file_cause { FileCause (F.write_faults files.old) (F.write_faults files.new) result }
@@ -58,10 +61,13 @@ pub fn join<F: Files, W: Wire, C: Clock, O: Sink>(
     out: &mut O,
 ) -> Result<(), Fault>
     requires unbound { W.bound wire.old ≡ false }
-    ensures executes { ExecutesWired (Some (Join profile.now script.now at server)) (outside (F.told files.old) (W.told wire.old) (C.readings clock.old))
+    ensures executes { ExecutesWired (Some (Join profile.now script.now at server))
+        (outside (F.told files.old) (W.told wire.old) (C.readings clock.old))
         (O.written out.old) (O.written out.new) (left_so (W.told wire.new) (F.told files.new)) result }
-    ensures gives { LeavesFiles (Some (Join profile.now script.now at server)) (outside (F.told files.old) (W.told wire.old) (C.readings clock.old)) (F.told files.new) result }
-    ensures binds { W.bound wire.new ≡ true → MayBind (Some (Join profile.now script.now at server)) (outside (F.told files.old) (W.told wire.old) (C.readings clock.old)) }
+    ensures gives { LeavesFiles (Some (Join profile.now script.now at server))
+        (outside (F.told files.old) (W.told wire.old) (C.readings clock.old)) (F.told files.new) result }
+    ensures binds { W.bound wire.new ≡ true → MayBind (Some (Join profile.now script.now at server))
+        (outside (F.told files.old) (W.told wire.old) (C.readings clock.old)) }
     ensures unbound { W.bound wire.new ≡ false → clock.new ≡ clock.old }
     ensures file_cause { FileCause (F.write_faults files.old) (F.write_faults files.new) result }
     ensures read_cause { ReadCause (F.faults files.old) (F.faults files.new) result }

@@ -29,8 +29,10 @@ pub fn replay<F: Files, O: Sink>(
     files: &mut F,
     out: &mut O,
 ) -> Result<(), Fault>
-    ensures executes { Executes (Some (Replay profile.now script.now)) (of_files (F.told files.old)) (O.written out.old) (O.written out.new) result }
-    ensures gives { LeavesFiles (Some (Replay profile.now script.now)) (of_files (F.told files.old)) (F.told files.new) result }
+    ensures executes { Executes (Some (Replay profile.now script.now)) (of_files (F.told files.old))
+        (O.written out.old) (O.written out.new) result }
+    ensures gives { LeavesFiles (Some (Replay profile.now script.now)) (of_files (F.told files.old))
+        (F.told files.new) result }
     ensures file_cause { FileCause (F.write_faults files.old) (F.write_faults files.new) result }
     ensures read_cause { ReadCause (F.faults files.old) (F.faults files.new) result }
     ensures write_cause { WriteCause (O.faults out.old) (O.faults out.new) result }
@@ -59,7 +61,8 @@ fn step_all<F: Files, O: Sink>(
     ensures adds { (profile : ProfileValue) (whole : Whole) → StandsFor profile world.old.kept whole
         → AddsLines (answers profile whole events.now) (O.written out.old) (O.written out.new) result }
     ensures cause { HasStepCause (O.faults out.old) (O.faults out.new) result }
-    ensures files { DoesFirst (F.told files.old) (F.told files.new) (acts_from world.old.kept events.now) (ending_acts world.new.kept.ends) result }
+    ensures files { DoesFirst (F.told files.old) (F.told files.new) (acts_from world.old.kept events.now)
+        (ending_acts world.new.kept.ends) result }
     ensures file_cause { HasCause (F.write_faults files.old) (F.write_faults files.new) (by_files result) }
     ensures reads { F.faults files.new ≡ F.faults files.old }
     ensures numbered { AreNumbered (F.told files.new) (F.given files.new) world.new.numbers world.new.kept.ends }

@@ -42,46 +42,66 @@ pub fn run<F: Files, W: Wire, C: Clock, O: Sink>(
     // file's bytes spell, of the events that the other's spell; the generated script; what the report of its replay
     // counts; the lines of a node's turns, by the readings of the clock and the arrivals that were to come; or the text that was asked for.
     // What was sent then are the datagrams of these turns.
-    ensures report { result ≡ 0 → Reports (command_of (map string_bytes words.now)) (outside (F.told files.old) (W.told wire.old) (C.readings clock.old)) (O.written out.old) (O.written out.new) (W.told wire.new) }
+    ensures report { result ≡ 0 → Reports (command_of (map string_bytes words.now))
+        (outside (F.told files.old) (W.told wire.old) (C.readings clock.old)) (O.written out.old) (O.written out.new)
+        (W.told wire.new) }
     // Ended early, it is a front of that, and the fault line, `write fault` exactly where a write of the files failed;
     // where the sink failed, a front of both. Of the wire, and of the files, a node left what goes with that: what was sent and done by the
     // turns whose lines were printed, and in the one in which it ended.
-    ensures prints { Prints (command_of (map string_bytes words.now)) (outside (F.told files.old) (W.told wire.old) (C.readings clock.old)) (F.write_faults files.old) (F.write_faults files.new) (O.written out.old) (O.written out.new) (left_so (W.told wire.new) (F.told files.new)) result }
+    ensures prints { Prints (command_of (map string_bytes words.now))
+        (outside (F.told files.old) (W.told wire.old) (C.readings clock.old)) (F.write_faults files.old)
+        (F.write_faults files.new) (O.written out.old) (O.written out.new)
+        (left_so (W.told wire.new) (F.told files.new)) result }
 
     // The words that name files are given to `lookup`, once each and in the order in which they are read, and then the files
     // that the verdict makes are created: those into which clients record, or an index. Its acts are done, one after the other, or the
     // first of them where the run ends early, the last of these maybe with a front of its bytes; every other file stays. A write of
     // files fails only in a command whose verdict has such acts.
-    ensures touches { Touched (command_of (map string_bytes words.now)) (outside (F.told files.old) (W.told wire.old) (C.readings clock.old)) (F.told files.new) }
-    ensures leaves { HasLeft (command_of (map string_bytes words.now)) (outside (F.told files.old) (W.told wire.old) (C.readings clock.old)) (F.told files.new) result }
+    ensures touches { Touched (command_of (map string_bytes words.now))
+        (outside (F.told files.old) (W.told wire.old) (C.readings clock.old)) (F.told files.new) }
+    ensures leaves { HasLeft (command_of (map string_bytes words.now))
+        (outside (F.told files.old) (W.told wire.old) (C.readings clock.old)) (F.told files.new) result }
     ensures writes { (F.write_faults files.new ≡ F.write_faults files.old)
-        ⊎ FilesFail (command_of (map string_bytes words.now)) (outside (F.told files.old) (W.told wire.old) (C.readings clock.old)) (F.write_faults files.old) (F.write_faults files.new) }
+        ⊎ FilesFail (command_of (map string_bytes words.now))
+        (outside (F.told files.old) (W.told wire.old) (C.readings clock.old)) (F.write_faults files.old)
+        (F.write_faults files.new) }
 
     // An address is bound only by a command that has one, and the clock is read behind that alone.
-    ensures binds { W.bound wire.new ≡ true → MayBind (command_of (map string_bytes words.now)) (outside (F.told files.old) (W.told wire.old) (C.readings clock.old)) }
+    ensures binds { W.bound wire.new ≡ true → MayBind (command_of (map string_bytes words.now))
+        (outside (F.told files.old) (W.told wire.old) (C.readings clock.old)) }
     ensures unbound { W.bound wire.new ≡ false → clock.new ≡ clock.old }
 
     // What is sought in a demo by the index that was made of it is what playing leaves, and such an index is never refused.
-    ensures sought { SeeksAsPlays (command_of (map string_bytes words.now)) (outside (F.told files.old) (W.told wire.old) (C.readings clock.old)) (O.written out.old) (O.written out.new) result }
+    ensures sought { SeeksAsPlays (command_of (map string_bytes words.now))
+        (outside (F.told files.old) (W.told wire.old) (C.readings clock.old)) (O.written out.old)
+        (O.written out.new) result }
 
     // When each status comes: it is that of the verdict, or 1, 3, 4 or 9 by something from outside.
     ensures statuses { result ≤ 11 }
-    ensures decided { IsDecided (command_of (map string_bytes words.now)) (outside (F.told files.old) (W.told wire.old) (C.readings clock.old)) result }
+    ensures decided { IsDecided (command_of (map string_bytes words.now))
+        (outside (F.told files.old) (W.told wire.old) (C.readings clock.old)) result }
     ensures usage { result ≡ 2 → IsNone (command_of (map string_bytes words.now)) }
     ensures no_command { IsNone (command_of (map string_bytes words.now)) → (result ≡ 2) ⊎ (result ≡ 4) }
     ensures read_fault { result ≡ 3 → Rose (F.faults files.old) (F.faults files.new) }
     ensures write_fault { result ≡ 4 → Rose (O.faults out.old) (O.faults out.new)
-        ⊎ FilesFail (command_of (map string_bytes words.now)) (outside (F.told files.old) (W.told wire.old) (C.readings clock.old)) (F.write_faults files.old) (F.write_faults files.new) }
+        ⊎ FilesFail (command_of (map string_bytes words.now))
+        (outside (F.told files.old) (W.told wire.old) (C.readings clock.old)) (F.write_faults files.old)
+        (F.write_faults files.new) }
     ensures wire_fault { result ≡ 9 → Rose (W.faults wire.old) (W.faults wire.new) }
     // No fault is passed over: where the sink's count changed, or the files' one of failed writes, the status is 4, and where
     // the files' one of failed reads did, 3 or 4, and where the wire's did, 9 or 4.
     ensures no_read_fault_passed { (F.faults files.new ≡ F.faults files.old) ⊎ ((result ≡ 3) ⊎ (result ≡ 4)) }
-    ensures no_write_fault_passed { ((O.faults out.new ≡ O.faults out.old) × (F.write_faults files.new ≡ F.write_faults files.old)) ⊎ (result ≡ 4) }
+    ensures no_write_fault_passed { ((O.faults out.new ≡ O.faults out.old)
+        × (F.write_faults files.new ≡ F.write_faults files.old)) ⊎ (result ≡ 4) }
     ensures no_wire_fault_passed { (W.faults wire.new ≡ W.faults wire.old) ⊎ ((result ≡ 9) ⊎ (result ≡ 4)) }
     // Where no count rises, the run ends as its verdict says, unless memory runs out.
-    ensures complete { ¬ Rose (F.faults files.old) (F.faults files.new) → ¬ Rose (O.faults out.old) (O.faults out.new) → ¬ Rose (W.faults wire.old) (W.faults wire.new)
-        → ¬ FilesFail (command_of (map string_bytes words.now)) (outside (F.told files.old) (W.told wire.old) (C.readings clock.old)) (F.write_faults files.old) (F.write_faults files.new)
-        → IsComplete (command_of (map string_bytes words.now)) (outside (F.told files.old) (W.told wire.old) (C.readings clock.old)) result }
+    ensures complete { ¬ Rose (F.faults files.old) (F.faults files.new) → ¬ Rose (O.faults out.old) (O.faults out.new)
+        → ¬ Rose (W.faults wire.old) (W.faults wire.new)
+        → ¬ FilesFail (command_of (map string_bytes words.now))
+        (outside (F.told files.old) (W.told wire.old) (C.readings clock.old)) (F.write_faults files.old)
+        (F.write_faults files.new)
+        → IsComplete (command_of (map string_bytes words.now))
+        (outside (F.told files.old) (W.told wire.old) (C.readings clock.old)) result }
 {
     q3_io::laws::texts_follow();
     let ended = execute(alloc, words, files, wire, clock, out);
@@ -99,13 +119,19 @@ fn execute<F: Files, W: Wire, C: Clock, O: Sink>(
     out: &mut O,
 ) -> Result<(), Fault>
     requires unbound { W.bound wire.old ≡ false }
-    ensures executes { ExecutesWired (command_of (map string_bytes words.now)) (outside (F.told files.old) (W.told wire.old) (C.readings clock.old)) (O.written out.old) (O.written out.new) (left_so (W.told wire.new) (F.told files.new)) result }
-    ensures sought { EndsAsPlays (command_of (map string_bytes words.now)) (outside (F.told files.old) (W.told wire.old) (C.readings clock.old)) (O.written out.old) (O.written out.new) result }
-    ensures gives { LeavesFiles (command_of (map string_bytes words.now)) (outside (F.told files.old) (W.told wire.old) (C.readings clock.old)) (F.told files.new) result }
+    ensures executes { ExecutesWired (command_of (map string_bytes words.now))
+        (outside (F.told files.old) (W.told wire.old) (C.readings clock.old)) (O.written out.old) (O.written out.new)
+        (left_so (W.told wire.new) (F.told files.new)) result }
+    ensures sought { EndsAsPlays (command_of (map string_bytes words.now))
+        (outside (F.told files.old) (W.told wire.old) (C.readings clock.old)) (O.written out.old)
+        (O.written out.new) result }
+    ensures gives { LeavesFiles (command_of (map string_bytes words.now))
+        (outside (F.told files.old) (W.told wire.old) (C.readings clock.old)) (F.told files.new) result }
     ensures file_cause { FileCause (F.write_faults files.old) (F.write_faults files.new) result }
     ensures read_cause { ReadCause (F.faults files.old) (F.faults files.new) result }
     ensures write_cause { WriteCause (O.faults out.old) (O.faults out.new) result }
-    ensures binds { W.bound wire.new ≡ true → MayBind (command_of (map string_bytes words.now)) (outside (F.told files.old) (W.told wire.old) (C.readings clock.old)) }
+    ensures binds { W.bound wire.new ≡ true → MayBind (command_of (map string_bytes words.now))
+        (outside (F.told files.old) (W.told wire.old) (C.readings clock.old)) }
     ensures unbound { W.bound wire.new ≡ false → clock.new ≡ clock.old }
     ensures wire_cause { WireCause (W.faults wire.old) (W.faults wire.new) result }
 {
@@ -153,7 +179,8 @@ fn execute<F: Files, W: Wire, C: Clock, O: Sink>(
 
 /// The status of a run, or of a start without one: then its fault line is printed.
 pub(crate) fn settle<O: Sink>(started: Result<u8, Fault>, out: &mut O) -> u8
-    ensures took { IfErr started (λ fault. Took (Err fault) (fault_line fault) (O.written out.old) (O.written out.new) result) }
+    ensures took { IfErr started (λ fault. Took (Err fault) (fault_line fault) (O.written out.old)
+        (O.written out.new) result) }
     ensures nothing_more { OnOk started (O.written out.new ≡ O.written out.old) }
     ensures status { Settles started (O.faults out.old) (O.faults out.new) result }
 {

@@ -11,7 +11,7 @@ pub returns-in_err-write_short-clause-adds : goal.returns-in_err-write_short-cla
 returns-in_err-write_short-clause-adds g c =
     let p = err_from_is_err_and c.from_residual.result c.from_residual.ensures.1 in
     let texts = flat_map (entity_bytes c.args.table.now) (set_baselines c.args.baselines.now) in
-    rw p.1 (c.texts_follow.ensures.early texts (rw c.len.ensures at c.in_err-write_short.ensures.adds) refl)
+    rw p.1 (c.texts_follow.ensures.early texts (rw c.count.ensures at c.in_err-write_short.ensures.adds) refl)
 
 pub returns-in_err-write_baseline-clause-adds : goal.returns-in_err-write_baseline-clause-adds
 returns-in_err-write_baseline-clause-adds g c =

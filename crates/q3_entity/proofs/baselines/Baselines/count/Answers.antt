@@ -1,7 +1,7 @@
 use Rattle.std.proofs.Common.{◌≡◌, ◌∙◌, ap, length, rules, arith}
 use Rattle.q3_entity.specs.Baselines.{Baselines, set_baselines}
 use Rattle.q3_entity.proofs.Placed.{few, counts}
-use Rattle.q3_entity.proofs.baselines.Baselines.len.Goals as goal
+use Rattle.q3_entity.proofs.baselines.Baselines.count.Goals as goal
 
 pub overflow_cast-result : goal.overflow_cast-result
 overflow_cast-result c =
