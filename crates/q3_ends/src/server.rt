@@ -56,7 +56,7 @@ pub fn server_line(server: &mut Server, event: &Event) -> Option<HandedIn>
         }
         Event::Say { c, text } => Some(HandedIn::Say {
             c: *c,
-            outcome: server.say(*c, text),
+            outcome: server.say(*c, text.text()),
         }),
         _ => None,
     }

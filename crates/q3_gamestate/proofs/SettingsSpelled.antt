@@ -76,19 +76,19 @@ was_set strings index text (Some fault) set e = absurd cc
 
 -- ---- when a baseline is set
 
-baseline_was : (baselines : Baselines) (number : ℕ) (kind : Entry) (words : List ℕ) (set : Baselines) → baseline_set baselines number kind words ≡ Ok set
+baseline_set_was : (baselines : Baselines) (number : ℕ) (kind : Entry) (words : List ℕ) (set : Baselines) → baseline_set baselines number kind words ≡ Ok set
     → (words_there kind words ≡ Some words) × (set ≡ with_baseline baselines (record { number = number; words = words }))
-baseline_was baselines number Removed words set e = absurd cc
-baseline_was baselines number Changed words set e = (refl, cc)
-baseline_was baselines number Same words set e = (refl, cc)
+baseline_set_was baselines number Removed words set e = absurd cc
+baseline_set_was baselines number Changed words set e = (refl, cc)
+baseline_set_was baselines number Same words set e = (refl, cc)
 
-pub baseline_is : (baselines : Baselines) (number : ℕ) (kind : Entry) (to words : List ℕ) → words_there kind to ≡ Some words
+pub baseline_set_is : (baselines : Baselines) (number : ℕ) (kind : Entry) (to words : List ℕ) → words_there kind to ≡ Some words
     → baseline_set baselines number kind to ≡ Ok (with_baseline baselines (record { number = number; words = words }))
-baseline_is baselines number Removed to words e = absurd cc
-baseline_is baselines number Changed to words e =
+baseline_set_is baselines number Removed to words e = absurd cc
+baseline_set_is baselines number Changed to words e =
     let same : to ≡ words = cc in
     ap (λ (ws : List ℕ). Ok (with_baseline baselines (record { number = number; words = ws }))) same
-baseline_is baselines number Same to words e =
+baseline_set_is baselines number Same to words e =
     let same : to ≡ words = cc in
     ap (λ (ws : List ℕ). Ok (with_baseline baselines (record { number = number; words = ws }))) same
 
@@ -181,7 +181,7 @@ baseline_was put no_entity entry profile code is_table baselines bits found e =
           let were = entry words table (replicate 64 0) state.0.0.1 state.0.0.0 number.0.0 number.0.1 state.0.1 code is_table zeros.0
           (map_err_ok Entity (entity_at words table (replicate 64 0) number.0.1) state.0 state.1) in
           let set = bind_ok (baseline_set baselines number.0.0 state.0.0.0 state.0.0.1) (λ set. Ok (set, state.0.1)) found state.2 in
-          let is = baseline_was baselines number.0.0 state.0.0.0 state.0.0.1 set.0 set.1 in
+          let is = baseline_set_was baselines number.0.0 state.0.0.0 state.0.0.1 set.0 set.1 in
           let made = set.2 in
           let same : (set.0, state.0.1) ≡ found = cc in
           let field = field_bits words table.number_bits number.0.0 in

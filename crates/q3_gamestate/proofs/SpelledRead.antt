@@ -19,7 +19,7 @@ use Rattle.q3_gamestate.specs.Spelling.{Setting, ConfigString, Baseline, SpellsS
 use Rattle.q3_gamestate.specs.Laws.{SpelledIsRead}
 use Rattle.q3_gamestate.proofs.Below.{IsRead}
 use Rattle.q3_gamestate.proofs.Settings.{zeros_are_words, settings_done, settings_config, settings_baseline}
-use Rattle.q3_gamestate.proofs.SettingsSpelled.{over, within_set, baseline_is, string_short}
+use Rattle.q3_gamestate.proofs.SettingsSpelled.{over, within_set, baseline_set_is, string_short}
 
 config_is : IsRead → (words : List (List Bool)) → IsCode words → (strings : Strings) (index : ℕ) (text : List ℕ) (string rest : List Bool) → index < places
     → SpellsString words longest_string text string → length text ≤ longest_string → config_size (with_string strings index text).texts ≤ most_size
@@ -43,7 +43,7 @@ baseline_is laws profile codec baselines state text rest within spelled =
     let read = laws.entry profile.code table (replicate 64 0) (record { number = state.number; words = Some state.words }) text rest codec.code codec.entity
     (zeros_are_words table codec.entity laws.no_entity).0 within spelled in
     let before : (state.number == end_mark table) ≡ false = grind (arith, nat_tests) in
-    rw (read.4, before, read.5, baseline_is baselines state.number read.1 read.2 state.words read.3) refl
+    rw (read.4, before, read.5, baseline_set_is baselines state.number read.1 read.2 state.words read.3) refl
 
 settings_are : IsRead → (profile : Profile) → IsCodec profile → (settings : List Setting) (turns : ℕ) (strings : Strings) (baselines : Baselines) (text rest : List Bool)
     → SpellsSettings profile.code profile.entity settings text → StayWithin strings settings → length (text ++ (over profile.code ++ rest)) ≤ turns

@@ -12,7 +12,7 @@ use q3_entity::EntityState;
 use q3_player::PlayerState;
 use q3_script::Event;
 use q3_text::Text;
-use q3_words::Bytes;
+use q3_words::{BoxedText, Bytes};
 use rand_core::utils::NextWord;
 use rand_pcg::Lcg64Xsh32;
 use std::alloc::Global;
@@ -125,23 +125,23 @@ fn player_line(generator: &mut Lcg64Xsh32) -> Event
 }
 
 /// A command to a client.
-fn say_line(i: u32, generator: &mut Lcg64Xsh32) -> Event
-    ensures { (result, generator.new) ≡ say_line i generator.old }
+fn say_line(alloc: Global, i: u32, generator: &mut Lcg64Xsh32) -> Result<Event, NoMemory>
+    ensures { IfOk result (λ event. (event, generator.new) ≡ say_line i generator.old) }
 {
-    Event::Say {
+    Ok(Event::Say {
         c: draw_client(generator),
-        text: text_with(b"chat ", i),
-    }
+        text: BoxedText::new(alloc, text_with(b"chat ", i))?,
+    })
 }
 
 /// A command of a client.
-fn type_line(i: u32, generator: &mut Lcg64Xsh32) -> Event
-    ensures { (result, generator.new) ≡ type_line i generator.old }
+fn type_line(alloc: Global, i: u32, generator: &mut Lcg64Xsh32) -> Result<Event, NoMemory>
+    ensures { IfOk result (λ event. (event, generator.new) ≡ type_line i generator.old) }
 {
-    Event::TypeText {
+    Ok(Event::TypeText {
         c: draw_client(generator),
-        text: text_with(b"cmd ", i),
-    }
+        text: BoxedText::new(alloc, text_with(b"cmd ", i))?,
+    })
 }
 
 /// A move of a client.
@@ -229,8 +229,8 @@ fn line_of(
         2 => Ok(remove_line(generator)),
         3 => Ok(player_line(generator)),
         4 => Ok(Event::Time { time: time_at(i) }),
-        5 => Ok(say_line(i, generator)),
-        6 => Ok(type_line(i, generator)),
+        5 => say_line(alloc, i, generator),
+        6 => type_line(alloc, i, generator),
         7 => Ok(move_line(i, generator)),
         8..=11 => Ok(serve_line(generator)),
         12..=13 => Ok(send_line(generator)),

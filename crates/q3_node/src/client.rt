@@ -244,7 +244,7 @@ impl End for ClientEnd {
                 tell_line(&Answer::HandedIn(HandedIn::Client { c: *c, outcome }), out)
             }
             Event::TypeText { c, text } => {
-                let handed = type_text(&mut self.client, *c, text);
+                let handed = type_text(&mut self.client, *c, text.text());
                 tell_line(&Answer::HandedIn(handed), out)
             }
             Event::Move { c, one } => {

@@ -5,8 +5,7 @@ use q3_clmsg::Move;
 use q3_entity::EntityState;
 use q3_io::Address;
 use q3_player::{MOST_AREA, PlayerState};
-use q3_text::Text;
-use q3_words::{Bytes, Name};
+use q3_words::{BoxedText, Bytes, Name};
 
 /// What one line of a script says: one call of one end, or something that the game hands in.
 /// `c` is the number of a client, 0 to 15.
@@ -65,12 +64,12 @@ pub enum Event {
     /// The server issues a command to the client.
     Say {
         c: u8,
-        text: Text,
+        text: BoxedText,
     },
     /// The client issues a command to the server.
     TypeText {
         c: u8,
-        text: Text,
+        text: BoxedText,
     },
     /// The client issues a move.
     Move {

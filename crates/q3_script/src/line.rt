@@ -12,8 +12,8 @@ use q3_bits::NoMemory;
 use q3_text::Text;
 use q3_words::words::{first_word, is, next_word, only_word, text_left};
 use q3_words::{
-    Bytes, LAST_ENTITY, LineCause, Name, area_bytes, client_word, config_bytes, entity_state,
-    entity_word, handed_bytes, number_word, player_state, read_address, text_word,
+    BoxedText, Bytes, LAST_ENTITY, LineCause, Name, area_bytes, client_word, config_bytes,
+    entity_state, entity_word, handed_bytes, number_word, player_state, read_address, text_word,
 };
 use std::alloc::Global;
 
@@ -199,20 +199,32 @@ fn command(left: &[u8]) -> Result<(u8, Text), LineCause>
     Ok((client_word(c)?, text_word(text)?))
 }
 
+/// A `say` line. `Err` is want of memory.
 #[tactic(auto, unfolding(crate::specs::Lines::say_line))]
-fn say(left: &[u8]) -> Result<Event, LineCause>
-    ensures { result ≡ say_line (words_left left.now) }
+fn say(alloc: Global, left: &[u8]) -> Result<Result<Event, LineCause>, NoMemory>
+    ensures { IfOk result (λ answer. answer ≡ say_line (words_left left.now)) }
 {
-    let (c, text) = command(left)?;
-    Ok(Event::Say { c, text })
+    match command(left) {
+        Ok((c, text)) => {
+            let text = BoxedText::new(alloc, text)?;
+            Ok(Ok(Event::Say { c, text }))
+        }
+        Err(cause) => Ok(Err(cause)),
+    }
 }
 
+/// A `type` line. `Err` is want of memory.
 #[tactic(auto, unfolding(crate::specs::Lines::type_line))]
-fn type_text(left: &[u8]) -> Result<Event, LineCause>
-    ensures { result ≡ type_line (words_left left.now) }
+fn type_text(alloc: Global, left: &[u8]) -> Result<Result<Event, LineCause>, NoMemory>
+    ensures { IfOk result (λ answer. answer ≡ type_line (words_left left.now)) }
 {
-    let (c, text) = command(left)?;
-    Ok(Event::TypeText { c, text })
+    match command(left) {
+        Ok((c, text)) => {
+            let text = BoxedText::new(alloc, text)?;
+            Ok(Ok(Event::TypeText { c, text }))
+        }
+        Err(cause) => Ok(Err(cause)),
+    }
 }
 
 #[tactic(auto, unfolding(crate::specs::Lines::serve_line))]
@@ -401,9 +413,9 @@ fn replay_line(
     } else if is(word, b"config") {
         config(alloc, left)
     } else if is(word, b"say") {
-        Ok(say(left))
+        say(alloc, left)
     } else if is(word, b"type") {
-        Ok(type_text(left))
+        type_text(alloc, left)
     } else if is(word, b"move") {
         Ok(move_line(left))
     } else {
@@ -436,7 +448,7 @@ fn serve_line(alloc: Global, word: &[u8], left: &[u8]) -> Result<Result<Event, L
     } else if is(word, b"config") {
         config(alloc, left)
     } else if is(word, b"say") {
-        Ok(say(left))
+        say(alloc, left)
     } else if is(word, b"serve") {
         Ok(serve(left))
     } else if is(word, b"at") {
@@ -448,32 +460,32 @@ fn serve_line(alloc: Global, word: &[u8], left: &[u8]) -> Result<Result<Event, L
     }
 }
 
-/// The event of a line of a client's script that begins with this word.
+/// The event of a line of a client's script that begins with this word. `Err` is want of memory.
 #[tactic(auto, unfolding(crate::specs::Lines::line_at))]
 #[inline(never)]
-fn join_line(word: &[u8], left: &[u8]) -> Result<Event, LineCause>
-    ensures { result ≡ line_at ScriptKind.Join (word.now ∷ words_left left.now) }
+fn join_line(alloc: Global, word: &[u8], left: &[u8]) -> Result<Result<Event, LineCause>, NoMemory>
+    ensures { IfOk result (λ answer. answer ≡ line_at ScriptKind.Join (word.now ∷ words_left left.now)) }
 {
     if is(word, b"client") {
-        client(left)
+        Ok(client(left))
     } else if is(word, b"type") {
-        type_text(left)
+        type_text(alloc, left)
     } else if is(word, b"move") {
-        move_line(left)
+        Ok(move_line(left))
     } else if is(word, b"send") {
-        send(left)
+        Ok(send(left))
     } else if is(word, b"record") {
-        record_to(left)
+        Ok(record_to(left))
     } else if is(word, b"stop") {
-        stop(left)
+        Ok(stop(left))
     } else if is(word, b"show") {
-        show(left)
+        Ok(show(left))
     } else if is(word, b"at") {
-        at(left)
+        Ok(at(left))
     } else if is(word, b"end") {
-        end(left)
+        Ok(end(left))
     } else {
-        Err(LineCause::Word)
+        Ok(Err(LineCause::Word))
     }
 }
 
@@ -489,6 +501,6 @@ pub fn read_line(
     match kind {
         ScriptKind::Replay => replay_line(alloc, word, left),
         ScriptKind::Serve => serve_line(alloc, word, left),
-        ScriptKind::Join => Ok(join_line(word, left)),
+        ScriptKind::Join => join_line(alloc, word, left),
     }
 }

@@ -125,7 +125,7 @@ impl Ends {
                 tell(&Answer::HandedIn(handed), counts, out)
             }
             Event::TypeText { c, text } => {
-                let handed = self.type_text(*c, text);
+                let handed = self.type_text(*c, text.text());
                 tell(&Answer::HandedIn(handed), counts, out)
             }
             Event::Move { c, one } => {
