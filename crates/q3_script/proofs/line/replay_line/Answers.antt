@@ -1,7 +1,17 @@
-use Rattle.std.proofs.Common.{sym, ◌∙◌}
+use Rattle.std.proofs.Common.{◌≡◌, ◌∷◌, ℕ, List, sym, subst, ◌∙◌}
+use Rattle.std.specs.Prelude.{codes, IfOk}
+use Rattle.std.proofs.lemmas.Slice.Eq.{bytes_eq-Decides}
 use Rattle.q3_words.specs.Words.{words_left}
+use Rattle.q3_script.specs.declared.cause.ScriptKind.TheVariants.{Replay}
+use Rattle.q3_script.specs.Lines.{line_at}
 use Rattle.q3_script.proofs.TurnLines.{others_turn}
 use Rattle.q3_script.proofs.line.replay_line.Goals as goal
+
+pub returns-then-is-14 : goal.returns-then-is-14
+unfolding line_at
+returns-then-is-14 c =
+    let same = (bytes_eq-Decides (codes "type") c.args.word.now).0 (sym c.is-else-is-13.ensures ∙ c.if-is-14.true) in
+    subst (λ (word : List ℕ). IfOk c.type_text.result (λ answer. answer ≡ line_at Replay (word ∷ words_left c.args.left.now))) same c.type_text.ensures
 
 pub returns-else-is-15 : goal.returns-else-is-15
 returns-else-is-15 c =
