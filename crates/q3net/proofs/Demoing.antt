@@ -17,7 +17,7 @@ use Rattle.q3_demo.specs.Playing as demos
 use Rattle.q3_demo.specs.Running.{HasFrom, OnlyAsks, Plays, ReadCause as DemoReadCause, WriteCause as DemoWriteCause}
 use Rattle.q3net.specs.declared.fault.Fault.{Fault}
 use Rattle.q3net.specs.declared.fault.Fault.TheVariants as faults
-use Rattle.q3net.specs.Command.{Command, Play}
+use Rattle.q3_command.specs.Command.{Command, Play}
 use Rattle.q3net.specs.Faults.{demo_fault, ReadCause, WriteCause}
 use Rattle.q3net.specs.Input.{Holds, Finds, looked_up, LeavesTold, Touches, Gives}
 use Rattle.q3net.specs.Verdict.{of_files, IsVerdict, names_by, profile_in, played, demo_played, GetsFrom}

@@ -6,7 +6,7 @@ use Rattle.q3_io.specs.Told.{Told, Named}
 use Rattle.q3_io.specs.Written.{Written}
 use Rattle.q3net.specs.declared.fault.Fault.{Fault}
 use Rattle.q3net.specs.declared.fault.Fault.TheVariants as faults
-use Rattle.q3net.specs.Command.{Command}
+use Rattle.q3_command.specs.Command.{Command}
 use Rattle.q3net.specs.Faults.{IsOutside}
 use Rattle.q3net.specs.Input.{LeavesFirst}
 use Rattle.q3net.specs.Verdict.{Verdict, Outside, IsVerdict}

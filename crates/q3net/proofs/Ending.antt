@@ -10,7 +10,7 @@ use Rattle.q3_node.specs.declared.error.NodeError.TheVariants as node
 use Rattle.q3_node.specs.Node.{Turn, text_of}
 use Rattle.q3net.specs.declared.fault.Fault.{Fault}
 use Rattle.q3net.specs.declared.fault.Fault.TheVariants as faults
-use Rattle.q3net.specs.Command.{Command}
+use Rattle.q3_command.specs.Command.{Command}
 use Rattle.q3net.specs.Lines.{fault_status, ending_status, ending_line}
 use Rattle.q3net.specs.Faults.{Gets, node_fault, FileCause}
 use Rattle.q3net.specs.Verdict.{Place, Nowhere, First, Anywhere, Stops, Verdict, Outside, IsVerdict, stops_nowhere, settled}

@@ -18,7 +18,7 @@ use Rattle.q3_index.specs.Text as indexes
 use Rattle.q3_index.specs.Running.{Puts, LeavesIndex, BeginsIndex, Builds, BuildCause, BuildWrites}
 use Rattle.q3net.specs.declared.fault.Fault.{Fault}
 use Rattle.q3net.specs.declared.fault.Fault.TheVariants as faults
-use Rattle.q3net.specs.Command.{Command, Index}
+use Rattle.q3_command.specs.Command.{Command, Index}
 use Rattle.q3net.specs.Faults.{build_fault, IsOutside, ReadCause, WriteCause, FileCause}
 use Rattle.q3net.specs.Input.{IsFront, Holds, looked_up, created, Leaves, LeavesTold, LeavesFirst, LooksUpTold, Gives}
 use Rattle.q3net.specs.Verdict.{Verdict, of_files, IsVerdict, reads_first, printing, profile_in, Indexing, indexing_of, indexing_in, Indexes, index_acts, indexed_text, demo_indexed, IsIndexed, GetsFrom}

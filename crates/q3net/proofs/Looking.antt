@@ -12,8 +12,8 @@ use Rattle.q3_node.specs.AtClient.{client_of}
 use Rattle.q3_server.specs.Server.{places, new_server}
 use Rattle.q3net.specs.declared.fault.Fault.{Fault}
 use Rattle.q3net.specs.declared.fault.Fault.TheVariants as faults
-use Rattle.q3net.specs.declared.command.Draws.{Draws}
-use Rattle.q3net.specs.Command.{Command, Help, Version, Replay, Make, Trial, Serve, Join, Play, Index, Seek, files_of}
+use Rattle.q3_command.specs.declared.command.Draws.{Draws}
+use Rattle.q3_command.specs.Command.{Command, Help, Version, Replay, Make, Trial, Serve, Join, Play, Index, Seek, files_of}
 use Rattle.q3net.specs.Faults.{Gets, IsOutside, IsEarly}
 use Rattle.q3net.specs.Input.{IsFront, looked_up, created, Leaves, LeavesTold, AreBegun, LeavesFirst, Touches, LooksUpTold, LooksUpFirst, Gives}
 use Rattle.q3_demo.specs.Playing as demos

@@ -27,7 +27,7 @@ use Rattle.q3_node.specs.AtClient.{ClientEnd, client_of, client_rules}
 use Rattle.q3_node.specs.Running.{ToArrive, ToRead, Effects, effects, all_acts, failed_act, at_bound, Leaves, Passes, StopsBy, EndsIn, Ran, RanBound, StaysFlushed, WireCause as NodeWireCause, WriteCause as NodeWriteCause, FileCause as NodeFileCause}
 use Rattle.q3net.specs.declared.fault.Fault.{Fault}
 use Rattle.q3net.specs.declared.fault.Fault.TheVariants as faults
-use Rattle.q3net.specs.Command.{Command, Serve, Join}
+use Rattle.q3_command.specs.Command.{Command, Serve, Join}
 use Rattle.q3net.specs.Faults.{Gets, node_fault, ReadCause, WriteCause, FileCause, WireCause}
 use Rattle.q3net.specs.Input.{IsFront, Holds, looked_up, created, LeavesTold, LeavesFirst, LooksUpTold, LooksUpFirst, Touches, Gives}
 use Rattle.q3net.specs.Verdict.{Verdict, Outside, IsVerdict, memory_by, names_by, profile_in, events_in, ending_of, noded, served, client_turns, joined, GetsFrom}

@@ -32,10 +32,10 @@ use Rattle.q3_script.specs.declared.event.Event.{Event}
 use Rattle.q3_script.specs.declared.cause.ScriptKind.{ScriptKind}
 use Rattle.q3_script.specs.declared.cause.ScriptKind.TheVariants as kinds
 use Rattle.q3_script.specs.Script.{BadLine, script_at}
-use Rattle.q3net.specs.declared.command.Draws.{Draws}
+use Rattle.q3_command.specs.declared.command.Draws.{Draws}
 use Rattle.q3net.specs.declared.fault.Fault.{Fault}
 use Rattle.q3net.specs.declared.fault.Fault.TheVariants as faults
-use Rattle.q3net.specs.Command.{Command, Help, Version, Replay, Make, Trial, Serve, Join, Play, Index, Seek}
+use Rattle.q3_command.specs.Command.{Command, Help, Version, Replay, Make, Trial, Serve, Join, Play, Index, Seek}
 use Rattle.q3net.specs.Faults.{demo_fault, build_fault, index_fault, seek_fault, ReadCause, WriteCause, FileCause, WireCause}
 use Rattle.q3net.specs.Lines.{help_text, version_text, fault_status, ending_status}
 use Rattle.q3net.specs.Verdict.{Stops, Verdict, Outside, IsVerdict, stops_nowhere, takes_memory, reads_first, all_first, Schedule, settled, profile_in, events_in, replayed, replay_done, names_by, summary, tried, ending_of, noded, served, client_turns, joined, played, demo_played, Indexing, demo_indexed, IsIndexed, sought, sought_in, IsSeekFault, Sought, IsSoughtBy}

@@ -23,7 +23,7 @@ use Rattle.q3_world.specs.Report.{report}
 use Rattle.q3_world.specs.Outcome.{HasStepCause}
 use Rattle.q3net.specs.declared.fault.Fault.{Fault}
 use Rattle.q3net.specs.declared.fault.Fault.TheVariants as faults
-use Rattle.q3net.specs.Command.{Command, Replay}
+use Rattle.q3_command.specs.Command.{Command, Replay}
 use Rattle.q3net.specs.Faults.{Gets, IsOutside, step_fault, ReadCause, WriteCause, FileCause}
 use Rattle.q3net.specs.Input.{IsFront, Holds, looked_up, created, LeavesFirst, Touches, LooksUpTold, LooksUpFirst, Gives}
 use Rattle.q3net.specs.Verdict.{Verdict, Outside, of_files, IsVerdict, Schedule, profile_in, events_in, replayed, recorded, writes_by, replay_done, names_by, GetsFrom}

@@ -20,7 +20,7 @@ use Rattle.q3_index.specs.Seeking.{seek_at}
 use Rattle.q3_index.specs.Running.{IndexState, opened, Opens, Seeks}
 use Rattle.q3net.specs.declared.fault.Fault.{Fault}
 use Rattle.q3net.specs.declared.fault.Fault.TheVariants as faults
-use Rattle.q3net.specs.Command.{Command, Seek}
+use Rattle.q3_command.specs.Command.{Command, Seek}
 use Rattle.q3net.specs.Faults.{index_fault, seek_fault}
 use Rattle.q3net.specs.Input.{Holds, looked_up, LooksUpTold, Gives}
 use Rattle.q3net.specs.Verdict.{Verdict, of_files, IsVerdict, all_first, reads_first, printing, settled, profile_in, sought, IsSeekFault, Sought, IsSoughtBy, GetsFrom}

@@ -11,10 +11,10 @@ use Rattle.q3_make.specs.Printed.{script_text}
 use Rattle.q3_world.specs.declared.counts.Counts.{Counts}
 use Rattle.q3_world.specs.Counts.{counted_all, no_counts}
 use Rattle.q3_world.specs.World.{opening, answers}
-use Rattle.q3net.specs.declared.command.Draws.{Draws}
+use Rattle.q3_command.specs.declared.command.Draws.{Draws}
 use Rattle.q3net.specs.declared.fault.Fault.{Fault}
 use Rattle.q3net.specs.declared.fault.Fault.TheVariants as faults
-use Rattle.q3net.specs.Command.{Make, Trial}
+use Rattle.q3_command.specs.Command.{Make, Trial}
 use Rattle.q3net.specs.Summary.{summary_text}
 use Rattle.q3net.specs.Verdict.{Outside, of_files, IsVerdict, takes_memory, reads_first, settled, profile_in, summary, tried, GetsFrom}
 use Rattle.q3net.specs.Run.{Executes, PrintsAll}

@@ -21,7 +21,7 @@ use Rattle.q3_demo.specs.Playing.{Played, records_of, play_state}
 use Rattle.q3_demo.specs.Report.{state_text}
 use Rattle.q3_index.specs.declared.opening.Version.{Version}
 use Rattle.q3_index.specs.Text.{Tells, index_by}
-use Rattle.q3net.specs.Command.{Command, Seek, files_of}
+use Rattle.q3_command.specs.Command.{Command, Seek, files_of}
 use Rattle.q3net.specs.Faults.{IsOutside, node_fault, FileCause}
 use Rattle.q3net.specs.Input.{IsFront, looked_up, created, LeavesTold, LeavesFirst, Touches}
 use Rattle.q3net.specs.Lines.{fault_status, ending_line, ending_status}

@@ -35,8 +35,8 @@ use Rattle.q3_world.specs.Kept.{opening_kept}
 use Rattle.q3_world.specs.Files.{acts_from}
 use Rattle.q3_world.specs.Report.{report}
 use Rattle.q3_world.specs.Counts.{counts_of}
-use Rattle.q3net.specs.declared.command.Draws.{Draws}
-use Rattle.q3net.specs.Command.{Command, Help, Version, Replay, Make, Trial, Serve, Join, Play, Index, Seek}
+use Rattle.q3_command.specs.declared.command.Draws.{Draws}
+use Rattle.q3_command.specs.Command.{Command, Help, Version, Replay, Make, Trial, Serve, Join, Play, Index, Seek}
 use Rattle.q3net.specs.Faults.{Gets, demo_fault, build_fault, index_fault, seek_fault}
 use Rattle.q3net.specs.Input.{Holds, looked_up, created}
 use Rattle.q3net.specs.Lines.{help_text, version_text}

@@ -6,7 +6,7 @@ ghost use Rattle.q3_io.specs.Told.{Creates};
 ghost use Rattle.q3_profile.specs.Profile.{IsCodec};
 ghost use Rattle.q3_demo.specs.Report.{state_text};
 ghost use Rattle.q3_index.specs.Text.{spacing};
-ghost use Rattle.q3net.specs.Command.{Play, Index, Seek};
+ghost use Rattle.q3_command.specs.Command.{Play, Index, Seek};
 ghost use Rattle.q3net.specs.Faults.{build_fault, ReadCause, WriteCause, FileCause};
 ghost use Rattle.q3net.specs.Input.{as_told};
 ghost use Rattle.q3net.specs.Verdict.{of_files, indexed_text};

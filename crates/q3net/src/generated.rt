@@ -10,16 +10,16 @@ ghost use Rattle.q3_make.specs.Generated.{rest_of, generated};
 ghost use Rattle.q3_world.specs.declared.counts.Counts.{Counts as CountsValue};
 ghost use Rattle.q3_world.specs.Files.{AreNumbered};
 ghost use Rattle.q3_world.specs.Kept.{most_datagrams};
-ghost use Rattle.q3net.specs.Command.{AreDraws, Make, Trial};
+ghost use Rattle.q3_command.specs.Command.{AreDraws, Make, Trial};
 ghost use Rattle.q3net.specs.Faults.{ReadCause, WriteCause};
 ghost use Rattle.q3net.specs.Verdict.{Outside, of_files};
 ghost use Rattle.q3net.specs.Run.{PrintsAll, Executes, LeavesFiles};
 ghost use Rattle.q3net.specs.Summary.{summary_text};
 ghost use Rattle.q3net.specs.Trying.{CountsTo};
 
-use crate::command::Draws;
 use crate::fault::Fault;
 use crate::input::load_profile;
+use q3_command::Draws;
 use q3_ends::NullFiles;
 use q3_io::{Files, NullSink, Piece, Sink, print_all};
 use q3_make::{Drawn, closing_lines, make_script, opening_lines, print_script};

@@ -1,7 +1,7 @@
 //! A server, and a client, over a wire.
 
 ghost use Rattle.std.specs.Prelude.{◌≡◌, Some, true, false};
-ghost use Rattle.q3net.specs.Command.{Serve, Join};
+ghost use Rattle.q3_command.specs.Command.{Serve, Join};
 ghost use Rattle.q3net.specs.Faults.{ReadCause, WriteCause, FileCause, WireCause};
 ghost use Rattle.q3net.specs.Verdict.{outside};
 ghost use Rattle.q3net.specs.Run.{left_so, ExecutesWired, LeavesFiles, MayBind};

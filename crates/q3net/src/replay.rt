@@ -9,7 +9,7 @@ ghost use Rattle.q3_world.specs.Outcome.{HasStepCause};
 ghost use Rattle.q3_world.specs.Kept.{most_datagrams};
 ghost use Rattle.q3_world.specs.World.{Whole, answers};
 ghost use Rattle.q3_world.specs.StandsFor.{StandsFor};
-ghost use Rattle.q3net.specs.Command.{Replay};
+ghost use Rattle.q3_command.specs.Command.{Replay};
 ghost use Rattle.q3net.specs.Faults.{ReadCause, WriteCause, FileCause};
 ghost use Rattle.q3net.specs.Verdict.{of_files};
 ghost use Rattle.q3net.specs.Run.{Executes, LeavesFiles, AddsLines, DoesFirst};

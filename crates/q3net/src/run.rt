@@ -4,18 +4,18 @@ ghost use Rattle.std.specs.Prelude.{◌≡◌, ◌⊎◌, ◌≤◌, true, false
 ghost use Rattle.std.specs.String.{string_bytes};
 ghost use Rattle.q3_io.specs.Faults.{HasCause, Rose};
 ghost use Rattle.q3_io.specs.Written.{Adds, NothingWaits};
-ghost use Rattle.q3net.specs.Command.{command_of};
+ghost use Rattle.q3_command.specs.Command.{command_of};
 ghost use Rattle.q3net.specs.Faults.{ReadCause, WriteCause, FileCause, WireCause};
 ghost use Rattle.q3net.specs.Lines.{fault_line, ending_line, ending_status};
 ghost use Rattle.q3net.specs.Verdict.{outside};
 ghost use Rattle.q3net.specs.Run.{PrintsAll, SeeksAsPlays, EndsAsPlays, left_so, ExecutesWired, Took, Prints, Reports, FilesFail, IsDecided, IsComplete, HasLeft, Touched, LeavesFiles, MayBind, Settles};
 
-use crate::command::{Command, parse};
 use crate::demos::{index, play, seek};
 use crate::fault::Fault;
 use crate::generated::{make, trial};
 use crate::nodes::{join, serve};
 use crate::replay::replay;
+use q3_command::{Command, parse};
 use q3_io::{Clock, Failed, Files, Sink, Wire};
 use std::alloc::Global;
 

@@ -4,7 +4,7 @@ use Rattle.q3_script.specs.declared.cause.ScriptKind.TheVariants as kinds
 use Rattle.q3_node.specs.Node.{new_node}
 use Rattle.q3_node.specs.Running.{effects}
 use Rattle.q3_node.specs.AtClient.{client_rules}
-use Rattle.q3net.specs.Command.{Join}
+use Rattle.q3_command.specs.Command.{Join}
 use Rattle.q3net.specs.Verdict.{outside, joined, profile_in, events_in}
 use Rattle.q3net.proofs.Noding.{joins, one_client, no_profile_executes, no_profile_given, no_script_executes, no_script_given, join_passed, loop_failed, loop_done, loop_left, loop_all, passed_binds, node_read_cause, node_write_cause, node_wire_cause, node_file_cause, part_file_cause, no_profile_written, no_events_written}
 use Rattle.q3net.proofs.Replaying.{both_looked}

@@ -5,7 +5,7 @@ use Rattle.q3_server.specs.Server.{places, new_server}
 use Rattle.q3_node.specs.Node.{most_turns, new_node, turns_of}
 use Rattle.q3_node.specs.Running.{effects}
 use Rattle.q3_node.specs.AtServer.{server_rules}
-use Rattle.q3net.specs.Command.{Serve}
+use Rattle.q3_command.specs.Command.{Serve}
 use Rattle.q3net.specs.Verdict.{outside, served, profile_in, events_in}
 use Rattle.q3net.proofs.Noding.{serves, no_profile_executes, no_profile_given, no_script_executes, no_script_given, serve_passed, served_left, still_bound, loop_failed, loop_done, passed_binds, node_read_cause, node_write_cause, node_wire_cause, node_file_cause, part_file_cause, no_profile_written, no_events_written}
 use Rattle.q3net.proofs.Replaying.{both_looked}

@@ -1,7 +1,7 @@
 use Rattle.std.proofs.Common.{Some, None, [], refl}
 use Rattle.q3_make.specs.Printed.{script_text}
 use Rattle.q3_make.specs.Generated.{generated}
-use Rattle.q3net.specs.Command.{Help, Version, Replay, Make, Trial, Play, Index, Seek}
+use Rattle.q3_command.specs.Command.{Help, Version, Replay, Make, Trial, Play, Index, Seek}
 use Rattle.q3net.specs.Lines.{help_text, version_text}
 use Rattle.q3net.specs.Verdict.{outside, of_files, stops_nowhere, takes_memory}
 use Rattle.q3net.proofs.Ending.{none_executes, text_executes}

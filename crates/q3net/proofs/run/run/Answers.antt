@@ -1,7 +1,7 @@
 use Rattle.std.proofs.Common.{inl, inr}
 use Rattle.std.specs.Prelude.{map}
 use Rattle.std.specs.String.{string_bytes}
-use Rattle.q3net.specs.Command.{command_of}
+use Rattle.q3_command.specs.Command.{command_of}
 use Rattle.q3net.specs.Run.{left_so}
 use Rattle.q3net.specs.Verdict.{outside}
 use Rattle.q3net.proofs.Ending.{prints, reports}

@@ -3,7 +3,7 @@
 ghost use Rattle.std.specs.Prelude.{◌≡◌, ◌-◌, ◌^◌, [], ◌∷◌, map, option_map, IfSome};
 ghost use Rattle.std.specs.String.{string_bytes};
 ghost use Rattle.q3_text.specs.Decimals.{number_at};
-ghost use Rattle.q3net.specs.Command.{AreDraws, MayRun, command_of, command_value, draws_at, index_at};
+ghost use Rattle.q3_command.specs.Command.{AreDraws, MayRun, command_of, command_value, draws_at, index_at};
 
 use q3_io::Address;
 use q3_text::decimal_within;
@@ -110,7 +110,7 @@ fn alone(word: &str) -> Option<Command<'_>>
     }
 }
 
-/// The command that a word is with two behind it.
+/// The command that a word is with two after it.
 fn with_two<'a>(word: &str, first: &'a str, second: &'a str) -> Option<Command<'a>>
     ensures value { option_map command_value result ≡ command_of (word.now ∷ first.now ∷ second.now ∷ []) }
     ensures runs { IfSome result MayRun }
@@ -132,7 +132,7 @@ fn with_two<'a>(word: &str, first: &'a str, second: &'a str) -> Option<Command<'
     }
 }
 
-/// The command that a word is with three behind it.
+/// The command that a word is with three after it.
 fn with_three<'a>(
     word: &str,
     first: &'a str,
@@ -176,7 +176,7 @@ fn index_of<'a>(profile: &'a str, demo: &'a str, index: &'a str) -> Option<Comma
     })
 }
 
-/// The command that a word is with four behind it.
+/// The command that a word is with four after it.
 fn with_four<'a>(
     word: &str,
     first: &'a str,

@@ -4,9 +4,9 @@ use Rattle.std.specs.Str.{bytes_eq}
 use Rattle.q3_io.specs.declared.address.Address.{Address}
 use Rattle.q3_text.specs.Decimals.{number_at}
 use Rattle.q3_words.specs.Addresses.{address_at}
-use Rattle.q3net.specs.declared.command.Command.{Command as CommandLine}
-use Rattle.q3net.specs.declared.command.Command.TheVariants as lines
-use Rattle.q3net.specs.declared.command.Draws.{Draws}
+use Rattle.q3_command.specs.declared.command.Command.{Command as CommandLine}
+use Rattle.q3_command.specs.declared.command.Command.TheVariants as lines
+use Rattle.q3_command.specs.declared.command.Draws.{Draws}
 
 -- what the words ask for
 pub data Command : Type 0 where
