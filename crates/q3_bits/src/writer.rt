@@ -374,7 +374,7 @@ fn store(bytes: &mut [u8; LONGEST_MESSAGE], place: usize, bits: u64, count: u32)
 {
     let first = place / 8;
     // all but the last bytes have seven after them, and what follows those that are written is 0
-    if first > 16_376 {
+    if first > LONGEST_MESSAGE - 8 {
         return store_each(bytes, place, bits, count);
     }
     let rest = u64::from(bytes[first]) + (bits << (place % 8));

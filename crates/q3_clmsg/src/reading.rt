@@ -28,7 +28,7 @@ fn read_section(
     ensures { Reads r.old r.new (section_at r.old.words key r.old.left) (holding into.new.items result) }
 {
     let count = r.get(BYTE)?;
-    if count < 1 || count > 32 {
+    if count < 1 || count > MOST_MOVES as u32 {
         return Err(ClientIllegible::MoveCount(count as u8));
     }
     read_moves(r, key, count, into)?;

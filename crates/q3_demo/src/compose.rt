@@ -9,6 +9,7 @@ ghost use Rattle.q3_demo.specs.Recording.{game_bits, front_at, fronted, whole_of
 
 use q3_bits::{LONG, Overflow, Reader};
 use q3_clstate::ClState;
+use q3_entity_ring::PLACES;
 use q3_gamestate::Numbers;
 use q3_strings::{OperationError, read_row};
 use q3_svmsg::{GameParts, SnapParts, write_game_parts, write_parts};
@@ -61,7 +62,7 @@ pub fn compose_whole(
     let Some(view) = state.view(number) else {
         unreachable!()
     };
-    let Some(held) = state.held((number % 32) as u8) else {
+    let Some(held) = state.held((number % PLACES) as u8) else {
         unreachable!()
     };
     let parts = SnapParts {

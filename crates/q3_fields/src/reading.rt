@@ -63,8 +63,8 @@ fn read_unsigned(r: &mut Reader, width: u8) -> Result<u32, ReadError>
     ensures { Reads r.old r.new (integer_at r.old.words (Unsigned width) width r.old.left) result }
 {
     let width = u32::from(width);
-    if width == 32 {
-        // the literal, so that no loop is left
+    if width == LONG {
+        // the constant, so that no loop is left
         return r.get_fixed(LONG);
     }
     r.get(width)

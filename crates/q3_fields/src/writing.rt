@@ -10,7 +10,7 @@ ghost use Rattle.q3_fields.specs.Texts.{biased, float_bits, player_field, entity
 
 use crate::float::{biased, small_of};
 use crate::kind::{Kind, norm};
-use q3_bits::{BIT, Overflow, Writer, laws};
+use q3_bits::{BIT, LONG, Overflow, Writer, laws};
 
 /// Writes a changed field of a player delta.
 /// `Overflow` comes exactly where the text doesn't fit the writer's room; a front of it was then written.
@@ -82,7 +82,7 @@ fn write_float(w: &mut Writer, mark: u32, count: u32, word: u32) -> Result<(), O
 {
     laws::marks_are_joined();
     let Some(carried) = carried_in_13(word) else {
-        return w.put_marked(mark + (1 << count), count + 1, word, 32);
+        return w.put_marked(mark + (1 << count), count + 1, word, LONG);
     };
     w.put_marked(mark, count + 1, carried, 13)
 }

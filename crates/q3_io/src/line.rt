@@ -111,7 +111,7 @@ impl<O: Sink> Sink for Line<O> {
 /// Bytes that are held back.
 #[derive(Drop)]
 struct Held {
-    bytes: [u8; 1_024],
+    bytes: [u8; ROOM],
     length: usize,
 }
 

@@ -32,7 +32,7 @@ use q3_config::{SYSTEM_INFO, piece, pieces, shape};
 use q3_frames::Frames;
 use q3_io::Address;
 use q3_map::Map;
-use q3_player::{PlayerState, SnapHead};
+use q3_player::{MOST_AREA, PlayerState, SnapHead};
 use q3_profile::Profile;
 use q3_text::Text;
 use q3_window::{Incoming, Outgoing, WindowFull};
@@ -253,7 +253,7 @@ impl Slot {
         let _last = client.executed.last().bytes();
         let area = client.area.as_slice();
         // there is room for no more
-        prove!(area.len() <= 32);
+        prove!(area.len() <= MOST_AREA);
     }
 
     /// Takes a datagram of the client in this slot, from an address, which it takes over. The answer is the first that fits:

@@ -40,7 +40,7 @@ fn read_area(r: &mut Reader, into: &mut ArrayVec<u8, MOST_AREA>) -> Result<(), I
     ensures { Reads r.old r.new (area_at r.old.words r.old.left) (holding into.new.items result) }
 {
     let count = r.get(BYTE)?;
-    if count > 32 {
+    if count > MOST_AREA as u32 {
         return Err(Illegible::Area(count as u8));
     }
     read_bytes(r, count as usize, into)?;
