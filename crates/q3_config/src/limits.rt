@@ -1,6 +1,6 @@
 //! The limits of config strings, and the one that the server keeps for itself.
 
-/// How many there are, the engine's `MAX_CONFIGSTRINGS` (q_shared.h).
+/// How many config strings a map has room for, at the indexes below it: the engine's `MAX_CONFIGSTRINGS` (q_shared.h).
 pub const STRINGS: u32 = 1_024;
 
 /// The index of the string that tells the server's settings, and the map's id among them: the engine's `CS_SYSTEMINFO`

@@ -15,7 +15,8 @@ pub struct EntityState {
     pub words: [u32; 64],
 }
 
-/// How many entities a list may have, the engine's `MAX_ENTITIES_IN_SNAPSHOT` (cg_public.h).
+/// How many entities a list may have: `MAX_ENTITIES_IN_SNAPSHOT` (cg_public.h) is the limit of the engine's client game, and
+/// that a 257th entity is refused is this project's own rule.
 pub const MOST_ENTITIES: usize = 256;
 
 /// Entities by rising number.
