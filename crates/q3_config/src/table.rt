@@ -106,10 +106,11 @@ impl Table {
     /// Sets the string at an index, or leaves the strings as they are and says why.
     pub fn set(&mut self, index: u32, text: &[u8]) -> Result<(), ConfigError>
         requires { length self.old ≡ places }
-        ensures answer { (pending : Option Pending) → result ≡ refused
-            (set_fault (strings_with pending self.old) index text.now) }
+        ensures answer { (pending : Option Pending)
+            → result ≡ refused (set_fault (strings_with pending self.old) index text.now) }
         ensures texts { (pending : Option Pending) → strings_with pending self.new
-            ≡ after_set (strings_with pending self.old) index text.now (set_fault (strings_with pending self.old) index text.now) }
+            ≡ after_set (strings_with pending self.old) index text.now
+            (set_fault (strings_with pending self.old) index text.now) }
     {
         self.check(index, text)?;
         self.put(index as usize, text);
@@ -119,8 +120,8 @@ impl Table {
     /// Sets the string at an index where it is another, and says whether it was. `None` where it can't be set.
     pub fn change(&mut self, index: u32, text: &[u8]) -> Option<bool>
         requires { length self.old ≡ places }
-        ensures { (pending : Option Pending) → attempted pending self.new result ≡ make_change
-            (strings_with pending self.old) index text.now }
+        ensures { (pending : Option Pending)
+            → attempted pending self.new result ≡ make_change (strings_with pending self.old) index text.now }
     {
         if self.has(index, text) {
             return Some(false);
@@ -132,8 +133,8 @@ impl Table {
     /// What is wrong with a text as such: it is too long, or the strings with it would be too large.
     pub fn check_room(&self, index: usize, text: &[u8]) -> Result<(), ConfigError>
         requires { index < length self.now }
-        ensures { (pending : Option Pending) → result ≡ refused
-            (room_fault (strings_with pending self.now) index text.now) }
+        ensures { (pending : Option Pending)
+            → result ≡ refused (room_fault (strings_with pending self.now) index text.now) }
     {
         if text.len() > LONGEST_STRING {
             return Err(ConfigError::Long);

@@ -95,16 +95,17 @@ impl Index {
         ensures cost { IsTrue F.reads_whole → self.now.demo ≢ self.now.index → (told : Told)
             → F.told files.old ≡ Some told → (start played : Played)
             → start_at profile.now (contents_at told self.now.index) self.now.checkpoints number ≡ Ok start
-            → seek_at profile.now (contents_at told self.now.demo)
-            (contents_at told self.now.index) self.now.records self.now.checkpoints number ≡ Ok played
-            → asked_of (F.told files.new) self.now.demo + start.at ≤ asked_of
-            (F.told files.old) self.now.demo + played.at }
+            → seek_at profile.now (contents_at told self.now.demo) (contents_at told self.now.index)
+            self.now.records self.now.checkpoints number ≡ Ok played
+            → asked_of (F.told files.new) self.now.demo + start.at
+            ≤ asked_of (F.told files.old) self.now.demo + played.at }
         ensures cheap { IsTrue F.reads_whole → self.now.demo ≢ self.now.index → (told : Told)
             → F.told files.old ≡ Some told
             → IsMade profile.now self.now (contents_at told self.now.demo) (contents_at told self.now.index)
             → number ≤ length (records_of profile.now (contents_at told self.now.demo))
             → asked_of (F.told files.new) self.now.demo
-            ≤ asked_of (F.told files.old) self.now.demo + bytes_between profile.now (contents_at told self.now.demo) (spacing * (number / spacing)) number }
+            ≤ asked_of (F.told files.old) self.now.demo
+            + bytes_between profile.now (contents_at told self.now.demo) (spacing * (number / spacing)) number }
         ensures past { self.now.records < number → result ≡ Err (SeekError.PastEnd self.now.records) }
         ensures untouched { self.now.records < number → F.told files.new ≡ F.told files.old }
         ensures refusal { IfErr result RefusesDemo }
@@ -276,8 +277,8 @@ fn play_next<F: Files>(player: &mut Player, files: &mut F, demo: usize) -> Resul
     ensures asks { OnlyAsks (F.told files.old) (F.told files.new) }
     ensures cost { IsTrue F.reads_whole → (told : Told) → F.told files.old ≡ Some told → (stepped : Stepped)
         → step (contents_at told demo) player.old.played ≡ Ok (Some stepped)
-        → asked_of (F.told files.new) demo + player.old.played.at ≤ asked_of
-        (F.told files.old) demo + stepped.played.at }
+        → asked_of (F.told files.new) demo + player.old.played.at
+        ≤ asked_of (F.told files.old) demo + stepped.played.at }
     ensures cause { SeekCause (F.faults files.old) (F.faults files.new) result }
     ensures others { F.write_faults files.new ≡ F.write_faults files.old }
 {
