@@ -1,5 +1,5 @@
 -- The pieces of a change to a config string leave string 1 alone.
-use Rattle.std.proofs.Common.{◌≡◌, ℕ, ◌<◌, true, false, List, length, get_or, Option, Some, refl, sym, ap, ◌∙◌, inl}
+use Rattle.std.proofs.Common.{◌≡◌, ℕ, ◌<◌, true, false, List, length, get_or, Option, Some, refl, ap, ◌∙◌, inl}
 use Rattle.std.specs.Prelude.{All}
 use Rattle.std.specs.List.{range_with_len}
 use Rattle.std.proofs.lemmas.Bool.{ne_eqb}
@@ -10,14 +10,10 @@ use Rattle.q3_config.specs.Commands.{Change, piece_count, change_text, change_in
 use Rattle.q3_config.specs.Laws.{SpelledIsRead, piece_texts}
 use Rattle.q3_slot.specs.Slots.{is_of_index, changes_own}
 
--- the index of a piece
-piece_index : (index : ℕ) (text : List ℕ) (k : ℕ) → (config_piece index text k).index ≡ index
-unfolding config_piece
-piece_index index text k = refl
-
 -- the pieces of a change leave string 1 as it is
 pub pieces_own : SpelledIsRead → (index : ℕ) (text : List ℕ) → (index ≡ 1 → ⊥) → index < places → All (λ byte. is_config_byte byte ≡ true) text
     → All (λ text. changes_own text ≡ false) (piece_texts index text)
+unfolding config_piece
 pieces_own law index text other within carried =
     let numbers = range_with_len 0 (piece_count (length text)) in
     All-map (λ text. changes_own text ≡ false) (λ k. change_text (config_piece index text k)) numbers
@@ -27,4 +23,4 @@ pieces_own law index text other within carried =
     leaves_own k =
         let piece = config_piece index text k in
         let read : change_in (change_text piece) ≡ Some piece = law piece (change_text piece) (piece_is_change index text k within carried) (inl refl) in
-        ap (λ (change : Option Change). is_of_index 1 change) read ∙ ne_eqb piece.index 1 (λ e. other (sym (piece_index index text k) ∙ e))
+        ap (λ (change : Option Change). is_of_index 1 change) read ∙ ne_eqb index 1 other
