@@ -189,9 +189,9 @@ fn config(alloc: Global, left: &[u8]) -> Result<Result<Event, LineCause>, NoMemo
     }
 }
 
-/// A client, and the command to it or from it.
+/// A client, and the text of the command to it or from it.
 #[tactic(auto, using(crate::proofs::Steps::command_steps))]
-fn command(left: &[u8]) -> Result<(u8, Text), LineCause>
+fn command_text(left: &[u8]) -> Result<(u8, Text), LineCause>
     ensures { result ≡ command_at (words_left left.now) }
 {
     let (c, left) = next_word(left).ok_or(LineCause::Count)?;
@@ -199,16 +199,23 @@ fn command(left: &[u8]) -> Result<(u8, Text), LineCause>
     Ok((client_word(c)?, text_word(text)?))
 }
 
+/// A client, and the command to it or from it. `Err` is want of memory.
+fn command(alloc: Global, left: &[u8]) -> Result<Result<(u8, BoxedText), LineCause>, NoMemory>
+    ensures { IfOk result (λ answer. answer ≡ command_at (words_left left.now)) }
+{
+    match command_text(left) {
+        Ok((c, text)) => Ok(Ok((c, BoxedText::new(alloc, text)?))),
+        Err(cause) => Ok(Err(cause)),
+    }
+}
+
 /// A `say` line. `Err` is want of memory.
 #[tactic(auto, unfolding(crate::specs::Lines::say_line))]
 fn say(alloc: Global, left: &[u8]) -> Result<Result<Event, LineCause>, NoMemory>
     ensures { IfOk result (λ answer. answer ≡ say_line (words_left left.now)) }
 {
-    match command(left) {
-        Ok((c, text)) => {
-            let text = BoxedText::new(alloc, text)?;
-            Ok(Ok(Event::Say { c, text }))
-        }
+    match command(alloc, left)? {
+        Ok((c, text)) => Ok(Ok(Event::Say { c, text })),
         Err(cause) => Ok(Err(cause)),
     }
 }
@@ -218,11 +225,8 @@ fn say(alloc: Global, left: &[u8]) -> Result<Result<Event, LineCause>, NoMemory>
 fn type_text(alloc: Global, left: &[u8]) -> Result<Result<Event, LineCause>, NoMemory>
     ensures { IfOk result (λ answer. answer ≡ type_line (words_left left.now)) }
 {
-    match command(left) {
-        Ok((c, text)) => {
-            let text = BoxedText::new(alloc, text)?;
-            Ok(Ok(Event::TypeText { c, text }))
-        }
+    match command(alloc, left)? {
+        Ok((c, text)) => Ok(Ok(Event::TypeText { c, text })),
         Err(cause) => Ok(Err(cause)),
     }
 }
