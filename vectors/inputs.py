@@ -75,7 +75,7 @@ def clear(number, message):
 
 
 def demo(count):
-    """A gamestate of number 4 and whole snapshots behind it: the demo, the lines of each record, and the state that they leave."""
+    """A gamestate of number 4 and whole snapshots after it: the demo, the lines of each record, and the state that they leave."""
     numbers = range(5, 4 + count)
     lines = [b'record 0 number 4\n+ gamestate id 1 slot 0 feed 77\n']
     lines += [b'record %d number %d\n+ accepted %d base 0\n' % (at, number, number) for at, number in enumerate(numbers, 1)]

@@ -13,10 +13,10 @@ use Rattle.q3_bits.specs.Laws.{EndsCutShort}
 use Rattle.q3_bits.specs.declared.reader.ReadError.{ReadError}
 use Rattle.q3_bits.specs.declared.reader.ReadError.TheVariants.{End, NoWord}
 use Rattle.q3_bits.specs.declared.code.Word.{Word}
-use Rattle.q3_bits.specs.Words.{word_of, IsCode, plain_words, bytes_bits, field_bits, raw_at, behind, byte_from, byte_at, bytes_at, field_at, begins_word, IsCutShort}
+use Rattle.q3_bits.specs.Words.{word_of, IsCode, plain_words, bytes_bits, field_bits, raw_at, bits_after, byte_from, byte_at, bytes_at, field_at, begins_word, IsCutShort}
 use Rattle.q3_bits.specs.Table.{bits_of_word, words_of}
 use Rattle.q3_bits.proofs.Numbers.{length-low_bits, number_of-low_bits, low_bits-number_of, low_bits-mod, low_bits-add, low_bits-low, low_bits-number_of_more}
-use Rattle.q3_bits.proofs.CodeText.{answer, bytes_bits-suc, behind_some, behind-append, behind_none, byte_from_some, byte_again, byte_at-is, byte_at_ok, same_word, begins_longer, raw_at_some, field_bits-is, plain_is_code, plain_reads, plain_front}
+use Rattle.q3_bits.proofs.CodeText.{answer, bytes_bits-suc, bits_after_some, bits_after-append, bits_after_none, byte_from_some, byte_again, byte_at-is, byte_at_ok, same_word, begins_longer, raw_at_some, field_bits-is, plain_is_code, plain_reads, plain_front}
 
 -- ---- bits that begin a word
 
@@ -28,29 +28,29 @@ front_is count number bits rest short e =
     sym (take_at (low_bits n number) (low_bits (count - n) (number / 2 ^ n)) n (length-low_bits n number)) ∙ ap (take n) whole ∙ take_at bits rest n refl
 
 -- bits begin a word where its low bits spell what they spell
-pub behind-number : (count number : ℕ) (bits : List Bool) → length bits ≤ count → eqb (number % 2 ^ length bits) (number_of bits) ≡ is_some (behind bits (low_bits count number))
-behind-number count number bits short =
+pub bits_after-number : (count number : ℕ) (bits : List Bool) → length bits ≤ count → eqb (number % 2 ^ length bits) (number_of bits) ≡ is_some (bits_after bits (low_bits count number))
+bits_after-number count number bits short =
     let n = length bits in
     elim (cases_Bool (eqb (number % 2 ^ n) (number_of bits))) [
       | inl same ↦
           let spelt : low_bits n number ≡ bits = sym (low_bits-mod n number) ∙ ap (low_bits n) (eqb-true _ _ same) ∙ low_bits-number_of bits in
           let whole : low_bits count number ≡ bits ++ low_bits (count - n) (number / 2 ^ n) = ap (λ (k : ℕ). low_bits k number) (omega arith) ∙ low_bits-add n (count - n) number ∙ ap (λ (x : List Bool). x ++ low_bits (count - n) (number / 2 ^ n)) spelt in
-          same ∙ sym (ap is_some (ap (behind bits) whole ∙ behind-append bits (low_bits (count - n) (number / 2 ^ n))))
+          same ∙ sym (ap is_some (ap (bits_after bits) whole ∙ bits_after-append bits (low_bits (count - n) (number / 2 ^ n))))
       | inr other ↦
-          let none : behind bits (low_bits count number) ≡ None = behind_none bits (low_bits count number) (λ rest e.
+          let none : bits_after bits (low_bits count number) ≡ None = bits_after_none bits (low_bits count number) (λ rest e.
           eqb-false _ _ other (sym (number_of-low_bits n number) ∙ ap number_of (front_is count number bits rest short e))) in
           other ∙ sym (ap is_some none)
     ]
 
 -- bits that are more than a word has begin none
-pub behind-short : (bits word : List Bool) → length word < length bits → behind bits word ≡ None
-behind-short bits word few = behind_none bits word (λ rest e. omega (arith, ap length e, length-append bits rest))
+pub bits_after-short : (bits word : List Bool) → length word < length bits → bits_after bits word ≡ None
+bits_after-short bits word few = bits_after_none bits word (λ rest e. omega (arith, ap length e, length-append bits rest))
 
 -- the word at a place, as it is kept
 begins_word-at : (words : List (List Bool)) (k : ℕ) (bits rest : List Bool) → k < length words → bits ++ rest ≡ word_of words k → begins_word words bits ≡ true
 unfolding begins_word
 begins_word-at words k bits rest lt e =
-    list_any_at (λ word. is_some (behind bits word)) words k [] lt (ap is_some (ap (behind bits) (sym e) ∙ behind-append bits rest))
+    list_any_at (λ word. is_some (bits_after bits word)) words k [] lt (ap is_some (ap (bits_after bits) (sym e) ∙ bits_after-append bits rest))
 
 -- what is there is some
 some_from : {A : Type 0} (o : Option A) → is_some o ≡ true → (x : A) × (o ≡ Some x)
@@ -61,9 +61,9 @@ some_from None e = absurd (false≢true e)
 begins_word-some : (words : List (List Bool)) (bits : List Bool) → begins_word words bits ≡ true → (k : ℕ) × (rest : List Bool) × (k < length words) × (word_of words k ≡ bits ++ rest)
 unfolding begins_word
 begins_word-some words bits e =
-    let any = Any-from_list_any (λ word. is_some (behind bits word)) words e in
-    let rest = some_from (behind bits any.1) any.4 in
-    (any.0, rest.0, any.2, get_or_default words any.0 [] any.1 any.2 ∙ any.3 ∙ behind_some bits any.1 rest.0 rest.1)
+    let any = Any-from_list_any (λ word. is_some (bits_after bits word)) words e in
+    let rest = some_from (bits_after bits any.1) any.4 in
+    (any.0, rest.0, any.2, get_or_default words any.0 [] any.1 any.2 ∙ any.3 ∙ bits_after_some bits any.1 rest.0 rest.1)
 
 -- ---- bytes whose text is cut short
 
@@ -140,9 +140,9 @@ end_from_cut words code (suc count) value bits more e cut is =
           elim (bind_err (bytes_at words count first.1) (λ others. answer (first.0 + 256 * others.0) others.1) e later) [
             | inl stuck ↦
                 let word = byte_from_some words 0 bits first (byte_at_ok words bits first read) in
-                let behind_both : word_of words word.0 ++ (first.1 ++ more) ≡ word_of words byte ++ others = sym (append_assoc (word_of words word.0) first.1 more) ∙ ap (λ (x : List Bool). x ++ more) (sym word.3) ∙ whole in
-                let same : word.0 ≡ byte = same_word words code word.0 byte (first.1 ++ more) others (omega (arith, word.1, code.count)) (omega arith) behind_both in
-                let rest : first.1 ++ more ≡ others = append_cancel_left (word_of words byte) (first.1 ++ more) others (rw same at behind_both) in
+                let both_after : word_of words word.0 ++ (first.1 ++ more) ≡ word_of words byte ++ others = sym (append_assoc (word_of words word.0) first.1 more) ∙ ap (λ (x : List Bool). x ++ more) (sym word.3) ∙ whole in
+                let same : word.0 ≡ byte = same_word words code word.0 byte (first.1 ++ more) others (omega (arith, word.1, code.count)) (omega arith) both_after in
+                let rest : first.1 ++ more ≡ others = append_cancel_left (word_of words byte) (first.1 ++ more) others (rw same at both_after) in
                 end_from_cut words code count (value / 256) first.1 more e rest stuck
             | inr (found, ok, none) ↦ absurd cc
           ]
@@ -168,15 +168,15 @@ raw_at_err count bits e is = go (nat_lt (length bits) count) refl is
     go true few is = (ltb-true _ _ few, cc)
     go false few is = absurd cc
 
--- how a field goes on behind its raw bits
-abbrev behind_raw : List (List Bool) → ℕ → ℕ × List Bool → Result (ℕ × List Bool) ReadError
-behind_raw words width raw = bytes_at words (width / 8) raw.1 >>= λ bytes. Ok (raw.0 + 2 ^ (width % 8) * bytes.0, bytes.1)
+-- how a field goes on after its raw bits
+abbrev after_raw : List (List Bool) → ℕ → ℕ × List Bool → Result (ℕ × List Bool) ReadError
+after_raw words width raw = bytes_at words (width / 8) raw.1 >>= λ bytes. Ok (raw.0 + 2 ^ (width % 8) * bytes.0, bytes.1)
 
 -- where a field's bits end, they are the front of its text
 field_cut : (words : List (List Bool)) (code : IsCode words) (width : ℕ) (bits : List Bool) → field_at words width bits ≡ Err End → IsCutShort words width bits
 unfolding field_at
 field_cut words code width bits e =
-    elim (bind_err (raw_at (width % 8) bits) (behind_raw words width) End e) [
+    elim (bind_err (raw_at (width % 8) bits) (after_raw words width) End e) [
       | inl none ↦ few_raw words width bits (raw_at_err (width % 8) bits End none).0
       | inr (raw, is, later) ↦
           elim (bind_err (bytes_at words (width / 8) raw.1) (λ bytes. answer (raw.0 + 2 ^ (width % 8) * bytes.0) bytes.1) End later) [
@@ -196,7 +196,7 @@ field_cut words code width bits e =
 pub field_end : (words : List (List Bool)) (code : IsCode words) (width value : ℕ) (bits more : List Bool) (e : ReadError) → bits ++ more ≡ field_bits words width value → field_at words width bits ≡ Err e → e ≡ End
 unfolding field_at
 field_end words code width value bits more e cut is =
-    elim (bind_err (raw_at (width % 8) bits) (behind_raw words width) e is) [
+    elim (bind_err (raw_at (width % 8) bits) (after_raw words width) e is) [
       | inl none ↦ (raw_at_err (width % 8) bits e none).1
       | inr (raw, read, later) ↦
           elim (bind_err (bytes_at words (width / 8) raw.1) (λ bytes. answer (raw.0 + 2 ^ (width % 8) * bytes.0) bytes.1) e later) [
@@ -230,28 +230,28 @@ plain_ends width bits e is =
 
 -- a word of the table begins with the bits that its number begins with
 pub starts_with-test : (word : Word) (count front : ℕ) (bits : List Bool) → word.length ≤ 24 → count ≤ word.length → count ≡ min 25 (length bits) → front ≡ number_of (take 24 bits)
-    → eqb (word.bits % (1 * 2 ^ count % 2 ^ 32)) front ≡ is_some (behind bits (bits_of_word word))
+    → eqb (word.bits % (1 * 2 ^ count % 2 ^ 32)) front ≡ is_some (bits_after bits (bits_of_word word))
 starts_with-test word count front bits short within is spells =
     let long : count ≡ length bits = omega arith in
     let shift : 1 * 2 ^ count % 2 ^ 32 ≡ 2 ^ length bits = one_shl count 32 (omega arith) ∙ ap (λ (n : ℕ). 2 ^ n) long in
     let whole : take 24 bits ≡ bits = take_all 24 bits (omega arith) in
-    rw (shift, spells, whole) (behind-number word.length word.bits bits (omega arith))
+    rw (shift, spells, whole) (bits_after-number word.length word.bits bits (omega arith))
 
 -- and is no longer than the bits
-pub starts_with-long : (word : Word) (bits : List Bool) → word.length < length bits → is_some (behind bits (bits_of_word word)) ≡ false
-starts_with-long word bits few = ap is_some (behind-short bits (bits_of_word word) (omega (arith, length-low_bits word.length word.bits)))
+pub starts_with-long : (word : Word) (bits : List Bool) → word.length < length bits → is_some (bits_after bits (bits_of_word word)) ≡ false
+starts_with-long word bits few = ap is_some (bits_after-short bits (bits_of_word word) (omega (arith, length-low_bits word.length word.bits)))
 
 -- the words from a place on
 words_from : (words : List Word) (i : ℕ) (d : Word) → i < length words → drop i (words_of words) ≡ bits_of_word (get_or words i d) ∷ drop (i + 1) (words_of words)
 words_from words i d lt = drop_more (words_of words) i [] (omega (arith, length-map words bits_of_word)) ∙ rw (get_or-map bits_of_word words i d [] lt) refl
 
 -- the word at a place goes on from the bits
-pub begins_hit : (words : List Word) (i : ℕ) (bits : List Bool) (d : Word) → i < length words → true ≡ is_some (behind bits (bits_of_word (get_or words i d))) → begins_word (drop i (words_of words)) bits ≡ true
+pub begins_hit : (words : List Word) (i : ℕ) (bits : List Bool) (d : Word) → i < length words → true ≡ is_some (bits_after bits (bits_of_word (get_or words i d))) → begins_word (drop i (words_of words)) bits ≡ true
 unfolding begins_word
 begins_hit words i bits d lt hit = rw (words_from words i d lt, ← hit) refl
 
 -- or a later one
-pub begins_miss : (words : List Word) (i : ℕ) (bits : List Bool) (d : Word) → i < length words → false ≡ is_some (behind bits (bits_of_word (get_or words i d))) → begins_word (drop i (words_of words)) bits ≡ begins_word (drop (i + 1) (words_of words)) bits
+pub begins_miss : (words : List Word) (i : ℕ) (bits : List Bool) (d : Word) → i < length words → false ≡ is_some (bits_after bits (bits_of_word (get_or words i d))) → begins_word (drop i (words_of words)) bits ≡ begins_word (drop (i + 1) (words_of words)) bits
 unfolding begins_word
 begins_miss words i bits d lt miss = rw (words_from words i d lt, ← miss) refl
 

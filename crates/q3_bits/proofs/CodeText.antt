@@ -11,7 +11,7 @@ use Rattle.std.proofs.lemmas.Nat.{pow-add, shr_high, shr_below, shl_whole, mul-a
 use Rattle.std.proofs.Math.Nat.{mod-add-div, mod-eq_of_lt, pow-le-pow_right, pow-succ'}
 use Rattle.q3_bits.specs.ResultBind.{◌>>=◌, bind_ok}
 use Rattle.q3_bits.specs.Bits.{low_bits, number_of}
-use Rattle.q3_bits.specs.Words.{word_of, IsCode, plain_words, bytes_bits, field_bits, raw_at, behind, byte_from, begins_word, byte_at, bytes_at, field_at}
+use Rattle.q3_bits.specs.Words.{word_of, IsCode, plain_words, bytes_bits, field_bits, raw_at, bits_after, byte_from, begins_word, byte_at, bytes_at, field_at}
 use Rattle.q3_bits.specs.declared.reader.ReadError.{ReadError}
 use Rattle.q3_bits.specs.declared.reader.ReadError.TheVariants.{End, NoWord}
 use Rattle.q3_bits.specs.declared.code.Word.{Word}
@@ -27,7 +27,7 @@ unfolding byte_from
 byte_from-nil byte bits = refl
 
 -- the first word, or else a later one
-pub byte_from-cons : (byte : ℕ) (word : List Bool) (words : List (List Bool)) (bits : List Bool) → byte_from byte (word ∷ words) bits ≡ option_or (option_map (λ rest. (byte, rest)) (behind word bits)) (byte_from (byte + 1) words bits)
+pub byte_from-cons : (byte : ℕ) (word : List Bool) (words : List (List Bool)) (bits : List Bool) → byte_from byte (word ∷ words) bits ≡ option_or (option_map (λ rest. (byte, rest)) (bits_after word bits)) (byte_from (byte + 1) words bits)
 unfolding byte_from
 byte_from-cons byte word words bits = refl
 
@@ -52,44 +52,44 @@ bytes_bits-parts words count value byte high low rest = rw (bytes_bits-suc, low,
 
 -- ---- a word
 
--- what is behind a word stands behind it
-pub behind_some : (word bits rest : List Bool) → behind word bits ≡ Some rest → bits ≡ word ++ rest
-unfolding behind
-behind_some [] bits rest e = cc
-behind_some (true ∷ word) [] rest e = absurd cc
-behind_some (false ∷ word) [] rest e = absurd cc
-behind_some (true ∷ word) (true ∷ bits) rest e = ap (λ (x : List Bool). true ∷ x) (behind_some word bits rest e)
-behind_some (true ∷ word) (false ∷ bits) rest e = absurd cc
-behind_some (false ∷ word) (true ∷ bits) rest e = absurd cc
-behind_some (false ∷ word) (false ∷ bits) rest e = ap (λ (x : List Bool). false ∷ x) (behind_some word bits rest e)
+-- the rest after a word follows it
+pub bits_after_some : (word bits rest : List Bool) → bits_after word bits ≡ Some rest → bits ≡ word ++ rest
+unfolding bits_after
+bits_after_some [] bits rest e = cc
+bits_after_some (true ∷ word) [] rest e = absurd cc
+bits_after_some (false ∷ word) [] rest e = absurd cc
+bits_after_some (true ∷ word) (true ∷ bits) rest e = ap (λ (x : List Bool). true ∷ x) (bits_after_some word bits rest e)
+bits_after_some (true ∷ word) (false ∷ bits) rest e = absurd cc
+bits_after_some (false ∷ word) (true ∷ bits) rest e = absurd cc
+bits_after_some (false ∷ word) (false ∷ bits) rest e = ap (λ (x : List Bool). false ∷ x) (bits_after_some word bits rest e)
 
--- a rest stands behind a word that it follows
-pub behind-append : (word rest : List Bool) → behind word (word ++ rest) ≡ Some rest
-unfolding behind
-behind-append [] rest = refl
-behind-append (true ∷ word) rest = behind-append word rest
-behind-append (false ∷ word) rest = behind-append word rest
+-- a rest that follows a word is the rest after it
+pub bits_after-append : (word rest : List Bool) → bits_after word (word ++ rest) ≡ Some rest
+unfolding bits_after
+bits_after-append [] rest = refl
+bits_after-append (true ∷ word) rest = bits_after-append word rest
+bits_after-append (false ∷ word) rest = bits_after-append word rest
 
 -- what is never there is none
 pub none_from : {A : Type 0} (o : Option A) → ((x : A) → o ≡ Some x → ⊥) → o ≡ None
 none_from None never = refl
 none_from (Some x) never = absurd (never x refl)
 
--- bits that are no word and a rest have nothing behind the word
-pub behind_none : (word bits : List Bool) → ((rest : List Bool) → bits ≡ word ++ rest → ⊥) → behind word bits ≡ None
-behind_none word bits never = none_from (behind word bits) (λ rest e. never rest (behind_some word bits rest e))
+-- bits that are no word and a rest have nothing after the word
+pub bits_after_none : (word bits : List Bool) → ((rest : List Bool) → bits ≡ word ++ rest → ⊥) → bits_after word bits ≡ None
+bits_after_none word bits never = none_from (bits_after word bits) (λ rest e. never rest (bits_after_some word bits rest e))
 
 -- a word of the low bits of a number begins the bits that spell the number
-pub behind-low_bits : (count number : ℕ) (bits : List Bool) → count ≤ length bits → number_of (take count bits) ≡ number → behind (low_bits count number) bits ≡ Some (drop count bits)
-behind-low_bits count number bits enough e =
+pub bits_after-low_bits : (count number : ℕ) (bits : List Bool) → count ≤ length bits → number_of (take count bits) ≡ number → bits_after (low_bits count number) bits ≡ Some (drop count bits)
+bits_after-low_bits count number bits enough e =
     let spelt : low_bits count number ≡ take count bits = rw (← e) (low_bits-number_of_take count bits enough) in
-    rw spelt (ap (behind (take count bits)) (sym (take-append-drop count bits)) ∙ behind-append (take count bits) (drop count bits))
+    rw spelt (ap (bits_after (take count bits)) (sym (take-append-drop count bits)) ∙ bits_after-append (take count bits) (drop count bits))
 
 -- and no others
-pub behind-low_bits_none : (count number : ℕ) (bits : List Bool) → number < 2 ^ count → (count ≤ length bits → number_of (take count bits) ≡ number → ⊥) → behind (low_bits count number) bits ≡ None
-behind-low_bits_none count number bits fits never =
+pub bits_after-low_bits_none : (count number : ℕ) (bits : List Bool) → number < 2 ^ count → (count ≤ length bits → number_of (take count bits) ≡ number → ⊥) → bits_after (low_bits count number) bits ≡ None
+bits_after-low_bits_none count number bits fits never =
     let long = length-low_bits count number in
-    behind_none (low_bits count number) bits (λ rest e.
+    bits_after_none (low_bits count number) bits (λ rest e.
     never (omega (arith, long, length-append (low_bits count number) rest, ap length e))
     (rw (e, take_at (low_bits count number) rest count long) (number_of-low_bits count number ∙ mod-eq_of_lt fits)))
 
@@ -100,11 +100,11 @@ pub byte_from_first : (words : List (List Bool)) (byte k : ℕ) (bits rest : Lis
     → ((j : ℕ) (other : List Bool) → j < k → bits ≡ word_of words j ++ other → ⊥) → byte_from byte words bits ≡ Some (byte + k, rest)
 byte_from_first [] byte k bits rest lt begins first = absurd (omega arith)
 byte_from_first (word ∷ words) byte zero bits rest lt begins first =
-    let found : behind word bits ≡ Some rest = ap (behind word) begins ∙ behind-append word rest in
+    let found : bits_after word bits ≡ Some rest = ap (bits_after word) begins ∙ bits_after-append word rest in
     let same : byte + zero ≡ byte = omega arith in
     rw (byte_from-cons, found, same) refl
 byte_from_first (word ∷ words) byte (suc k) bits rest lt begins first =
-    let passed : behind word bits ≡ None = behind_none word bits (λ other e. first 0 other (omega arith) e) in
+    let passed : bits_after word bits ≡ None = bits_after_none word bits (λ other e. first 0 other (omega arith) e) in
     let next : byte + suc k ≡ byte + 1 + k = omega arith in
     rw (byte_from-cons, passed, next) (byte_from_first words (byte + 1) k bits rest (omega arith) begins (λ j other below e. first (suc j) other (omega arith) e))
 
@@ -113,11 +113,11 @@ abbrev HasWord : List (List Bool) → ℕ → List Bool → ℕ × List Bool →
 HasWord words byte bits found = (k : ℕ) × (k < length words) × (found.0 ≡ byte + k) × (bits ≡ word_of words k ++ found.1)
 
 -- the first word or a later one
-HasWord-cons : (word : List Bool) (words : List (List Bool)) (byte : ℕ) (bits : List Bool) (found : ℕ × List Bool) (o : Option (List Bool)) → behind word bits ≡ o
+HasWord-cons : (word : List Bool) (words : List (List Bool)) (byte : ℕ) (bits : List Bool) (found : ℕ × List Bool) (o : Option (List Bool)) → bits_after word bits ≡ o
     → option_or (option_map (λ rest. (byte, rest)) o) (byte_from (byte + 1) words bits) ≡ Some found → (byte_from (byte + 1) words bits ≡ Some found → HasWord words (byte + 1) bits found) → HasWord (word ∷ words) byte bits found
 HasWord-cons word words byte bits found (Some rest) b e later =
     let parts = some_pair_parts byte found.0 rest found.1 e in
-    (0, omega arith, omega (arith, parts.0), behind_some word bits rest b ∙ ap (λ (x : List Bool). word ++ x) parts.1)
+    (0, omega arith, omega (arith, parts.0), bits_after_some word bits rest b ∙ ap (λ (x : List Bool). word ++ x) parts.1)
 HasWord-cons word words byte bits found None b e later =
     let at = later e in
     (suc at.0, omega (arith, at.1), omega (arith, at.2), at.3)
@@ -126,7 +126,7 @@ HasWord-cons word words byte bits found None b e later =
 pub byte_from_some : (words : List (List Bool)) (byte : ℕ) (bits : List Bool) (found : ℕ × List Bool) → byte_from byte words bits ≡ Some found → HasWord words byte bits found
 byte_from_some [] byte bits found e = absurd (let none = byte_from-nil byte bits in cc)
 byte_from_some (word ∷ words) byte bits found e =
-    HasWord-cons word words byte bits found (behind word bits) refl (rw byte_from-cons at e) (λ later. byte_from_some words (byte + 1) bits found later)
+    HasWord-cons word words byte bits found (bits_after word bits) refl (rw byte_from-cons at e) (λ later. byte_from_some words (byte + 1) bits found later)
 
 -- of two fronts of the same bits the shorter begins the longer
 pub begins_longer : (a b rest bits : List Bool) (n : ℕ) → a ++ rest ≡ b ++ bits → length a + n ≡ length b → a ++ take n rest ≡ b
@@ -162,7 +162,7 @@ pub word_hit : (words : List Word) (i count window : ℕ) (left : List Bool) (d 
     → byte_from i (drop i (words_of words)) left ≡ Some (i, drop (get_or words i d).length left)
 word_hit words i count window left d lt is within spells short same =
     let word = get_or words i d in
-    let found : behind (bits_of_word word) left ≡ Some (drop word.length left) = behind-low_bits word.length word.bits left (omega arith) (sym (window_of_word window left word.length spells is.short) ∙ same) in
+    let found : bits_after (bits_of_word word) left ≡ Some (drop word.length left) = bits_after-low_bits word.length word.bits left (omega arith) (sym (window_of_word window left word.length spells is.short) ∙ same) in
     let here : drop i (words_of words) ≡ bits_of_word word ∷ drop (i + 1) (words_of words) = drop_more (words_of words) i [] (omega (arith, length-map words bits_of_word)) ∙ rw (get_or-map bits_of_word words i d [] lt) refl in
     rw (here, byte_from-cons, found) refl
 
@@ -172,7 +172,7 @@ pub word_miss : (words : List Word) (i count window : ℕ) (left : List Bool) (d
     → byte_from i (drop i (words_of words)) left ≡ byte_from (i + 1) (drop (i + 1) (words_of words)) left
 word_miss words i count window left d lt is within spells never =
     let word = get_or words i d in
-    let passed : behind (bits_of_word word) left ≡ None = behind-low_bits_none word.length word.bits left is.fits (λ enough same.
+    let passed : bits_after (bits_of_word word) left ≡ None = bits_after-low_bits_none word.length word.bits left is.fits (λ enough same.
     let short : word.length ≤ count = omega (arith, is.short) in
     never short (window_of_word window left word.length spells is.short ∙ same)) in
     let here : drop i (words_of words) ≡ bits_of_word word ∷ drop (i + 1) (words_of words) = drop_more (words_of words) i [] (omega (arith, length-map words bits_of_word)) ∙ rw (get_or-map bits_of_word words i d [] lt) refl in
@@ -190,13 +190,13 @@ entry_found words entry window left code leads short enough spells =
     let few : length words ≡ 256 = sym (length-map words bits_of_word) ∙ code.count in
     let front : number_of (take entry.length left) ≡ window % 4096 % 2 ^ entry.length =
     sym (rw (window_of_word window left 12 spells (omega arith), number_of-mod, take-take) refl) in
-    let spelt : behind (low_bits entry.length word.bits) left ≡ Some (drop entry.length left) = behind-low_bits entry.length word.bits left enough (front ∙ leads.begins) in
+    let spelt : bits_after (low_bits entry.length word.bits) left ≡ Some (drop entry.length left) = bits_after-low_bits entry.length word.bits left enough (front ∙ leads.begins) in
     let is : word_of (words_of words) entry.byte ≡ low_bits entry.length word.bits = get_or-map bits_of_word words entry.byte no_word [] leads.byte ∙ ap (λ (n : ℕ). low_bits n word.bits) leads.length in
     let lt = leads.byte in
     word_only (words_of words) code entry.byte left (drop entry.length left) (omega arith)
-    (behind_some (low_bits entry.length word.bits) left (drop entry.length left) spelt ∙ ap (λ (x : List Bool). x ++ drop entry.length left) (sym is))
+    (bits_after_some (low_bits entry.length word.bits) left (drop entry.length left) spelt ∙ ap (λ (x : List Bool). x ++ drop entry.length left) (sym is))
 
--- behind the last word
+-- after the last word
 pub word_end : (words : List Word) (i : ℕ) (left : List Bool) → length words ≤ i → byte_from i (drop i (words_of words)) left ≡ None
 word_end words i left past = rw (drop_all i (words_of words) (omega (arith, length-map words bits_of_word)), byte_from-nil) refl
 
@@ -216,7 +216,7 @@ ok_or_ok None cause found e = absurd cc
 pub byte_at_ok : (words : List (List Bool)) (bits : List Bool) (found : ℕ × List Bool) → byte_at words bits ≡ Ok found → byte_from 0 words bits ≡ Some found
 byte_at_ok words bits found e = ok_or_ok (byte_from 0 words bits) (cond (begins_word words bits) End NoWord) found (sym (byte_at-is words bits) ∙ e)
 
--- what is read behind the low bytes of a number, as read with them
+-- what is read after the low bytes of a number, as read with them
 abbrev pub onto : ℕ → ℕ → Result (ℕ × List Bool) ReadError → Result (ℕ × List Bool) ReadError
 onto number scale (Ok found) = Ok (number + scale * found.0, found.1)
 onto number scale (Err e) = Err e
@@ -331,7 +331,7 @@ pow_bytes : (count : ℕ) → 2 ^ (8 * count) ≡ 256 ^ count
 pow_bytes zero = refl
 pow_bytes (suc count) = ap (λ (n : ℕ). 2 ^ n) (omega arith) ∙ pow-add 2 8 (8 * count) ∙ rw (pow_bytes count, pow-succ' 256 count) refl
 
--- a byte shifted behind the bytes below it
+-- a byte shifted after the bytes below it
 pub byte_shifted : (number byte k : ℕ) → k < 4 → number < 256 ^ k → byte < 256
     → (byte * 2 ^ (8 * k) % 2 ^ 32 ≡ 256 ^ k * byte) × (number + byte * 2 ^ (8 * k) % 2 ^ 32 < 256 ^ (k + 1)) × (256 ^ (k + 1) ≡ 256 * 256 ^ k) × (256 ^ (k + 1) ≤ 2 ^ 32)
 byte_shifted number byte k few fits small =
@@ -399,7 +399,7 @@ pub field_no_bytes : (words : List (List Bool)) (width : ℕ) (bits : List Bool)
 unfolding field_at
 field_no_bytes words width bits raw e is none = rw (is, none) refl
 
--- the bytes of a field shifted behind its raw bits
+-- the bytes of a field shifted after its raw bits
 pub field_shifted : (low high width : ℕ) → width ≤ 32 → low < 2 ^ (width % 8) → high < 256 ^ (width / 8)
     → (high * 2 ^ (width % 8) % 2 ^ 32 ≡ 2 ^ (width % 8) * high) × (low + high * 2 ^ (width % 8) % 2 ^ 32 < 2 ^ width) × (2 ^ width ≤ 2 ^ 32)
 field_shifted low high width most fits fits' =

@@ -70,7 +70,7 @@ bits_of-append : (a b : List ℕ) → bits_of (a ++ b) ≡ bits_of a ++ bits_of 
 unfolding bits_of
 bits_of-append a b = flat_map-append (low_bits 8) a b
 
--- a list whose front is another's, and the bytes of a number behind it
+-- a list whose front is another's, and the bytes of a number after it
 record Fronted (front now : List ℕ) (first rest : ℕ) : Type 0 where
   is : take (first + 8) now ≡ front ++ number_bytes 8 rest
   long : length front ≡ first
@@ -104,10 +104,10 @@ fronted-part front now first rest q r f few short fits =
     let small : rest / 2 ^ (8 * q) < 2 ^ r = shr_below rest r (8 * q) (subst (λ (k : ℕ). rest < 2 ^ k) turned fits) in
     omega (arith, small, fronted-get front now first rest q f few, bytes_get 8 q rest few)
 
--- behind them the list is as it was
-fronted-behind : (start now front : List ℕ) (first rest q r k : ℕ) → Fronted front now first rest → drop (first + 8) now ≡ drop (first + 8) start → r < 8 → rest < 2 ^ (8 * q + r)
+-- after them the list is as it was
+fronted-after : (start now front : List ℕ) (first rest q r k : ℕ) → Fronted front now first rest → drop (first + 8) now ≡ drop (first + 8) start → r < 8 → rest < 2 ^ (8 * q + r)
     → ((j : ℕ) → first < j → get_or start j 0 ≡ 0) → first + q < k → get_or now k 0 ≡ 0
-fronted-behind start now front first rest q r k f same short fits none past =
+fronted-after start now front first rest q r k f same short fits none past =
     let at : first + (k - first) ≡ k = omega arith in
     elim (cases_lt (k - first) 8) [
       | inl near ↦
@@ -119,7 +119,7 @@ fronted-behind start now front first rest q r k f same short fits none past =
           ∙ get_or-drop (first + 8) start (k - first - 8) 0 ∙ ap (λ (j : ℕ). get_or start j 0) beyond ∙ none k (omega arith)
     ]
 
--- bits behind those that lie in the bytes
+-- bits after those that lie in the bytes
 pub record StoredAtOnce (start now : List ℕ) (place bits count : ℕ) : Type 0 where
   pub stored : bits_within now (place + count) ≡ bits_within start place ++ low_bits count bits
   pub clear : IsClear now (place + count)
@@ -127,7 +127,7 @@ pub record StoredAtOnce (start now : List ℕ) (place bits count : ℕ) : Type 0
 pub stored_at_once : (start now : List ℕ) (place bits count first rest : ℕ) → IsClear start place → bits < 2 ^ count → count ≤ 56 → first ≡ place / 8 → first + 8 ≤ length start
     → rest ≡ get_or start first 0 + bits * 2 ^ (place % 8) % 2 ^ 64 → take (first + 8) now ≡ take first start ++ to_le_bytes w64 rest → drop (first + 8) now ≡ drop (first + 8) start
     → StoredAtOnce start now place bits count
-stored_at_once start now place bits count first rest clear fits few at room is written behind =
+stored_at_once start now place bits count first rest clear fits few at room is written after =
     let end = place + count in
     let left = end - 8 * first in
     let q = left / 8 in
@@ -158,7 +158,7 @@ stored_at_once start now place bits count first rest clear fits few at room is w
         part =
             subst (λ (k : ℕ). get_or now k 0 < 2 ^ (end % 8)) place-is
             (subst (λ (j : ℕ). get_or now (first + q) 0 < 2 ^ j) bit-is (fronted-part (take first start) now first rest q r f q-few r-few fits'));
-        behind = λ k past.
-            fronted-behind start now (take first start) first rest q r k f behind r-few fits' (λ j later. clear.behind j (omega (arith, at, later))) (omega (arith, place-is, past));
+        after = λ k past.
+            fronted-after start now (take first start) first rest q r k f after r-few fits' (λ j later. clear.after j (omega (arith, at, later))) (omega (arith, place-is, past));
       };
     }

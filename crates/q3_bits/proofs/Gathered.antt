@@ -1,4 +1,4 @@
--- Bits that are gathered in a number, and those of the bytes behind them.
+-- Bits that are gathered in a number, and those of the bytes after them.
 use Rattle.std.proofs.Common.{◌≡◌, ◌⊎◌, ℕ, ◌+◌, ◌-◌, ◌*◌, ◌/◌, ◌%◌, ◌^◌, ◌<◌, ◌≤◌, Bool, List, [], ◌∷◌, ◌++◌, length, take, drop, min, Some, Result, Ok, Err, refl, sym, ap, ◌∙◌, inl, inr, append_assoc, arith}
 use Rattle.std.proofs.lemmas.List.{length-append, length-drop, take_at, drop_at, take-append-drop, take-take, append-nil, nil_from_length}
 use Rattle.std.proofs.lemmas.Nat.{shl_whole, shr_below, shr-shr, mul-add-lt, pow-add}
@@ -23,7 +23,7 @@ gathered-parts n count bits rest few =
     let whole : count ≡ n + (count - n) = omega arith in
     ap (λ (k : ℕ). low_bits k bits ++ rest) whole ∙ ap (λ (xs : List Bool). xs ++ rest) (low_bits-add n (count - n) bits) ∙ append_assoc (low_bits n bits) (low_bits (count - n) (bits / 2 ^ n)) rest
 
--- what is behind the first of them
+-- what follows the first of them
 pub drop-gathered : (n count bits : ℕ) (rest : List Bool) → n ≤ count → drop n (low_bits count bits ++ rest) ≡ low_bits (count - n) (bits / 2 ^ n) ++ rest
 drop-gathered n count bits rest few =
     ap (drop n) (gathered-parts n count bits rest few) ∙ drop_at (low_bits n bits) (low_bits (count - n) (bits / 2 ^ n) ++ rest) n (length-low_bits n bits)
@@ -33,7 +33,7 @@ pub take-gathered : (n count bits : ℕ) (rest : List Bool) → n ≤ count → 
 take-gathered n count bits rest few =
     ap (take n) (gathered-parts n count bits rest few) ∙ take_at (low_bits n bits) (low_bits (count - n) (bits / 2 ^ n) ++ rest) n (length-low_bits n bits)
 
--- with none behind them
+-- with none after them
 pub drop-low_bits : (n count bits : ℕ) → n ≤ count → drop n (low_bits count bits) ≡ low_bits (count - n) (bits / 2 ^ n)
 drop-low_bits n count bits few =
     ap (drop n) (sym (append-nil (low_bits count bits))) ∙ drop-gathered n count bits [] few ∙ append-nil (low_bits (count - n) (bits / 2 ^ n))
@@ -45,7 +45,7 @@ number-gathered n count bits rest few = ap number_of (take-gathered n count bits
 pub number-low_bits : (n count bits : ℕ) → n ≤ count → number_of (take n (low_bits count bits)) ≡ bits % 2 ^ n
 number-low_bits n count bits few = ap (λ (xs : List Bool). number_of (take n xs)) (sym (append-nil (low_bits count bits))) ∙ number-gathered n count bits [] few
 
--- the number that the next 24 spell, where no others are behind them
+-- the number that the next 24 spell, where no others are after them
 pub window-gathered : (count bits : ℕ) → bits < 2 ^ count → bits % 2 ^ 24 ≡ number_of (take 24 (low_bits count bits))
 window-gathered count bits fits =
     let whole : number_of (low_bits count bits) ≡ bits = number_of-low_bits count bits ∙ mod-eq_of_lt fits in
@@ -58,7 +58,7 @@ window-full count bits bytes fits (inr none) =
     let nothing : bits_of bytes ≡ [] = ap bits_of (nil_from_length bytes none) ∙ bits_of-nil in
     window-gathered count bits fits ∙ ap (λ (xs : List Bool). number_of (take 24 xs)) (sym (ap (λ (xs : List Bool). low_bits count bits ++ xs) nothing ∙ append-nil (low_bits count bits)))
 
--- bytes that are gathered more: the number that the next of them spell, put behind
+-- bytes that are gathered more: the number that the next of them spell, put after the others
 pub record Gathers (count bits more word : ℕ) (bytes : List ℕ) : Type 0 where
   pub next : word % 2 ^ (8 * more) < 2 ^ (8 * more)
   pub shifted : word % 2 ^ (8 * more) * 2 ^ count % 2 ^ 64 ≡ word % 2 ^ (8 * more) * 2 ^ count
@@ -155,11 +155,11 @@ field-onto words width bits raw is = rw is (under (bytes_at words (width / 8) ra
     under (Ok bytes) = refl
     under (Err e) = refl
 
--- so far a field's raw bits and words were read from the bits of a number: those that are left, read behind the value, are the field
+-- so far a field's raw bits and words were read from the bits of a number: those that are left, read after the value, are the field
 pub record HasSpelled (words : List (List Bool)) (raw bytes bits k value left taken : ℕ) : Type 0 where
   pub fits : value < 2 ^ (raw + 8 * k)
   pub few : taken ≤ raw + 12 * k
-  pub behind : left ≡ bits / 2 ^ taken
+  pub after : left ≡ bits / 2 ^ taken
   pub reads : (count : ℕ) → bits < 2 ^ count → taken ≤ count
       → onto value (2 ^ (raw + 8 * k)) (bytes_at words (bytes - k) (low_bits (count - taken) left)) ≡ field_at words (raw + 8 * bytes) (low_bits count bits)
 
@@ -172,14 +172,14 @@ spelled-none words raw bytes bits small =
     record {
       fits = rw scale (mod-lt bits {m = 2 ^ raw} (omega (arith, pow-le-pow_right {n = 2} (omega arith) {i = 0} {j = raw} (omega arith))));
       few = omega arith;
-      behind = refl;
+      after = refl;
       reads = λ count fits enough.
           let front : raw_at raw (low_bits count bits) ≡ Ok (bits % 2 ^ raw, low_bits (count - raw) (bits / 2 ^ raw)) =
           rw (raw_at_enough raw (low_bits count bits) (omega (arith, length-low_bits count bits)), drop-low_bits raw count bits enough, number-low_bits raw count bits enough) refl in
           sym (field-onto words (raw + 8 * bytes) (low_bits count bits) (bits % 2 ^ raw, low_bits (count - raw) (bits / 2 ^ raw)) (rw low front) ∙ rw (low, high, scale, all) refl);
     }
 
--- a byte more, behind the others
+-- a byte more, after the others
 pub record Shifts (value byte place : ℕ) : Type 0 where
   pub whole : byte * 2 ^ place % 2 ^ 32 ≡ 2 ^ place * byte
   pub fits : value + 2 ^ place * byte < 2 ^ (place + 8)
@@ -207,16 +207,16 @@ spelled-more words raw bytes bits k value left taken byte long so few most small
     record {
       fits = rw place s.fits;
       few = omega (arith, so.few);
-      behind = ap (λ (n : ℕ). n / 2 ^ long) so.behind ∙ shr-shr bits taken long;
+      after = ap (λ (n : ℕ). n / 2 ^ long) so.after ∙ shr-shr bits taken long;
       reads = λ count fits enough.
           let rest = count - taken in
-          let below : left < 2 ^ rest = rw so.behind (shr_below bits rest taken (rw (whole count taken (omega arith)) fits)) in
+          let below : left < 2 ^ rest = rw so.after (shr_below bits rest taken (rw (whole count taken (omega arith)) fits)) in
           let text = low_bits rest left in
           let byte-is : byte_at words text ≡ Ok (byte, drop long text) =
           rw (byte_at-is, found text (window-gathered rest left below) (omega (arith, length-low_bits rest left))) refl in
-          let behind : drop long text ≡ low_bits (count - (taken + long)) (left / 2 ^ long) =
+          let after : drop long text ≡ low_bits (count - (taken + long)) (left / 2 ^ long) =
           drop-low_bits long rest left (omega arith) ∙ ap (λ (n : ℕ). low_bits n (left / 2 ^ long)) (omega arith) in
-          rw (place, s.scale, ← behind) (sym (bytes_more words (bytes - k) (bytes - (k + 1)) value (2 ^ (raw + 8 * k)) text (byte, drop long text) (omega arith) byte-is)) ∙ so.reads count fits (omega arith);
+          rw (place, s.scale, ← after) (sym (bytes_more words (bytes - k) (bytes - (k + 1)) value (2 ^ (raw + 8 * k)) text (byte, drop long text) (omega arith) byte-is)) ∙ so.reads count fits (omega arith);
     }
   where
     whole : (count taken : ℕ) → taken ≤ count → count - taken + taken ≡ count
@@ -227,4 +227,4 @@ pub spelled-end : (words : List (List Bool)) (raw bytes bits k value left taken 
     → (count : ℕ) → bits < 2 ^ count → taken ≤ count → field_at words (raw + 8 * bytes) (low_bits count bits) ≡ Ok (value, low_bits (count - taken) (bits / 2 ^ taken))
 spelled-end words raw bytes bits k value left taken so past count fits enough =
     let none : bytes - k ≡ 0 = omega arith in
-    sym (so.reads count fits enough) ∙ rw (none, bytes_end, so.behind) refl
+    sym (so.reads count fits enough) ∙ rw (none, bytes_end, so.after) refl

@@ -166,7 +166,7 @@ number_of-take_more (b ∷ bits) (suc k) lt =
     let more : suc k + 1 ≡ suc (k + 1) = omega arith in
     rw (more, number_of-cons b (take (k + 1) bits), number_of-cons b (take k bits), number_of-take_more bits k (omega arith), pow-succ' 2 k) (grind arith)
 
--- what is behind the first bits is spelled by the number shifted
+-- what follows the first bits is spelled by the number shifted
 pub number_of-drop : (bits : List Bool) (n : ℕ) → number_of bits / 2 ^ n ≡ number_of (drop n bits)
 number_of-drop bits zero = let same : number_of bits / 2 ^ 0 ≡ number_of bits = omega arith in same
 number_of-drop [] (suc n) = rw number_of-nil (zero-div (2 ^ suc n))

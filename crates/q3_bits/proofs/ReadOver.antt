@@ -21,7 +21,7 @@ pub HasRead-none : (start : Reading) (from : List ℕ) (whole : ListRead) → Ha
 HasRead-none start from whole = record {
   words = refl;
   place = refl;
-  behind = refl;
+  after = refl;
   long = refl;
   reads = with_front-none whole;
 }
@@ -30,7 +30,7 @@ HasRead-none start from whole = record {
 pub HasRead-here : (start now : Reading) (k : ℕ) (from into : List ℕ) (left whole : ListRead) → HasRead start now k from into left whole → get_or into k 0 ≡ get_or from k 0
 HasRead-here start now k from into left whole h =
     let here : k + 0 ≡ k = omega arith in
-    ap (λ (n : ℕ). get_or into n 0) (sym here) ∙ sym (get_or-drop k into 0 0) ∙ ap (λ (xs : List ℕ). get_or xs 0 0) h.behind ∙ get_or-drop k from 0 0 ∙ ap (λ (n : ℕ). get_or from n 0) here
+    ap (λ (n : ℕ). get_or into n 0) (sym here) ∙ sym (get_or-drop k into 0 0) ∙ ap (λ (xs : List ℕ). get_or xs 0 0) h.after ∙ get_or-drop k from 0 0 ∙ ap (λ (n : ℕ). get_or from n 0) here
 
 -- one value more
 pub HasRead-more : (start now next : Reading) (k : ℕ) (from into : List ℕ) (left whole others : ListRead) (y : ℕ) → HasRead start now k from into left whole → k < length from
@@ -42,12 +42,12 @@ HasRead-more start now next k from into left whole others y h within words place
     record {
       words = words ∙ h.words;
       place = place ∙ h.place;
-      behind = drop-set-lt (k + 1) into k y (omega arith) ∙ sym (drop-drop 1 k into) ∙ ap (drop 1) h.behind ∙ drop-drop 1 k from;
+      after = drop-set-lt (k + 1) into k y (omega arith) ∙ sym (drop-drop 1 k into) ∙ ap (drop 1) h.after ∙ drop-drop 1 k from;
       long = length-set into k y ∙ h.long;
       reads = rw take_more_set (sym one ∙ h.reads);
     }
 
--- a front behind a front is one
+-- a front after a front is one
 regroup-front : (first second : List ℕ) (read : ListRead) → with_front first (with_front second read) ≡ with_front (first ++ second) read
 regroup-front first second (Ok x) = ap (λ (ys : List ℕ). Ok (ys, x.1)) (simp append_assoc)
 regroup-front first second (Err e) = refl
@@ -58,11 +58,11 @@ pub HasRead-keep : (start now next : Reading) (k n : ℕ) (from into : List ℕ)
     → HasRead start next (k + n) from into others whole
 HasRead-keep start now next k n from into left whole others h within words place read =
     let parts : take (k + n) into ≡ take k into ++ take n (drop k from) =
-    take-add k n into ∙ ap (λ (ys : List ℕ). take k into ++ take n ys) h.behind in
+    take-add k n into ∙ ap (λ (ys : List ℕ). take k into ++ take n ys) h.after in
     record {
       words = words ∙ h.words;
       place = place ∙ h.place;
-      behind = sym (drop-drop n k into) ∙ ap (drop n) h.behind ∙ drop-drop n k from;
+      after = sym (drop-drop n k into) ∙ ap (drop n) h.after ∙ drop-drop n k from;
       long = h.long;
       reads = ap (λ (ys : List ℕ). with_front ys others) parts ∙ sym (regroup-front (take k into) (take n (drop k from)) others) ∙ ap (with_front (take k into)) (sym read) ∙ h.reads;
     }
@@ -75,5 +75,5 @@ HasRead-ends start now k from into left whole e h bad = sym h.reads ∙ rw bad r
 pub HasRead-all : (start now : Reading) (k : ℕ) (from into : List ℕ) (left whole : ListRead) → HasRead start now k from into left whole → left ≡ Ok (drop k from, now.left)
     → whole ≡ Ok (into, now.left)
 HasRead-all start now k from into left whole h none =
-    let all : take k into ++ drop k from ≡ into = ap (λ (ys : List ℕ). take k into ++ ys) (sym h.behind) ∙ take-append-drop k into in
+    let all : take k into ++ drop k from ≡ into = ap (λ (ys : List ℕ). take k into ++ ys) (sym h.after) ∙ take-append-drop k into in
     sym h.reads ∙ rw (none, all) refl

@@ -42,22 +42,22 @@ overlong-both start mid first second is over =
     let room = ap (λ (w : Writing). w.room) is in
     omega (arith, bits, room, length-append start.bits first, length-append first second)
 
--- a front behind a text
-front-behind : (start mid now : Writing) (first second : List Bool) → mid ≡ record start { bits = start.bits ++ first } → Extends mid now second → Extends start now (first ++ second)
-front-behind start mid now first second is front =
+-- a front after a text
+front-after : (start mid now : Writing) (first second : List Bool) → mid ≡ record start { bits = start.bits ++ first } → Extends mid now second → Extends start now (first ++ second)
+front-after start mid now first second is front =
     (first ++ front.0, front.1, append_assoc first front.0 front.1 ∙ ap (λ (x : List Bool). first ++ x) front.2, front.3 ∙ rw (is, append_assoc) refl)
 
--- a text behind a text, by what came of the second
+-- a text after a text, by what came of the second
 Writes-both : (start mid now : Writing) (first second : List Bool) (result : Result (Unit {0}) Overflow) → Writes start mid first (Ok tt) → Writes mid now second result → Writes start now (first ++ second) result
 Writes-both start mid now first second (Ok x) one two = record {
   refused = (λ e. absurd (false≢true e), λ over. two.refused.1 (overlong-both start mid first second one.ok over));
   ok = two.ok ∙ rw (one.ok, append_assoc) refl;
-  front = front-behind start mid now first second one.ok two.front;
+  front = front-after start mid now first second one.ok two.front;
 }
 Writes-both start mid now first second (Err e) one two = record {
   refused = (λ bad. both-overlong start mid first second one.ok (two.refused.0 bad), λ over. refl);
   ok = tt;
-  front = front-behind start mid now first second one.ok two.front;
+  front = front-after start mid now first second one.ok two.front;
 }
 
 pub Writes-then : (start mid now : Writing) (first whole : List Bool) (second : List (List Bool) → List Bool) (result : Result (Unit {0}) Overflow)

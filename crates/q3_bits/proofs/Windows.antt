@@ -17,7 +17,7 @@ number_of-append (x ∷ a) b =
 number_of-no_bytes : (n : ℕ) → number_of (take n (bits_of [])) ≡ 0
 number_of-no_bytes n = rw (bits_of-nil, take-nil {A = Bool} n) number_of-nil
 
--- a byte, and what is behind it
+-- a byte, and what follows it
 number_of-byte : (byte n : ℕ) (bytes : List ℕ) → byte < 256 → number_of (take (8 + n) (bits_of (byte ∷ bytes))) ≡ byte + 256 * number_of (take n (bits_of bytes))
 number_of-byte byte n bytes small =
     let long = length-low_bits 8 byte in
@@ -43,7 +43,7 @@ window-bits bits place gathered few is =
     rw (is, number_of-drop, number_of-mod)
     (ap number_of (sym (drop-take place 24 (take 64 bits)) ∙ ap (drop place) (take-take (place + 24) 64 bits enough) ∙ drop-take place 24 bits))
 
--- as many bits as the bytes have behind the place
+-- as many bits as the bytes have after the place
 pub length-rest : (bytes : List ℕ) (place : ℕ) → length (drop place (bits_of bytes)) ≡ 8 * length bytes - place
 length-rest bytes place = omega (arith, length-drop place (bits_of bytes), length-bits_of bytes)
 
@@ -61,7 +61,7 @@ drop-place bytes place =
     let whole : 8 * (place / 8) + place % 8 ≡ place = omega arith in
     rw (← drop-bytes, drop-drop, whole) refl
 
--- 64 bits are 32 and those behind them
+-- 64 bits are 32 and those after them
 pub gathered-halves : (bytes : List ℕ) → number_of (take 64 (bits_of bytes)) ≡ number_of (take 32 (bits_of bytes)) + 4294967296 * number_of (take 32 (bits_of (drop 4 bytes)))
 gathered-halves bytes =
     let bits = bits_of bytes in
@@ -70,14 +70,14 @@ gathered-halves bytes =
     let high : number_of bits / 2 ^ 32 % 2 ^ 32 ≡ number_of (take 32 (bits_of (drop 4 bytes))) = rw (number_of-drop, number_of-mod, drop-bytes bytes 4) refl in
     omega (arith, whole, low, high)
 
--- what is behind four bytes, or behind all where there are fewer
-pub behind_four : (bytes : List ℕ) → drop (min (length bytes) 4) bytes ≡ drop 4 bytes
-behind_four bytes = ap (λ (n : ℕ). drop n bytes) (omega arith) ∙ drop_min 4 bytes
+-- what follows four bytes, or all of them where there are fewer
+pub after_four : (bytes : List ℕ) → drop (min (length bytes) 4) bytes ≡ drop 4 bytes
+after_four bytes = ap (λ (n : ℕ). drop n bytes) (omega arith) ∙ drop_min 4 bytes
 
 -- the first eight bytes; a byte that isn't there counts as 0
 pub first_eight-bytes : (bytes : List ℕ) → ((i : ℕ) → get_or bytes i 0 < 256)
     → number_of (take 64 (bits_of bytes)) ≡ get_or bytes 0 0 + 256 * (get_or bytes 1 0 + 256 * (get_or bytes 2 0 + 256 * (get_or bytes 3 0 + 256 * (get_or bytes 4 0 + 256 * (get_or bytes 5 0 + 256 * (get_or bytes 6 0 + 256 * get_or bytes 7 0))))))
 first_eight-bytes bytes small =
-    let behind = drop 4 bytes in
-    let high = first_four-bytes behind (λ i. rw (get_or-drop 4 bytes i 0) (small (4 + i))) in
+    let after = drop 4 bytes in
+    let high = first_four-bytes after (λ i. rw (get_or-drop 4 bytes i 0) (small (4 + i))) in
     omega (arith, gathered-halves bytes, first_four-bytes bytes small, high, get_or-drop 4 bytes 0 0, get_or-drop 4 bytes 1 0, get_or-drop 4 bytes 2 0, get_or-drop 4 bytes 3 0)

@@ -11,12 +11,12 @@ use Rattle.std.proofs.lemmas.List.Folds.{find-append}
 use Rattle.std.proofs.Math.Nat.{mod-eq_of_lt}
 use Rattle.q3_bits.specs.Bits.{low_bits, number_of}
 use Rattle.q3_bits.specs.declared.code.Word.{Word}
-use Rattle.q3_bits.specs.Words.{word_of, behind, IsCode}
+use Rattle.q3_bits.specs.Words.{word_of, bits_after, IsCode}
 use Rattle.q3_bits.specs.Table.{bits_of_word, words_of, IsWord}
 use Rattle.q3_bits.specs.CodeWords.{texts_of, bits_of_text, word_fault, words_fault, pairs, clashes, first_clash, code_fault}
 use Rattle.q3_bits.specs.declared.words.CodeError.TheVariants.{NoMemory, Count, Clash}
 use Rattle.q3_bits.specs.declared.words.CodeError.{CodeError}
-use Rattle.q3_bits.proofs.CodeText.{behind-append}
+use Rattle.q3_bits.proofs.CodeText.{bits_after-append}
 use Rattle.q3_bits.proofs.Numbers.{number_of-take_more, low_bits-number_of, length-low_bits, number_of-low_bits}
 
 -- ---- the bits of a text
@@ -122,7 +122,7 @@ word_number word is =
     rw whole (sym (number_of-low_bits word.length word.bits ∙ mod-eq_of_lt is.fits))
 
 -- a word clashes with another where it begins it
-pub clashes-test : (words : List Word) (i j : ℕ) (d : Word) (b : Bool) → i < length words → j < length words → (i ≡ j → ⊥) → b ≡ is_some (behind (bits_of_word (get_or words i d)) (bits_of_word (get_or words j d)))
+pub clashes-test : (words : List Word) (i j : ℕ) (d : Word) (b : Bool) → i < length words → j < length words → (i ≡ j → ⊥) → b ≡ is_some (bits_after (bits_of_word (get_or words i d)) (bits_of_word (get_or words j d)))
     → clashes (words_of words) (i, j) ≡ b
 unfolding clashes
 clashes-test words i j d b lt lt' other e =
@@ -201,7 +201,7 @@ code_from_no_clash words count none = record {
     | inr other ↦
         let row = rows_none (clashes words) 256 0 256 (first_clash-is words 256 (sym count) ∙ none) refl i (omega arith) lt in
         let fails = find_none (λ j. clashes words (i, j)) 0 256 j row (omega arith) (omega arith) in
-        let begins : is_some (behind (word_of words i) (word_of words j)) ≡ true = ap is_some (ap (behind (word_of words i)) (sym e) ∙ behind-append (word_of words i) rest) in
+        let begins : is_some (bits_after (word_of words i) (word_of words j)) ≡ true = ap is_some (ap (bits_after (word_of words i)) (sym e) ∙ bits_after-append (word_of words i) rest) in
         absurd (false≢true (sym fails ∙ rw (ne_eqb i j other, begins) refl))
   ];
 }

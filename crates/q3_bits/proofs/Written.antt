@@ -33,14 +33,14 @@ length-writing w written told =
 
 -- ---- bits that are stored byte by byte
 
--- of the bits that lie there and those that go behind them, the bytes up to one are there, and the rest is a number
+-- of the bits that lie there and those that go after them, the bytes up to one are there, and the rest is a number
 pub record HasStored (start now : List ℕ) (place : ℕ) (text : List Bool) (end k rest : ℕ) : Type 0 where
   pub places : length now ≡ length start
   pub bits : bits_of (take k now) ++ low_bits (end - 8 * k) rest ≡ bits_within start place ++ text
   pub fits : rest < 2 ^ (end - 8 * k)
-  pub behind : (j : ℕ) → end / 8 < j → get_or now j 0 ≡ 0
+  pub after : (j : ℕ) → end / 8 < j → get_or now j 0 ≡ 0
 
--- at the start the rest is the part of a byte that lies there, and the bits behind it
+-- at the start the rest is the part of a byte that lies there, and the bits after it
 pub HasStored-none : (start : List ℕ) (place bits count : ℕ) → IsClear start place → bits < 2 ^ count
     → HasStored start start place (low_bits count bits) (place + count) (place / 8) (get_or start (place / 8) 0 + bits * 2 ^ (place % 8))
 HasStored-none start place bits count clear fits =
@@ -50,7 +50,7 @@ HasStored-none start place bits count clear fits =
       places = refl;
       bits = rw (left, low_bits-join (place % 8) count (get_or start (place / 8) 0) bits part) (sym (append_assoc (bits_of (take (place / 8) start)) (low_bits (place % 8) (get_or start (place / 8) 0)) (low_bits count bits)));
       fits = rw (left, pow-add 2 (place % 8) count) (omega (arith, mul-add-lt bits (2 ^ (place % 8)) (get_or start (place / 8) 0) (2 ^ count) fits part));
-      behind = λ j past. clear.behind j (omega arith);
+      after = λ j past. clear.after j (omega arith);
     }
 
 -- a byte more is stored
@@ -63,7 +63,7 @@ HasStored-more start now place text end k rest h more within =
       places = length-set now k (rest % 256) ∙ h.places;
       bits = rw (take_more_set, bits_of-push, low, append_assoc, ← low_bits-add 8 (end - 8 * (k + 1)) rest, ← left) h.bits;
       fits = shr_below rest (end - 8 * (k + 1)) 8 (subst (λ (n : ℕ). rest < 2 ^ n) (left ∙ omega arith) h.fits);
-      behind = λ j past. (let other : j ≢ k = omega arith in rw get_or-set_other (h.behind j past));
+      after = λ j past. (let other : j ≢ k = omega arith in rw get_or-set_other (h.after j past));
     }
 
 -- the last byte is a part
@@ -80,7 +80,7 @@ stored-clear start now place text end rest h within =
     let left : end - 8 * (end / 8) ≡ end % 8 = omega arith in
     record {
       part = rw get_or-set_same (subst (λ (n : ℕ). rest < 2 ^ n) left h.fits);
-      behind = λ k past. (let other : k ≢ end / 8 = omega arith in rw get_or-set_other (h.behind k past));
+      after = λ k past. (let other : k ≢ end / 8 = omega arith in rw get_or-set_other (h.after k past));
     }
 
 -- what is stored is a number of 64 bits
@@ -193,7 +193,7 @@ field_bits-raw words width value few =
     let none : width / 8 ≡ 0 = omega arith in
     low_bits-mod width value ∙ sym (field_bits-is words width value ∙ rw (raw, none, bytes_bits-zero, append-nil) refl)
 
--- so one behind another is one
+-- so one after another is one
 field_bits-short : (words : List (List Bool)) (width value : ℕ) → width < 8 → field_bits words width value ≡ low_bits width value
 field_bits-short words width value few = sym (field_bits-raw words width value few) ∙ low_bits-mod width value
 

@@ -11,7 +11,7 @@ bits_within bytes count = bits_of (take (count / 8) bytes) ++ low_bits (count % 
 -- every bit after so many is 0
 pub record IsClear (bytes : List ℕ) (count : ℕ) : Type 0 where
   pub part : slice_index bytes (count / 8) < 2 ^ (count % 8)
-  pub behind : (k : ℕ) → count / 8 < k → slice_index bytes k ≡ 0
+  pub after : (k : ℕ) → count / 8 < k → slice_index bytes k ≡ 0
 
 abbrev pub writing_of : Inside → Writing
 writing_of w = record { words = w.code.now; bits = bits_within w.bytes w.count; room = w.room }

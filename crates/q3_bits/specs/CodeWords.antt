@@ -5,7 +5,7 @@ use Rattle.std.specs.List.{range_with_len, flat_map, list_all, find}
 use Rattle.std.specs.Option.{is_some, option_or, option_map}
 use Rattle.q3_bits.specs.declared.words.CodeError.{CodeError}
 use Rattle.q3_bits.specs.declared.words.CodeError.TheVariants.{Count, Empty, Long, NotBits, Clash}
-use Rattle.q3_bits.specs.Words.{word_of, behind}
+use Rattle.q3_bits.specs.Words.{word_of, bits_after}
 
 -- the texts that are lent
 abbrev pub texts_of : List (Bor (List ℕ)) → List (List ℕ)
@@ -37,7 +37,7 @@ pairs count = flat_map (λ i. map (λ j. (i, j)) (range_with_len 0 count)) (rang
 
 -- whether the one word begins the other, at another place
 unfoldable pub clashes : List (List Bool) → ℕ × ℕ → Bool
-clashes words pair = not (pair.0 == pair.1) && is_some (behind (word_of words pair.0) (word_of words pair.1))
+clashes words pair = not (pair.0 == pair.1) && is_some (bits_after (word_of words pair.0) (word_of words pair.1))
 
 -- the first pair of places whose words clash
 unfoldable pub first_clash : List (List Bool) → Option (ℕ × ℕ)

@@ -20,6 +20,6 @@ with_first y read = read >>= λ x. Ok (y ∷ x.0, x.1)
 pub record HasRead (start now : Reading) (k : ℕ) (from into : List ℕ) (left whole : ListRead) : Type 0 where
   pub words : now.words ≡ start.words
   pub place : now.place + length now.left ≡ start.place + length start.left
-  pub behind : drop k into ≡ drop k from
+  pub after : drop k into ≡ drop k from
   pub long : length into ≡ length from
   pub reads : with_front (take k into) left ≡ whole

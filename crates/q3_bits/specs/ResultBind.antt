@@ -66,10 +66,10 @@ bind_alike (Err d) (Err d') f g e alike =
     ap (λ d. Err d) is
 
 -- and so do rows after one answer
-pub bind_behind : {A C D E : Type 0} (r : Result A E) (f : A → Result (C × List Bool) E) (g : A → Result (D × List Bool) E) → ((x : A) → left_of (f x) ≡ left_of (g x))
+pub bind_after : {A C D E : Type 0} (r : Result A E) (f : A → Result (C × List Bool) E) (g : A → Result (D × List Bool) E) → ((x : A) → left_of (f x) ≡ left_of (g x))
     → left_of (r >>= f) ≡ left_of (r >>= g)
-bind_behind (Ok x) f g alike = alike x
-bind_behind (Err e) f g alike = refl
+bind_after (Ok x) f g alike = alike x
+bind_after (Err e) f g alike = refl
 
 pub if_alike : {C D E : Type 0} (b : Bool) (r r' : Result (C × List Bool) E) (s s' : Result (D × List Bool) E) → left_of r ≡ left_of s → left_of r' ≡ left_of s'
     → left_of (if b then r else r') ≡ left_of (if b then s else s')

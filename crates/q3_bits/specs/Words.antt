@@ -38,21 +38,21 @@ unfoldable pub raw_at : ℕ → List Bool → Result (ℕ × List Bool) ReadErro
 raw_at count bits = if nat_lt (length bits) count then Err End else Ok (number_of (take count bits), drop count bits)
 
 -- what follows a word that begins the bits
-unfoldable pub behind : List Bool → List Bool → Option (List Bool)
-behind [] bits = Some bits
-behind (w ∷ word) [] = None
-behind (true ∷ word) (true ∷ bits) = behind word bits
-behind (false ∷ word) (false ∷ bits) = behind word bits
-behind (w ∷ word) (b ∷ bits) = None
+unfoldable pub bits_after : List Bool → List Bool → Option (List Bool)
+bits_after [] bits = Some bits
+bits_after (w ∷ word) [] = None
+bits_after (true ∷ word) (true ∷ bits) = bits_after word bits
+bits_after (false ∷ word) (false ∷ bits) = bits_after word bits
+bits_after (w ∷ word) (b ∷ bits) = None
 
 -- the first of these bytes whose word begins the bits, counted from `byte`, and what follows the word
 unfoldable pub byte_from : ℕ → List (List Bool) → List Bool → Option (ℕ × List Bool)
 byte_from byte [] bits = None
-byte_from byte (word ∷ words) bits = option_or (option_map (λ rest. (byte, rest)) (behind word bits)) (byte_from (byte + 1) words bits)
+byte_from byte (word ∷ words) bits = option_or (option_map (λ rest. (byte, rest)) (bits_after word bits)) (byte_from (byte + 1) words bits)
 
 -- whether the bits are a front of one of the words
 unfoldable pub begins_word : List (List Bool) → List Bool → Bool
-begins_word words bits = list_any (λ word. is_some (behind bits word)) words
+begins_word words bits = list_any (λ word. is_some (bits_after bits word)) words
 
 -- the byte whose word begins the bits; where none does, they end in a word or begin none
 unfoldable pub byte_at : List (List Bool) → List Bool → Result (ℕ × List Bool) ReadError

@@ -103,7 +103,7 @@ impl<'a> Ahead<'a> {
         Ahead {
             bits: self.bits + (next << self.count),
             count: self.count + 8 * more,
-            rest: behind(self.rest, more as usize),
+            rest: bytes_after(self.rest, more as usize),
         }
     }
 
@@ -179,7 +179,7 @@ impl<'a> Ahead<'a> {
 }
 
 /// What follows so many bytes.
-fn behind(bytes: &[u8], count: usize) -> &[u8]
+fn bytes_after(bytes: &[u8], count: usize) -> &[u8]
     requires { count ≤ length bytes.now }
     ensures { result.now ≡ drop count bytes.now }
 {
@@ -203,7 +203,7 @@ fn first_eight(bytes: &[u8]) -> Option<u64>
 fn last_seven(bytes: &[u8]) -> u64
     ensures { result ≡ number_of (take 64 (bits_of bytes.now)) }
 {
-    let high = first_four(behind(bytes, bytes.len().min(4)));
+    let high = first_four(bytes_after(bytes, bytes.len().min(4)));
     u64::from(first_four(bytes)) + (u64::from(high) << 32)
 }
 

@@ -7,7 +7,7 @@ ghost use Rattle.q3_bits.specs.Bits.{number_of};
 ghost use Rattle.q3_bits.specs.CodeWords.{texts_of, bits_of_text, code_fault};
 ghost use Rattle.q3_bits.specs.Table.{bits_of_word, IsWord, IsIndex, Leads};
 ghost use Rattle.q3_bits.specs.Found.{found_in};
-ghost use Rattle.q3_bits.specs.Words.{IsCode, plain_words, word_of, behind, byte_from, begins_word};
+ghost use Rattle.q3_bits.specs.Words.{IsCode, plain_words, word_of, bits_after, byte_from, begins_word};
 
 use crate::words::{CodeError, first_clash, read_words};
 use std::alloc::{AllocError, Global};
@@ -42,7 +42,7 @@ impl Word {
     pub(crate) fn starts_with(self, front: u32, count: u32) -> bool
         requires { self.length ≤ 24 }
         ensures { (bits : List Bool) → count ≡ min 25 (length bits) → front ≡ number_of (take 24 bits)
-            → result ≡ is_some (behind bits (bits_of_word self)) }
+            → result ≡ is_some (bits_after bits (bits_of_word self)) }
     {
         count <= u32::from(self.length) && self.bits % (1 << count) == front
     }

@@ -145,7 +145,7 @@ impl<'a> Reader<'a> {
             self.ahead = self.ahead.skip(run.length);
             return Ok(run.zeros);
         }
-        self.run_behind(limit)
+        self.run_after(limit)
     }
 
     /// How many bits were read.
@@ -283,7 +283,7 @@ impl<'a> Reader<'a> {
 
     /// The same, with more gathered.
     #[inline(never)]
-    fn run_behind(&mut self, limit: u32) -> Result<u32, ReadError>
+    fn run_after(&mut self, limit: u32) -> Result<u32, ReadError>
         requires { limit ≤ 56 }
         ensures reads { Reads self.old self.new (run_at limit self.old.left) result }
         ensures most { IfOk result (λ count. count ≤ limit) }
@@ -378,9 +378,9 @@ fn bytes_from<'a>(code: &Code, ahead: Ahead<'a>, count: u32) -> Result<(u32, Ahe
     let mut number = 0;
     let mut left = ahead;
     for k in 0..count {
-        let (byte, behind) = byte_from(code, left)?;
+        let (byte, after) = byte_from(code, left)?;
         number += u32::from(byte) << (8 * k);
-        left = behind;
+        left = after;
     }
     Ok((number, left))
 }

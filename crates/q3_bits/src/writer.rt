@@ -385,7 +385,7 @@ fn store(bytes: &mut [u8; LONGEST_MESSAGE], place: usize, bits: u64, count: u32)
 fn store_eight(bytes: &mut [u8], first: usize, number: u64)
     requires { first + 8 ≤ length bytes.old }
     ensures front { take (first + 8) bytes.new ≡ take first bytes.old ++ to_le_bytes w64 number }
-    ensures behind { drop (first + 8) bytes.new ≡ drop (first + 8) bytes.old }
+    ensures after { drop (first + 8) bytes.new ≡ drop (first + 8) bytes.old }
     ensures places { length bytes.new ≡ length bytes.old }
 {
     bytes[first..first + 8].copy_from_slice(&number.to_le_bytes());

@@ -6,7 +6,7 @@ use Rattle.std.proofs.lemmas.List.{append-nil, length-append, length-take-le}
 use Rattle.std.proofs.lemmas.List.Elements.{All-nil, All-push}
 use Rattle.q3_chan.specs.declared.form.Form.{Form}
 use Rattle.q3_chan.specs.declared.gatherer.Gathered.TheVariants.{Whole, Partial}
-use Rattle.q3_chan.specs.Datagrams.{fragment_size, is_fragment, number_in, start_in, count_in, behind_header}
+use Rattle.q3_chan.specs.Datagrams.{fragment_size, is_fragment, number_in, start_in, count_in, after_header}
 use Rattle.q3_chan.specs.Gathering.{Gathering, Took, answers, arrives, emptied, gathering_of, gathered, gathered_all, new_gathering}
 use Rattle.q3_chan.specs.Laws.{ArePieces, StandIn, WholeArePieces}
 use Rattle.q3_chan.proofs.Tags.{gathering_of-number}
@@ -16,14 +16,14 @@ use Rattle.q3_chan.proofs.Outcomes.{NotWhole, piece_in, IsTaken, gathered-each}
 
 -- a piece more
 ArePieces-push : (form : Form) (number start : ℕ) (parts : List (List ℕ)) (bytes last : List ℕ) → ArePieces form number start parts bytes
-    → is_fragment last ≡ true → number_in last ≡ number → start_in form last ≡ start + length bytes → count_in form last ≤ length (behind_header form last)
+    → is_fragment last ≡ true → number_in last ≡ number → start_in form last ≡ start + length bytes → count_in form last ≤ length (after_header form last)
     → ArePieces form number start (parts ++ last ∷ []) (bytes ++ piece_in form last)
 ArePieces-push form number start [] bytes last none fragment is starts count =
     (fragment, is, starts ∙ ap (λ (b : List ℕ). start + length b) none ∙ omega arith, count, [], ap (λ (b : List ℕ). b ++ piece_in form last) none ∙ sym (append-nil (piece_in form last)), refl)
 ArePieces-push form number start (one ∷ others) bytes last h fragment is starts count =
     let first = piece_in form one in
     let long : length bytes ≡ count_in form one + length h.4 =
-    ap length h.5 ∙ length-append first h.4 ∙ ap (λ (n : ℕ). n + length h.4) (length-take-le (count_in form one) (behind_header form one) h.3) in
+    ap length h.5 ∙ length-append first h.4 ∙ ap (λ (n : ℕ). n + length h.4) (length-take-le (count_in form one) (after_header form one) h.3) in
     let next : start_in form last ≡ start + count_in form one + length h.4 = starts ∙ ap (λ (n : ℕ). start + n) long ∙ omega arith in (
       h.0,
       h.1,
@@ -35,13 +35,13 @@ ArePieces-push form number start (one ∷ others) bytes last h fragment is start
     )
 
 -- what stands among some stands among more
-StandIn-more : (ones others behind : List (List ℕ)) → StandIn ones others → StandIn ones (others ++ behind)
-StandIn-more [] others behind h = tt
-StandIn-more (one ∷ ones) others behind h = (
+StandIn-more : (ones others after : List (List ℕ)) → StandIn ones others → StandIn ones (others ++ after)
+StandIn-more [] others after h = tt
+StandIn-more (one ∷ ones) others after h = (
   h.0,
-  h.1 ++ behind,
-  ap (λ (all : List (List ℕ)). all ++ behind) h.2 ∙ append_assoc h.0 (one ∷ h.1) behind,
-  StandIn-more ones h.1 behind h.3,
+  h.1 ++ after,
+  ap (λ (all : List (List ℕ)). all ++ after) h.2 ∙ append_assoc h.0 (one ∷ h.1) after,
+  StandIn-more ones h.1 after h.3,
 )
 
 StandIn-push : (ones others : List (List ℕ)) (last : List ℕ) → StandIn ones others → StandIn (ones ++ last ∷ []) (others ++ last ∷ [])
@@ -71,11 +71,11 @@ record HoldsPieces (form : Form) (came : List (List ℕ)) (g : Gathering) : Type
 piece-size : (form : Form) (g : Gathering) (last : List ℕ) → g.form ≡ form → IsTaken g last → (length (piece_in g.form last) ≡ count_in form last) × (count_in form last ≤ fragment_size)
 piece-size form g last form-is taken =
     let same : count_in g.form last ≡ count_in form last = ap (λ (s : Form). count_in s last) form-is in
-    (length-take-le (count_in g.form last) (behind_header g.form last) taken.count ∙ same, subst (λ (n : ℕ). n ≤ fragment_size) same taken.size)
+    (length-take-le (count_in g.form last) (after_header g.form last) taken.count ∙ same, subst (λ (n : ℕ). n ≤ fragment_size) same taken.size)
 
-HoldsPieces-more : (form : Form) (came behind : List (List ℕ)) (g : Gathering) → HoldsPieces form came g → HoldsPieces form (came ++ behind) g
-HoldsPieces-more form came behind g h =
-    record { form-is = h.form-is; parts = h.parts; stand = StandIn-more h.parts came behind h.stand; full = h.full; are = h.are }
+HoldsPieces-more : (form : Form) (came after : List (List ℕ)) (g : Gathering) → HoldsPieces form came g → HoldsPieces form (came ++ after) g
+HoldsPieces-more form came after g h =
+    record { form-is = h.form-is; parts = h.parts; stand = StandIn-more h.parts came after h.stand; full = h.full; are = h.are }
 
 HoldsPieces-gathering_of : (form : Form) (came : List (List ℕ)) (g : Gathering) (number : ℕ) → HoldsPieces form came g → HoldsPieces form came (gathering_of g number)
 HoldsPieces-gathering_of form came g number h =
@@ -89,7 +89,7 @@ pieces-and form came g last h form-is taken =
     let k = gathering_of g (number_in last) in
     let are = subst (λ (n : ℕ). ArePieces form n 0 h.parts k.bytes) (gathering_of-number g (number_in last)) h.are in
     let P : Form → Type 0 = λ s. start_in s last ≡ length k.bytes in
-    let Q : Form → Type 0 = λ s. count_in s last ≤ length (behind_header s last) in
+    let Q : Form → Type 0 = λ s. count_in s last ≤ length (after_header s last) in
     subst (λ (s : Form). ArePieces form (number_in last) 0 (h.parts ++ last ∷ []) (k.bytes ++ piece_in s last)) (sym form-is)
     (ArePieces-push form (number_in last) 0 h.parts k.bytes last are taken.fragment refl (subst P form-is taken.start ∙ omega arith) (subst Q form-is taken.count))
 
@@ -127,7 +127,7 @@ HoldsPieces-all form seen g (bytes ∷ others) h =
 abbrev ComesWhole : Form → List (List ℕ) → List ℕ → ℕ → ℕ → Took → Type 0
 ComesWhole form came last number count t =
     t.answer ≡ Whole number count
-    → ((is_fragment last ≡ false) × (number_in last ≡ number) × (t.message ≡ behind_header form last))
+    → ((is_fragment last ≡ false) × (number_in last ≡ number) × (t.message ≡ after_header form last))
     ⊎ ((parts : List (List ℕ)) × StandIn parts came × All (IsFull form) parts × (count_in form last < fragment_size) × ArePieces form number 0 (parts ++ last ∷ []) t.message)
 
 comes_whole : (form : Form) (came : List (List ℕ)) (g : Gathering) (last : List ℕ) (number count : ℕ) → HoldsPieces form came g → ComesWhole form came last number count (gathered g last)
@@ -138,7 +138,7 @@ comes_whole form came g last number count h =
     let piece = piece_in g.form last in
     gathered-each P g last (record {
       none = λ a not e. absurd (subst NotWhole e not);
-      whole = λ whole _ e. let same : number_in last ≡ number = cc in inl (whole, same, ap (λ (s : Form). behind_header s last) h.form-is);
+      whole = λ whole _ e. let same : number_in last ≡ number = cc in inl (whole, same, ap (λ (s : Form). after_header s last) h.form-is);
       gathers = λ a not e. absurd (subst NotWhole e not);
       adds = λ taken. cond_both (ltb (length piece) fragment_size) (arrives (emptied k) k.number (k.bytes ++ piece)) (answers (record k { bytes = k.bytes ++ piece }) Partial) P
           (λ short e.

@@ -10,12 +10,12 @@ use Rattle.q3_chan.specs.Laws.{PiecesAreWhole}
 pieces-part : (message : List ℕ) (index count : ℕ) → concat (map (piece message) (range_with_len index count)) ≡ take (fragment_size * count) (drop (fragment_size * index) message)
 pieces-part message index zero = refl
 pieces-part message index (suc count) =
-    let behind = drop (fragment_size * index) message in
-    let next : drop (fragment_size * (index + 1)) message ≡ drop fragment_size behind =
+    let after = drop (fragment_size * index) message in
+    let next : drop (fragment_size * (index + 1)) message ≡ drop fragment_size after =
     ap (λ (n : ℕ). drop n message) (omega arith) ∙ sym (drop-drop fragment_size (fragment_size * index) message) in
     ap (λ (rest : List ℕ). piece message index ++ rest) (pieces-part message (index + 1) count ∙ ap (take (fragment_size * count)) next)
-    ∙ sym (take-add fragment_size (fragment_size * count) behind)
-    ∙ ap (λ (n : ℕ). take n behind) (omega arith)
+    ∙ sym (take-add fragment_size (fragment_size * count) after)
+    ∙ ap (λ (n : ℕ). take n after) (omega arith)
 
 pub pieces_are_whole : PiecesAreWhole
 unfolding pieces

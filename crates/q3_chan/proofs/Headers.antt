@@ -8,7 +8,7 @@ use Rattle.q3_chan.specs.declared.side.Side.{Side}
 use Rattle.q3_chan.specs.declared.side.Side.TheVariants.{Server, Client}
 use Rattle.q3_chan.specs.declared.form.Form.{Form}
 use Rattle.q3_chan.specs.Checks.{check_of}
-use Rattle.q3_chan.specs.Datagrams.{Header, fragment_mark, sequence_end, qport_bytes, check_bytes, header_bytes, fragment, is_fragment, number_in, short_header, short_of, length_of, has_bad_check, start_in, count_in, behind_header}
+use Rattle.q3_chan.specs.Datagrams.{Header, fragment_mark, sequence_end, qport_bytes, check_bytes, header_bytes, fragment, is_fragment, number_in, short_header, short_of, length_of, has_bad_check, start_in, count_in, after_header}
 use Rattle.q3_chan.specs.Gathering.{is_connectionless}
 
 -- what a header has, by its parts, with any number first
@@ -43,7 +43,7 @@ four_at_least Client false = omega arith
 at_least_four : (form : Form) → 4 ≤ short_of form
 at_least_four form = four_at_least form.side (is_some form.check)
 
--- and what is behind it
+-- and what follows it
 drop-parts : (side : Side) (check : Option ℕ) (qport first number : ℕ) (rest : List ℕ)
     → drop (short_header side (is_some check)) (parts side check qport first number ++ rest) ≡ rest
 drop-parts Server None qport first number rest = refl
@@ -95,7 +95,7 @@ pub record IsHeaded (form : Form) (bytes : List ℕ) (number : ℕ) : Type 0 whe
 pub record IsWhole (form : Form) (bytes : List ℕ) (number : ℕ) (message : List ℕ) : Type 0 where
   pub headed : IsHeaded form bytes number
   pub no-fragment : is_fragment bytes ≡ false
-  pub behind : behind_header form bytes ≡ message
+  pub after : after_header form bytes ≡ message
 
 pub whole_is : (header : Header) (number : ℕ) (message : List ℕ) → number < sequence_end → IsWhole header.form (header_bytes header false number ++ message) number message
 whole_is header number message fits =
@@ -114,7 +114,7 @@ whole_is header number message fits =
         number-is = same;
       };
       no-fragment = whole;
-      behind = ap (λ (b : Bool). drop (length_of form b) bytes) whole ∙ drop-header header number number message;
+      after = ap (λ (b : Bool). drop (length_of form b) bytes) whole ∙ drop-header header number number message;
     }
 
 -- a fragment of a message
@@ -123,14 +123,14 @@ pub record IsFragment (form : Form) (bytes : List ℕ) (number start : ℕ) (pie
   pub is-fragment : is_fragment bytes ≡ true
   pub start-is : start_in form bytes ≡ start
   pub count-is : count_in form bytes ≡ length piece
-  pub behind : behind_header form bytes ≡ piece
+  pub after : after_header form bytes ≡ piece
 
--- the two numbers behind the header, and the piece
-abbrev pub behind_number : ℕ → List ℕ → List ℕ
-behind_number start piece = little_bytes 2 start ++ (little_bytes 2 (length piece) ++ piece)
+-- the two numbers after the header, and the piece
+abbrev pub after_number : ℕ → List ℕ → List ℕ
+after_number start piece = little_bytes 2 start ++ (little_bytes 2 (length piece) ++ piece)
 
 pub fragment-parts : (header : Header) (number start : ℕ) (piece : List ℕ)
-    → fragment header number start piece ≡ header_bytes header true number ++ behind_number start piece
+    → fragment header number start piece ≡ header_bytes header true number ++ after_number start piece
 fragment-parts header number start piece =
     let front : List ℕ = header_bytes header true number in
     append_assoc (front ++ little_bytes 2 start) (little_bytes 2 (length piece)) piece
@@ -138,25 +138,25 @@ fragment-parts header number start piece =
 
 -- two bytes more, and four
 two-parts : (side : Side) (check : Option ℕ) (qport n number start : ℕ) (piece : List ℕ)
-    → drop (short_header side (is_some check) + 2) (parts side check qport n number ++ behind_number start piece) ≡ little_bytes 2 (length piece) ++ piece
+    → drop (short_header side (is_some check) + 2) (parts side check qport n number ++ after_number start piece) ≡ little_bytes 2 (length piece) ++ piece
 two-parts Server None qport n number start piece = refl
 two-parts Server (Some challenge) qport n number start piece = refl
 two-parts Client None qport n number start piece = refl
 two-parts Client (Some challenge) qport n number start piece = refl
 
 four-parts : (side : Side) (check : Option ℕ) (qport n number start : ℕ) (piece : List ℕ)
-    → drop (short_header side (is_some check) + 4) (parts side check qport n number ++ behind_number start piece) ≡ piece
+    → drop (short_header side (is_some check) + 4) (parts side check qport n number ++ after_number start piece) ≡ piece
 four-parts Server None qport n number start piece = refl
 four-parts Server (Some challenge) qport n number start piece = refl
 four-parts Client None qport n number start piece = refl
 four-parts Client (Some challenge) qport n number start piece = refl
 
 parts_are : (header : Header) (number start : ℕ) (piece : List ℕ) → number < sequence_end → start < 65536 → length piece < 65536
-    → IsFragment header.form (header_bytes header true number ++ behind_number start piece) number start piece
+    → IsFragment header.form (header_bytes header true number ++ after_number start piece) number start piece
 parts_are header number start piece fits low short =
     let form = header.form in
     let n = number + fragment_mark in
-    let rest : List ℕ = behind_number start piece in
+    let rest : List ℕ = after_number start piece in
     let bytes : List ℕ = begins header n number ++ rest in
     let is : little_number 4 bytes ≡ n = number-header header n number rest (omega arith) in
     let same : number_in bytes ≡ number = ap (λ (k : ℕ). k % fragment_mark) is ∙ omega arith in
@@ -173,7 +173,7 @@ parts_are header number start piece fits low short =
       is-fragment = fragment;
       start-is = ap (little_number 2) (drop-header header n number rest) ∙ little_number-reads_back 2 start (little_bytes 2 (length piece) ++ piece) low;
       count-is = ap (little_number 2) (two-parts form.side form.check header.qport n number start piece) ∙ little_number-reads_back 2 (length piece) piece short;
-      behind = ap (λ (b : Bool). drop (length_of form b) bytes) fragment ∙ four-parts form.side form.check header.qport n number start piece;
+      after = ap (λ (b : Bool). drop (length_of form b) bytes) fragment ∙ four-parts form.side form.check header.qport n number start piece;
     }
 
 pub fragment_is : (header : Header) (number start : ℕ) (piece : List ℕ) → number < sequence_end → start < 65536 → length piece < 65536

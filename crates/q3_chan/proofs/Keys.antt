@@ -43,7 +43,7 @@ went_more keys place old at key new next w within is =
           ∙ w.bytes;
     }
 
--- one stretch behind another
+-- one stretch after another
 pub went_on : (keys : ℕ → ℕ) (place : ℕ) (old : List ℕ) (at key : ℕ) (new : List ℕ) (to last : ℕ) (newest : List ℕ) → Went keys place old at key new
     → Went keys at new to last newest → Went keys place old to last newest
 went_on keys place old at key new to last newest w v = record { key_is = v.key_is; bytes = v.bytes ∙ w.bytes }
@@ -112,7 +112,7 @@ pub none_more : (keys : ℕ → ℕ) (place : ℕ) (text old : List ℕ) (pair n
     → length text ≡ 2 * pair → Went keys place old (place + length text) now new
 none_more keys place text old pair now new w even = went_at keys place old (place + 2 * pair) (place + length text) now new w (omega arith)
 
--- behind the first byte of the text, at an odd place
+-- after the first byte of the text, at an odd place
 pub first_more : (keys : ℕ → ℕ) (place key : ℕ) (text old rest : List ℕ) (to last : ℕ) (new : List ℕ) → GoesOn keys place key text → place % 2 ≡ 1
     → 0 < length text → place < length old → rest ≡ drop 1 text → to ≡ place + length text
     → (GoesOn keys (place + 1) (bit_xor key (get_or text 0 0 * 2)) rest
@@ -148,7 +148,7 @@ key_first from start text =
 
 pub key_next : (from start : ℕ) (text : List ℕ) (place : ℕ) → from ≤ place
     → key_before from start text (place + 1) ≡ bit_xor (key_before from start text place) (shifted_at from text place)
-key_next from start text place behind =
+key_next from start text place after =
     let one : place + 1 - from ≡ place - from + 1 = omega arith in
     let is : from + (place - from) ≡ place = omega arith in
     let adds = shifted_at from text in
@@ -156,7 +156,7 @@ key_next from start text place behind =
     ∙ ap (fold bit_xor start) (map-range_with_len_more adds from (place - from) place is)
     ∙ fold-append bit_xor start (map adds (range_with_len from (place - from))) (adds place ∷ [])
 
--- behind the last byte all is scrambled
+-- after the last byte all is scrambled
 pub went_all : (from start : ℕ) (text old : List ℕ) (to key : ℕ) (new : List ℕ) → Went (key_before from start text) from old to key new → length new ≤ to
     → new ≡ scrambled from start text old
 unfolding keyed
@@ -169,29 +169,29 @@ went_all from start text old to key new w all =
 pub empty_more : (from start : ℕ) (old : List ℕ) (place : ℕ) (new : List ℕ) → Went (key_before from start []) from old place start new → from ≤ place
     → place < length new → Went (key_before from start []) from old (place + 1) start (set new place (bit_xor (get_or new place 0) start))
 unfolding shifted_at
-empty_more from start old place new w behind room =
+empty_more from start old place new w after room =
     let next : key_before from start [] (place + 1) ≡ start =
-    key_next from start [] place behind ∙ xor_zero_r (key_before from start [] place) ∙ w.key_is
+    key_next from start [] place after ∙ xor_zero_r (key_before from start [] place) ∙ w.key_is
     in went_more (key_before from start []) from old place start new start w room next
 
 -- ---- passes through a text
 
 -- a place at which the text begins anew
 pub record Begins (from : ℕ) (text : List ℕ) (place : ℕ) : Type 0 where
-  pub behind : from ≤ place
+  pub after : from ≤ place
   pub turns : (k : ℕ) → k < length text → (place + k - from) % length text ≡ k
 
 pub begins_first : (from : ℕ) (text : List ℕ) → Begins from text from
 begins_first from text = record {
-  behind = omega arith;
+  after = omega arith;
   turns = λ k within. let is : from + k - from ≡ k = omega arith in ap (λ (n : ℕ). n % length text) is ∙ mod-eq_of_lt within;
 }
 
 pub begins_next : (from : ℕ) (text : List ℕ) (place : ℕ) → Begins from text place → Begins from text (place + length text)
 begins_next from text place b =
-    let behind = b.behind in
+    let after = b.after in
     record {
-      behind = omega arith;
+      after = omega arith;
       turns = λ k within.
           let is : place + length text + k - from ≡ place + k - from + length text = omega arith in
           ap (λ (n : ℕ). n % length text) is ∙ add-mod_right (place + k - from) (length text) ∙ b.turns k within;
@@ -211,9 +211,9 @@ front_goes_on from start text place key count b here few = record {
   here = here;
   next = λ k within.
       let inside : k < count = omega (arith, length-take-le count text few) in
-      let behind : from ≤ place + k = omega (arith, b.behind) in
+      let after : from ≤ place + k = omega (arith, b.after) in
       let turn : (place + k - from) % length text ≡ k = b.turns k (omega arith) in
-      key_next from start text (place + k) behind
+      key_next from start text (place + k) after
       ∙ ap (bit_xor (key_before from start text (place + k)))
       (shifted_some from text (place + k) (omega arith)
       ∙ ap (λ (n : ℕ). get_or text n 0 * 2 ^ ((place + k) % 2)) turn
@@ -231,7 +231,7 @@ through_none from start text old = record {
   begins = λ left. begins_first from text;
 }
 
--- a front of the text, which is all of it if bytes are left behind
+-- a front of the text, which is all of it if bytes are left after it
 pub through_more : (from start : ℕ) (text old : List ℕ) (place key : ℕ) (new : List ℕ) (count last : ℕ) (newest : List ℕ)
     → IsGoingThrough from start text old place key new → place < length new → count ≡ min (length text) (length new - place) → length newest ≡ length new
     → (GoesOn (key_before from start text) place key (take count text)

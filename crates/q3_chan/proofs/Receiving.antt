@@ -2,7 +2,7 @@
 use Rattle.std.proofs.Common.{◌≡◌, ◌∙◌, ◌<◌, ◌≤◌, ℕ, false, ltb, leb, cond, List, length, ap, subst, sym}
 use Rattle.std.proofs.lemmas.Bool.{cond-true, cond-false, le-ltb, le-leb, lt-leb}
 use Rattle.q3_chan.specs.declared.gatherer.Gathered.TheVariants.{Old}
-use Rattle.q3_chan.specs.Datagrams.{longest_message, is_fragment, number_in, length_of, has_bad_check, start_in, count_in, behind_header}
+use Rattle.q3_chan.specs.Datagrams.{longest_message, is_fragment, number_in, length_of, has_bad_check, start_in, count_in, after_header}
 use Rattle.q3_chan.specs.Gathering.{Gathering, answers, arrives, is_connectionless, gathered, gathering_of, take_newer, take_whole, take_fragment}
 use Rattle.q3_chan.proofs.Headers.{IsHeaded, IsWhole, IsFragment}
 
@@ -35,8 +35,8 @@ pub gathered-whole : (g : Gathering) (d : List ℕ) (number : ℕ) (message : Li
 gathered-whole g d number message h most newer =
     gathered-by_number g d number h.headed newer
     ∙ cond-false (is_fragment d) _ _ h.no-fragment
-    ∙ ap (λ (n : ℕ). take_whole g n (behind_header g.form d)) h.headed.number-is
-    ∙ ap (take_whole g number) h.behind
+    ∙ ap (λ (n : ℕ). take_whole g n (after_header g.form d)) h.headed.number-is
+    ∙ ap (take_whole g number) h.after
     ∙ cond-false (ltb longest_message (length message)) _ _ (le-ltb _ _ most)
 
 -- and a fragment is taken by where it starts
@@ -45,7 +45,7 @@ pub gathered-fragment : (g : Gathering) (d : List ℕ) (number start : ℕ) (pie
 gathered-fragment g d number start piece h newer =
     gathered-by_number g d number h.headed newer
     ∙ cond-true (is_fragment d) _ _ h.is-fragment
-    ∙ ap (λ (n : ℕ). take_fragment (gathering_of g n) (start_in g.form d) (count_in g.form d) (behind_header g.form d)) h.headed.number-is
-    ∙ ap (λ (n : ℕ). take_fragment (gathering_of g number) n (count_in g.form d) (behind_header g.form d)) h.start-is
-    ∙ ap (λ (n : ℕ). take_fragment (gathering_of g number) start n (behind_header g.form d)) h.count-is
-    ∙ ap (take_fragment (gathering_of g number) start (length piece)) h.behind
+    ∙ ap (λ (n : ℕ). take_fragment (gathering_of g n) (start_in g.form d) (count_in g.form d) (after_header g.form d)) h.headed.number-is
+    ∙ ap (λ (n : ℕ). take_fragment (gathering_of g number) n (count_in g.form d) (after_header g.form d)) h.start-is
+    ∙ ap (λ (n : ℕ). take_fragment (gathering_of g number) start n (after_header g.form d)) h.count-is
+    ∙ ap (take_fragment (gathering_of g number) start (length piece)) h.after

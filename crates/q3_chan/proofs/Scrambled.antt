@@ -19,10 +19,10 @@ keyed_twice key place (byte ∷ bytes) =
     in ap (λ (b : ℕ). b ∷ keyed key (place + 1) (keyed key (place + 1) bytes)) once ∙ ap (λ (l : List ℕ). byte ∷ l) (keyed_twice key (place + 1) bytes)
 
 -- the first bytes as they are, and the others keyed
-abbrev behind_front : (ℕ → ℕ) → ℕ → ℕ → List ℕ → List ℕ
-behind_front key place count bytes = take count bytes ++ keyed key place (drop count bytes)
+abbrev after_front : (ℕ → ℕ) → ℕ → ℕ → List ℕ → List ℕ
+after_front key place count bytes = take count bytes ++ keyed key place (drop count bytes)
 
-twice : (key : ℕ → ℕ) (place count : ℕ) (bytes : List ℕ) → behind_front key place count (behind_front key place count bytes) ≡ bytes
+twice : (key : ℕ → ℕ) (place count : ℕ) (bytes : List ℕ) → after_front key place count (after_front key place count bytes) ≡ bytes
 unfolding keyed
 twice key place zero bytes = keyed_twice key place bytes
 twice key place (suc count) [] = refl
@@ -38,13 +38,13 @@ unfolding keyed
 keyed_long key place [] = refl
 keyed_long key place (byte ∷ bytes) = ap suc (keyed_long key (place + 1) bytes)
 
-long : (key : ℕ → ℕ) (place count : ℕ) (bytes : List ℕ) → length (behind_front key place count bytes) ≡ length bytes
+long : (key : ℕ → ℕ) (place count : ℕ) (bytes : List ℕ) → length (after_front key place count bytes) ≡ length bytes
 unfolding keyed
 long key place zero bytes = keyed_long key place bytes
 long key place (suc count) [] = refl
 long key place (suc count) (byte ∷ bytes) = ap suc (long key place count bytes)
 
-front : (key : ℕ → ℕ) (place count : ℕ) (bytes : List ℕ) (k : ℕ) → k ≤ count → take k (behind_front key place count bytes) ≡ take k bytes
+front : (key : ℕ → ℕ) (place count : ℕ) (bytes : List ℕ) (k : ℕ) → k ≤ count → take k (after_front key place count bytes) ≡ take k bytes
 unfolding keyed
 front key place count bytes zero few = refl
 front key place zero bytes (suc k) few = absurd (omega arith)
@@ -93,7 +93,7 @@ bytes_stay_bytes from start text bytes small is all =
     in All-append P (take from bytes) (keyed (key_at from start text) from (drop from bytes)) (All-take P from bytes all)
     (keyed_bytes (key_at from start text) from (drop from bytes) keys (All-drop P from bytes all))
 
--- ---- behind the leading longs
+-- ---- after the leading longs
 
 twice_by : (from : ℕ) (start : Option ℕ) (text bytes : List ℕ) → scrambled_by from start text (scrambled_by from start text bytes) ≡ bytes
 twice_by from None text bytes = refl

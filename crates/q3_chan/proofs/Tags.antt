@@ -60,7 +60,7 @@ tagged_does g number message index =
       last = λ newer. record { form = form; below = λ limit few fits. omega arith; either = inr (record { newer = newer; answer = refl; message_is = refl; taken = refl }) };
     })
 
--- what is gathered behind a piece is a front again
+-- what is gathered after a piece is a front again
 pub tagged-front : (messages : ℕ → List ℕ) (g : Gathering) (number index : ℕ) → HoldsFront messages g → HoldsFront messages (tagged g number (messages number) index).gathering
 tagged-front messages g number index h =
     let k = gathering_of g number in

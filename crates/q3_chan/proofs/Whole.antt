@@ -143,7 +143,7 @@ record FollowsTags (messages : ℕ → List ℕ) (g : Gathering) (qport number c
   form : (tagged_all g number (messages number) count).form ≡ g.form
   front : HoldsFront messages (gathering_of (tagged_all g number (messages number) count) number)
 
--- the datagram behind them does what its tag does
+-- the datagram after them does what its tag does
 FollowsTags-next : (messages : ℕ → List ℕ) (g : Gathering) (qport number count : ℕ) → FollowsTags messages g qport number count → number < sequence_end
     → IsSendable (messages number) → count < piece_count (length (messages number))
     → gathered (tagged_all g number (messages number) count) (datagram (header_heard g qport) number (messages number) count) ≡ tagged (tagged_all g number (messages number) count) number (messages number) count

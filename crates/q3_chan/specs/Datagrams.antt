@@ -152,5 +152,5 @@ start_in form bytes = little_number 2 (drop (short_of form) bytes)
 abbrev pub count_in : Form → List ℕ → ℕ
 count_in form bytes = little_number 2 (drop (short_of form + 2) bytes)
 
-abbrev pub behind_header : Form → List ℕ → List ℕ
-behind_header form bytes = drop (length_of form (is_fragment bytes)) bytes
+abbrev pub after_header : Form → List ℕ → List ℕ
+after_header form bytes = drop (length_of form (is_fragment bytes)) bytes

@@ -4,7 +4,7 @@ use Rattle.std.specs.Str.{bytes_eq}
 use Rattle.q3_chan.specs.declared.form.Form.{Form}
 use Rattle.q3_chan.specs.declared.gatherer.Gathered.{Gathered}
 use Rattle.q3_chan.specs.declared.gatherer.Gathered.TheVariants.{Whole, Partial, Old, OutOfOrder, BadFragment, BadCheck, Runt, Connectionless}
-use Rattle.q3_chan.specs.Datagrams.{Header, fragment_size, longest_message, is_fragment, number_in, length_of, has_bad_check, start_in, count_in, behind_header}
+use Rattle.q3_chan.specs.Datagrams.{Header, fragment_size, longest_message, is_fragment, number_in, length_of, has_bad_check, start_in, count_in, after_header}
 
 -- which end sends and by what its datagrams are checked, the newest number taken, 0 for none, and what was gathered: the number of its
 -- message, 0 for none, and its bytes so far
@@ -69,8 +69,8 @@ take_fragment g start count there = if start == length g.bytes then take_piece g
 abbrev pub take_newer : Gathering → List ℕ → Took
 take_newer g datagram =
     if is_fragment datagram
-    then take_fragment (gathering_of g (number_in datagram)) (start_in g.form datagram) (count_in g.form datagram) (behind_header g.form datagram)
-    else take_whole g (number_in datagram) (behind_header g.form datagram)
+    then take_fragment (gathering_of g (number_in datagram)) (start_in g.form datagram) (count_in g.form datagram) (after_header g.form datagram)
+    else take_whole g (number_in datagram) (after_header g.form datagram)
 
 -- a datagram that begins with four bytes of 255
 abbrev pub is_connectionless : List ℕ → Bool

@@ -5,8 +5,8 @@ use Rattle.q3_text.specs.Texts.{IsText}
 use Rattle.q3_chan.specs.declared.side.Side.{Side}
 use Rattle.q3_chan.specs.declared.form.Form.{Form}
 use Rattle.q3_chan.specs.declared.gatherer.Gathered.TheVariants.{Whole, Partial}
-use Rattle.q3_chan.specs.Datagrams.{Header, fragment_size, longest_message, sequence_end, piece_count, last_index, pieces, datagram, datagrams, is_fragment, number_in, start_in, count_in, behind_header}
-use Rattle.q3_chan.specs.Sending.{Sending, UnderWay, IsIdle, new_sending, started, next_of, handed_out, behind}
+use Rattle.q3_chan.specs.Datagrams.{Header, fragment_size, longest_message, sequence_end, piece_count, last_index, pieces, datagram, datagrams, is_fragment, number_in, start_in, count_in, after_header}
+use Rattle.q3_chan.specs.Sending.{Sending, UnderWay, IsIdle, new_sending, started, next_of, handed_out, sending_after}
 use Rattle.q3_chan.specs.Gathering.{Gathering, gathered, gathered_all, header_heard, new_gathering}
 use Rattle.q3_chan.specs.Tags.{tagged, tagged_all, Came, PieceDoes}
 use Rattle.q3_chan.specs.Scrambling.{scrambled}
@@ -20,7 +20,7 @@ PiecesAreWhole = (message : List ℕ) → concat (pieces message) ≡ message
 abbrev pub HandsOutAll : Type 0
 HandsOutAll = (s : Sending) (message : List ℕ) → IsIdle s
     → (handed_out (piece_count (length message)) (started s message) ≡ datagrams s.header (s.number + 1) message)
-    × IsIdle (behind (piece_count (length message)) (started s message))
+    × IsIdle (sending_after (piece_count (length message)) (started s message))
 
 -- a message as an end may send it
 pub record IsSendable (message : List ℕ) : Type 0 where
@@ -94,13 +94,13 @@ abbrev pub ArePieces : Form → ℕ → ℕ → List (List ℕ) → List ℕ →
 ArePieces form number start [] bytes = bytes ≡ []
 ArePieces form number start (datagram ∷ others) bytes =
     (is_fragment datagram ≡ true) × (number_in datagram ≡ number) × (start_in form datagram ≡ start)
-    × (count_in form datagram ≤ length (behind_header form datagram)) × (rest : List ℕ)
-    × (bytes ≡ take (count_in form datagram) (behind_header form datagram) ++ rest) × ArePieces form number (start + count_in form datagram) others rest
+    × (count_in form datagram ≤ length (after_header form datagram)) × (rest : List ℕ)
+    × (bytes ≡ take (count_in form datagram) (after_header form datagram) ++ rest) × ArePieces form number (start + count_in form datagram) others rest
 
 -- these stand among the others, in this order
 abbrev pub StandIn : List (List ℕ) → List (List ℕ) → Type 0
 StandIn [] others = Unit {0}
-StandIn (one ∷ ones) others = (before : List (List ℕ)) × (behind : List (List ℕ)) × (others ≡ before ++ one ∷ behind) × StandIn ones behind
+StandIn (one ∷ ones) others = (before : List (List ℕ)) × (after : List (List ℕ)) × (others ≡ before ++ one ∷ after) × StandIn ones after
 
 -- whatever bytes came: a message that comes whole stood under its number in the last datagram, or is pieces of one number that
 -- came in their order, of which the last is that of the last datagram; each before it has as many bytes as go into one, and it
@@ -108,7 +108,7 @@ StandIn (one ∷ ones) others = (before : List (List ℕ)) × (behind : List (Li
 abbrev pub WholeArePieces : Type 0
 WholeArePieces = (form : Form) (came : List (List ℕ)) (last : List ℕ) (number count : ℕ)
     → (gathered (gathered_all (new_gathering form) came) last).answer ≡ Whole number count
-    → ((is_fragment last ≡ false) × (number_in last ≡ number) × ((gathered (gathered_all (new_gathering form) came) last).message ≡ behind_header form last))
+    → ((is_fragment last ≡ false) × (number_in last ≡ number) × ((gathered (gathered_all (new_gathering form) came) last).message ≡ after_header form last))
     ⊎ ((parts : List (List ℕ)) × StandIn parts came × All (λ part. count_in form part ≡ fragment_size) parts × (count_in form last < fragment_size)
     × ArePieces form number 0 (parts ++ last ∷ []) (gathered (gathered_all (new_gathering form) came) last).message)
 

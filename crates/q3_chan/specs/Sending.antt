@@ -52,9 +52,9 @@ unfoldable pub handed_out : ℕ → Sending → List (List ℕ)
 handed_out zero s = []
 handed_out (suc count) s = (next_of s).datagram ∷ handed_out count (next_of s).sending
 
-unfoldable pub behind : ℕ → Sending → Sending
-behind zero s = s
-behind (suc count) s = behind count (next_of s).sending
+unfoldable pub sending_after : ℕ → Sending → Sending
+sending_after zero s = s
+sending_after (suc count) s = sending_after count (next_of s).sending
 
 -- ---- what an end hands out
 

@@ -8,7 +8,7 @@ ghost use Rattle.q3_chan.specs.Gathering.{new_gathering, gathered, gathering_of,
 use crate::buffer::{new_buffer, put_at};
 use crate::form::Form;
 use crate::header::{
-    behind_header, count_in, has_bad_check, is_connectionless, is_form_checked, is_fragment,
+    after_header, count_in, has_bad_check, is_connectionless, is_form_checked, is_fragment,
     lacks_header, number_in, start_in,
 };
 use crate::limits::{FRAGMENT_SIZE, LONGEST_MESSAGE};
@@ -132,7 +132,7 @@ impl Gatherer {
         ensures message { Delivers result into.new (take_newer self.old datagram.now).message }
     {
         let number = number_in(datagram);
-        let there = behind_header(self.form, datagram);
+        let there = after_header(self.form, datagram);
         if !is_fragment(datagram) {
             return self.take_whole(number, there, into);
         }

@@ -3,7 +3,7 @@
 
 ghost use Rattle.std.specs.Prelude.{◌≡◌, ◌<◌, ◌+◌, ◌≤◌, ◌++◌, nat_lt, length, is_some};
 ghost use Rattle.byteorder.specs.Endian.{little_bytes};
-ghost use Rattle.q3_chan.specs.Datagrams.{sequence_end, header_bytes, check_bytes, check_in, marked, is_fragment, number_in, short_header, header_length, before_check, check_length, short_of, length_of, has_bad_check, start_in, count_in, behind_header};
+ghost use Rattle.q3_chan.specs.Datagrams.{sequence_end, header_bytes, check_bytes, check_in, marked, is_fragment, number_in, short_header, header_length, before_check, check_length, short_of, length_of, has_bad_check, start_in, count_in, after_header};
 ghost use Rattle.q3_chan.specs.Gathering.{is_connectionless};
 
 use crate::form::{Form, check_of};
@@ -204,10 +204,10 @@ fn check_in(side: Side, datagram: &[u8]) -> u32
 }
 
 /// The bytes after the header.
-pub(crate) fn behind_header(form: Form, datagram: &[u8]) -> &[u8]
+pub(crate) fn after_header(form: Form, datagram: &[u8]) -> &[u8]
     requires number { 4 ≤ length datagram.now }
     requires header { length_of form (is_fragment datagram.now) ≤ length datagram.now }
-    ensures { result.now ≡ behind_header form datagram.now }
+    ensures { result.now ≡ after_header form datagram.now }
 {
     let length = header_length(form.side, is_form_checked(form), is_fragment(datagram));
     &datagram[length..]

@@ -95,7 +95,7 @@ impl Sender {
         if let Some(index) = self.index {
             let message = &self.buffer[..self.count];
             write_datagram(out, self.header, self.number, message, index);
-            self.index = index_behind(message, index);
+            self.index = index_after(message, index);
         }
     }
 
@@ -153,12 +153,12 @@ fn piece_of(message: &[u8], index: usize) -> &[u8]
     requires { fragment_size * index ≤ length message.now }
     ensures { result.now ≡ piece message.now index }
 {
-    let behind = &message[FRAGMENT_SIZE * index..];
-    &behind[..behind.len().min(FRAGMENT_SIZE)]
+    let after = &message[FRAGMENT_SIZE * index..];
+    &after[..after.len().min(FRAGMENT_SIZE)]
 }
 
 /// The index of the piece of a message after one, if there is one.
-fn index_behind(message: &[u8], index: usize) -> Option<usize>
+fn index_after(message: &[u8], index: usize) -> Option<usize>
     ensures { result ≡ (if nat_lt (index + 1) (piece_count (length message.now)) then Some (index + 1) else None) }
 {
     if index < message.len() / FRAGMENT_SIZE {

@@ -6,7 +6,7 @@ use Rattle.q3_bits.specs.Bits.{bits_of}
 use Rattle.q3_bits.specs.ResultBind.{bind_ok}
 use Rattle.q3_chan.specs.declared.gatherer.Gathered.{Gathered}
 use Rattle.q3_chan.specs.declared.gatherer.Gathered.TheVariants as gathered
-use Rattle.q3_chan.specs.Datagrams.{fragment_size, longest_message, is_fragment, number_in, length_of, has_bad_check, start_in, count_in, behind_header}
+use Rattle.q3_chan.specs.Datagrams.{fragment_size, longest_message, is_fragment, number_in, length_of, has_bad_check, start_in, count_in, after_header}
 use Rattle.q3_chan.specs.Gathering.{Gathering, Took, answers as gathers, arrives, emptied, gathering_of, take_whole, add_piece, take_piece, take_fragment, take_newer, is_connectionless, gathered as gathered_of}
 use Rattle.q3_svmsg.specs.declared.error.Illegible.{Illegible}
 use Rattle.q3_svmsg.specs.Reading.{server_message_in}
@@ -50,7 +50,7 @@ newer_above : (last : ℕ) (g : Gathering) (datagram : List ℕ) → last < numb
 newer_above last g datagram newer =
     let n = number_in datagram in
     let fits : n < 2 ^ 32 = omega arith in
-    let message = behind_header g.form datagram in
+    let message = after_header g.form datagram in
     let now = gathering_of g n in
     let above : AreAbove last now.number = cond_both (n == g.number) g (record g { number = n; bytes = [] }) (λ (g : Gathering). AreAbove last g.number)
     (λ same. subst (λ (m : ℕ). AreAbove last m) (eqb-true n g.number same) (record { newer = newer; fits = fits })) (λ other. record { newer = newer; fits = fits }) in

@@ -15,7 +15,7 @@ use Rattle.q3_clmsg.specs.Moves.{IsMove}
 use Rattle.q3_clmsg.specs.Laws.{IsMessage}
 use Rattle.q3_svmsg.specs.declared.error.Illegible.{Illegible}
 use Rattle.q3_client.specs.declared.moves.Issued.{Issued}
-use Rattle.q3_client.specs.Client.{ClientState, moves_behind}
+use Rattle.q3_client.specs.Client.{ClientState, moves_after}
 use Rattle.q3_client.specs.Moves.{most_moves, is_carried, carried, asks_delta}
 use Rattle.q3_client.specs.Sending.{Said, IsSaid, Emission, next_message, next_said, said_bits, is_unclear, emit_bits, emit_new, emit_left, emit_unless, emit_at, wants_delta}
 use Rattle.q3_client.specs.Standing.{AreMoves, IsClient}
@@ -34,7 +34,7 @@ moves_pushed moves now room issued after is are =
     subst AreMoves (sym after) (record { each = All-drop (λ (issued : Issued). IsMove issued.one) (length more - room) more all })
 
 -- a gamestate wipes them
-pub moves_wiped : (game : Bool) (moves : List Issued) → AreMoves moves → AreMoves (moves_behind game moves)
+pub moves_wiped : (game : Bool) (moves : List Issued) → AreMoves moves → AreMoves (moves_after game moves)
 moves_wiped true moves are = no_moves
 moves_wiped false moves are = are
 

@@ -18,8 +18,8 @@ abbrev received_with : ClientState → ℕ → List ℕ → Result Application I
 received_with client ack plain applied =
     applied >>= λ application. Ok (record { message = plain; issued = (acknowledge_at client.issued ack).window; application = application })
 
-abbrev received_behind : ClientState → ℕ → List ℕ → ℕ × ℕ → Result Reception Illegible
-received_behind client n bytes ack =
+abbrev received_after : ClientState → ℕ → List ℕ → ℕ × ℕ → Result Reception Illegible
+received_after client n bytes ack =
     ack_taken ack.0 (acknowledge_at client.issued ack.0).answer >>= λ taken.
     received_with client ack.0 (cleared client.state.profile.protocol client.challenge n (text_at client.issued ack.0) bytes)
     (apply_at client.state n (cleared client.state.profile.protocol client.challenge n (text_at client.issued ack.0) bytes))
@@ -40,7 +40,7 @@ with_was client n ack plain (Err cause) received does e = absurd cc
 pub was_received : (client : ClientState) (n : ℕ) (bytes : List ℕ) (received : Reception) → receive_bytes client n bytes ≡ Ok received
     → WasReceived client.state client.issued n received
 was_received client n bytes received e =
-    let long = bind_ok (fault_as Bits (ack_at client.state.profile.code (bits_of bytes))) (received_behind client n bytes) received e in
+    let long = bind_ok (fault_as Bits (ack_at client.state.profile.code (bits_of bytes))) (received_after client n bytes) received e in
     let ack = long.0.0 in
     let plain = cleared client.state.profile.protocol client.challenge n (text_at client.issued ack) bytes in
     let taken = bind_ok (ack_taken ack (acknowledge_at client.issued ack).answer) (λ (taken : Unit {0}). received_with client ack plain (apply_at client.state n plain)) received long.2 in

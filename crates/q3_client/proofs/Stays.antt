@@ -10,7 +10,7 @@ use Rattle.q3_profile.specs.declared.profile.Profile.{Profile}
 use Rattle.q3_profile.specs.Profile.{IsCodec}
 use Rattle.q3_chan.specs.declared.gatherer.Gathered.{Gathered}
 use Rattle.q3_chan.specs.declared.gatherer.Gathered.TheVariants as gathered
-use Rattle.q3_chan.specs.Datagrams.{fragment_size, longest_message, is_fragment, number_in, length_of, has_bad_check, start_in, count_in, behind_header}
+use Rattle.q3_chan.specs.Datagrams.{fragment_size, longest_message, is_fragment, number_in, length_of, has_bad_check, start_in, count_in, after_header}
 use Rattle.q3_chan.specs.Gathering.{Gathering, Took, answers as gathers, arrives, emptied, gathering_of, take_whole, add_piece, take_piece, take_fragment, take_newer, is_connectionless, gathered as gathered_of}
 use Rattle.q3_chan.specs.Datagrams.{sequence_end}
 use Rattle.q3_chan.specs.Sending.{Sending, UnderWay, started, next_of}
@@ -20,13 +20,13 @@ use Rattle.q3_window.specs.Outgoing.{IsOutgoing}
 use Rattle.q3_window.specs.Laws.{StaysOutgoing}
 use Rattle.q3_clmsg.specs.declared.moves.Move.{Move}
 use Rattle.q3_clmsg.specs.Moves.{IsMove}
-use Rattle.q3_clstate.specs.State.{Application, state_behind}
+use Rattle.q3_clstate.specs.State.{Application, state_after_message}
 use Rattle.q3_clstate.specs.Standing.{IsApplied}
 use Rattle.q3_clstate.specs.Laws.{ApplyStays}
 use Rattle.q3_client.specs.declared.moves.Issued.{Issued}
 use Rattle.q3_client.specs.declared.client.MoveError.{MoveError}
 use Rattle.q3_client.specs.declared.client.MoveError.TheVariants.{NoGame, NotLater, Range}
-use Rattle.q3_client.specs.Client.{ClientState, Reception, new_client, type_at, applies_read, take_answer, take_unless, take_at, receive_bytes, moves_behind}
+use Rattle.q3_client.specs.Client.{ClientState, Reception, new_client, type_at, applies_read, take_answer, take_unless, take_at, receive_bytes, moves_after}
 use Rattle.q3_client.specs.Moves.{Handed, most_moves, is_issuable, issue, add_move_at}
 use Rattle.q3_client.specs.declared.client.Sent.TheVariants as sent
 use Rattle.q3_client.specs.Sending.{Said, Emission, next_message, next_said, said_bits, is_unclear, nothing, hand_out, emit_bits, emit_new, emit_left, emit_unless, emit_at}
@@ -68,7 +68,7 @@ newer_fits : (g : Gathering) (datagram : List ℕ) → g.taken < 2 ^ 32 → Fits
 newer_fits g datagram few =
     let n = number_in datagram in
     let short : n < 2 ^ 32 = omega arith in
-    let message = behind_header g.form datagram in
+    let message = after_header g.form datagram in
     let now = gathering_of g n in
     let are : AreShort now = cond_both (n == g.number) g (record g { number = n; bytes = [] }) AreShort
     (λ same. record { taken = few; number = let e = eqb-true n g.number same in omega (arith, e, short) }) (λ other. record { taken = few; number = short }) in
@@ -93,7 +93,7 @@ gathered_fits g datagram few =
 
 -- ---- what is received
 
--- the state and the window behind a message
+-- the state and the window after a message
 pub record AreReceived (received : Reception) : Type 0 where
   pub applied : IsApplied received.application.state
   pub window : IsOutgoing received.issued
@@ -103,7 +103,7 @@ pub are_received : ApplyStays → StaysOutgoing → (client : ClientState) (n : 
 are_received applies stays client n bytes received fits is window e =
     let was = was_received client n bytes received e in
     record {
-      applied = subst (λ (applied : Result Application Illegible). IsApplied (state_behind client.state applied)) was.does (applies.apply client.state n received.message fits is);
+      applied = subst (λ (applied : Result Application Illegible). IsApplied (state_after_message client.state applied)) was.does (applies.apply client.state n received.message fits is);
       window = subst IsOutgoing (sym was.window) (stays.acknowledges client.issued was.ack window);
     }
 
@@ -113,16 +113,16 @@ are_received applies stays client n bytes received fits is window e =
 gathered_client : (client : ClientState) (g : Gathering) → g.taken < 2 ^ 32 → IsClient client → IsClient (record client { gathering = g })
 gathered_client client g few is = record { applied = is.applied; taken = few; window = is.window; few = is.few; moves = is.moves }
 
-few_behind : (game : Bool) (moves : List Issued) → length moves ≤ most_moves → length (moves_behind game moves) ≤ most_moves
-few_behind game moves few = cond_both game [] moves (λ (moves : List Issued). length moves ≤ most_moves) (λ e. omega arith) (λ e. few)
+few_after : (game : Bool) (moves : List Issued) → length moves ≤ most_moves → length (moves_after game moves) ≤ most_moves
+few_after game moves few = cond_both game [] moves (λ (moves : List Issued). length moves ≤ most_moves) (λ e. omega arith) (λ e. few)
 
 read_stays : (client : ClientState) (received : Result Reception Illegible) → ((reception : Reception) → received ≡ Ok reception → AreReceived reception) → IsClient client
     → IsClient (applies_read client received).client
 read_stays client (Err cause) are is = record { applied = is.applied; taken = is.taken; window = is.window; few = is.few; moves = is.moves }
 read_stays client (Ok reception) are is =
-    let behind = are reception refl in
+    let after = are reception refl in
     let game = reception.application.answer.game in
-    record { applied = behind.applied; taken = is.taken; window = behind.window; few = few_behind game client.moves is.few; moves = moves_wiped game client.moves is.moves }
+    record { applied = after.applied; taken = is.taken; window = after.window; few = few_after game client.moves is.few; moves = moves_wiped game client.moves is.moves }
 
 answer_stays : (client : ClientState) (answer : Gathered) (receive : ℕ → Result Reception Illegible) → number_of answer < 2 ^ 32
     → ((n : ℕ) (reception : Reception) → n < 2 ^ 32 → receive n ≡ Ok reception → AreReceived reception) → IsClient client → IsClient (take_answer client answer receive).client

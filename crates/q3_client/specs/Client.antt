@@ -90,9 +90,9 @@ abbrev pub is_accepted : SnapOutcome → Bool
 is_accepted (outcomes.Accepted base) = true
 is_accepted other = false
 
--- the moves that a client keeps behind a message: a gamestate wipes them
-abbrev pub moves_behind : Bool → List Issued → List Issued
-moves_behind game moves = if game then [] else moves
+-- the moves that a client keeps after a message: a gamestate wipes them
+abbrev pub moves_after : Bool → List Issued → List Issued
+moves_after game moves = if game then [] else moves
 
 -- what a message is to a client: its bytes, cleared, its commands once the acknowledgement is taken, and what applying the message
 -- gives
@@ -132,7 +132,7 @@ receive_by state issued challenge number bytes = do
 abbrev pub receive_bytes : ClientState → ℕ → List ℕ → Result Reception cause.Illegible
 receive_bytes client number bytes = receive_by client.state client.issued client.challenge number bytes
 
--- a client behind a message that it received
+-- a client after a message that it received
 abbrev pub applies : ClientState → Reception → Taken
 applies client received =
     let applied = received.application in
@@ -142,14 +142,14 @@ applies client received =
         message = received.message;
         issued = received.issued;
         delta = is_accepted applied.answer.snap;
-        moves = moves_behind applied.answer.game client.moves;
+        moves = moves_after applied.answer.game client.moves;
       };
       answer = Applied applied.answer;
       accepted = applied.accepted;
       heard = applied.heard;
     }
 
--- a client behind bytes that it received, if they are legible; by what isn't it is dropped, and nothing else changes
+-- a client after bytes that it received, if they are legible; by what isn't it is dropped, and nothing else changes
 abbrev pub applies_read : ClientState → Result Reception cause.Illegible → Taken
 applies_read client (Ok received) = applies client received
 applies_read client (Err e) = answers (record client { dropped = Some e }) (Illegible e)

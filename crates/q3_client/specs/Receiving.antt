@@ -18,7 +18,7 @@ acknowledged_by words issued bytes = do
   taken ← ack_taken ack.0 (acknowledge_at issued ack.0).answer
   Ok ack.0
 
--- what was applied, behind bytes: what isn't legible changes nothing
+-- what was applied, after bytes: what isn't legible changes nothing
 abbrev pub state_received : AppliedState → Result Reception Illegible → AppliedState
 state_received state (Ok received) = received.application.state
 state_received state (Err e) = state

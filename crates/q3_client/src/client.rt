@@ -12,7 +12,7 @@ ghost use Rattle.q3_chan.specs.Gathering.{new_gathering};
 ghost use Rattle.q3_chan.specs.Sending.{HandsOut, new_sending};
 ghost use Rattle.q3_rings.specs.Loans.{snapshot_of};
 ghost use Rattle.q3_rings.specs.Rings.{view_at};
-ghost use Rattle.q3_client.specs.Client.{new_client, type_at, take_at, is_accepted, moves_behind};
+ghost use Rattle.q3_client.specs.Client.{new_client, type_at, take_at, is_accepted, moves_after};
 ghost use Rattle.q3_client.specs.Moves.{add_move_at};
 ghost use Rattle.q3_client.specs.Sending.{emit_at, emit_new, wants_delta, IsSaid};
 
@@ -261,7 +261,7 @@ impl Client {
     fn note(&mut self, applied: &Applied)
         ensures { self.new ≡ record self.old {
           delta = is_accepted applied.now.snap;
-          moves = moves_behind applied.now.game self.old.moves;
+          moves = moves_after applied.now.game self.old.moves;
         } }
     {
         self.delta = is_accepted(applied.snap);

@@ -1,4 +1,4 @@
--- The fields of a move, one behind the other.
+-- The fields of a move, one after the other.
 use Rattle.std.proofs.Common.{◌≡◌, ℕ, zero, suc, ◌+◌, ◌^◌, ◌≤◌, ◌<◌, Bool, List, [], ◌∷◌, ◌++◌, length, drop, set, get_or, Ok, Err, refl, sym, arith}
 use Rattle.std.proofs.lemmas.List.{drop_more, drop_all}
 use Rattle.q3_bits.specs.declared.reader.ReadError.{ReadError}

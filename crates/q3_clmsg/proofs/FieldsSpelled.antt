@@ -67,9 +67,9 @@ field_was_spelled put words code key width from bits found old e =
       | inr other ↦
           let was = field_was_put put words 1 bits changed.0 code changed.1 in
           let field = bind_ok (field_at words width changed.0.1) (λ field. Ok (hidden key width field.0, field.1)) found (rw other at changed.2) in
-          let behind = field_was_put put words width changed.0.1 field.0 code field.1 in
+          let after = field_was_put put words width changed.0.1 field.0 code field.1 in
           let mark : changed.0.0 ≡ 1 = omega (arith, was.fits, eqb-false changed.0.0 0 other) in
-          let fits = hidden_fits key width field.0.0 behind.fits in
+          let fits = hidden_fits key width field.0.0 after.fits in
           let made = field.2 in
           let is : (hidden key width field.0.0, field.0.1) ≡ found = cc in
           subst (ReadField words key width from bits) {x = (hidden key width field.0.0, field.0.1)} is (record {
@@ -77,7 +77,7 @@ field_was_spelled put words code key width from bits found old e =
             spells = inr (fits, ap (λ (value : ℕ). row_bits words ((1, 1) ∷ (value, width) ∷ [])) (sym (hidden_twice key width field.0.0)));
             fits = fits;
             parts =
-                was.row ((field.0.0, width) ∷ []) field.0.1 (behind.row [] field.0.1 (row-none words field.0.1))
+                was.row ((field.0.0, width) ∷ []) field.0.1 (after.row [] field.0.1 (row-none words field.0.1))
                 ∙ ap (λ (mark : ℕ). row_bits words ((mark, 1) ∷ (field.0.0, width) ∷ []) ++ field.0.1) mark;
           })
     ]
@@ -124,8 +124,8 @@ field_is_read put words code key width from to first rest (inr (fits, whole)) =
 pub fields_are_read : PutIsRead → (words : List (List Bool)) → IsCode words → (key : ℕ) (widths from to : List ℕ) (text rest : List Bool) → SpellsFields words key widths from to text
     → fields_at words key widths from (text ++ rest) ≡ Ok (to, rest)
 unfolding fields_at
-fields_are_read put words code key (width ∷ widths) (a ∷ from) to text rest (b, others, first, behind, is, whole, one, more) =
-    let same : text ++ rest ≡ first ++ (behind ++ rest) = ap (λ (text : List Bool). text ++ rest) whole ∙ append_assoc first behind rest in
-    rw (same, field_is_read put words code key width a b first (behind ++ rest) one, fields_are_read put words code key widths from others behind rest more, is) refl
+fields_are_read put words code key (width ∷ widths) (a ∷ from) to text rest (b, others, first, after, is, whole, one, more) =
+    let same : text ++ rest ≡ first ++ (after ++ rest) = ap (λ (text : List Bool). text ++ rest) whole ∙ append_assoc first after rest in
+    rw (same, field_is_read put words code key width a b first (after ++ rest) one, fields_are_read put words code key widths from others after rest more, is) refl
 fields_are_read put words code key (width ∷ widths) [] to text rest (none, whole) = rw (none, whole) refl
 fields_are_read put words code key [] from to text rest (none, whole) = rw (none, whole) refl

@@ -37,6 +37,6 @@ module _ {X E : Type 0} where
   pub front_stops : (start now : Reading) (front : List X) (left whole : Result (List X × List Bool) E) (e : E) → HasFront start now front left whole → left ≡ Err e → Err e ≡ whole
   front_stops start now front left whole e h is = ap (λ (read : Result (List X × List Bool) E). with_front front read) (sym is) ∙ h.reads
 
-  pub front_ends : (start now : Reading) (front : List X) (left whole : Result (List X × List Bool) E) (behind : List Bool) → HasFront start now front left whole → left ≡ Ok ([], behind)
-      → Ok (front ++ [], behind) ≡ whole
-  front_ends start now front left whole behind h is = ap (λ (read : Result (List X × List Bool) E). with_front front read) (sym is) ∙ h.reads
+  pub front_ends : (start now : Reading) (front : List X) (left whole : Result (List X × List Bool) E) (after : List Bool) → HasFront start now front left whole → left ≡ Ok ([], after)
+      → Ok (front ++ [], after) ≡ whole
+  front_ends start now front left whole after h is = ap (λ (read : Result (List X × List Bool) E). with_front front read) (sym is) ∙ h.reads

@@ -6,7 +6,7 @@ use Rattle.q3_bits.specs.Laws.{PutIsRead}
 use Rattle.q3_text.specs.declared.text.Command.{Command}
 use Rattle.q3_strings.specs.Commands.{commands_bits, SpellsNops, SpellsCommands}
 use Rattle.q3_strings.specs.Operations.{ending_at}
-use Rattle.q3_strings.specs.Rows.{row-behind, row-first, row-last, operations-parts}
+use Rattle.q3_strings.specs.Rows.{row-after, row-first, row-last, operations-parts}
 use Rattle.q3_strings.specs.Laws.{NopsAreNops, RowSpelledIsRead, EndingSpelledIsRead}
 use Rattle.q3_clmsg.specs.declared.moves.Move.{Move}
 use Rattle.q3_clmsg.specs.Moves.{no_move}
@@ -28,7 +28,7 @@ module _ (put : PutIsRead) (row_law : RowSpelledIsRead) (ending_law : EndingSpel
       let within : nat_le 1 (length moves) && nat_le (length moves) 32 ≡ true = grind (arith, nat_tests, some, few) in
       rw (row-last words code put (length moves) 8 (text ++ rest) (omega arith), within, moves_are_read put words code key no_move moves text rest s) refl
 
-  -- they, and the end behind them
+  -- they, and the end after them
   moved_is_read : (delta : Bool) (message : Message) (moves : List Move) (text nops rest : List Bool) → 0 < length moves → length moves ≤ 32 → SpellsMoves words key no_move moves text
       → SpellsNops words nops → moved_at words key delta message (row_bits words ((length moves, 8) ∷ []) ++ (text ++ (nops ++ (end words ++ rest))))
       ≡ Ok (record message { delta = delta; moves = moves }, rest)
@@ -42,7 +42,7 @@ module _ (put : PutIsRead) (row_law : RowSpelledIsRead) (ending_law : EndingSpel
 
   -- ---- the operations
 
-  -- commands, nops and another operation, and what is behind these
+  -- commands, nops and another operation, and what follows these
   row_is_read : (message : Message) (commands : List Command) (operation : ℕ) (text nops left : List Bool) → message.commands ≡ [] → length commands ≤ 64
       → SpellsCommands words 4 commands text → SpellsNops words nops → operation < 256 → operation ≢ 1 → operation ≢ 4
       → operations_at words key message (text ++ (nops ++ (row_bits words ((operation, 8) ∷ []) ++ left))) ≡ rest_at words key operation (record message { commands = commands }) left
@@ -74,16 +74,16 @@ module _ (put : PutIsRead) (row_law : RowSpelledIsRead) (ending_law : EndingSpel
   operations_are_read : NopsAreNops → (message : Message) (commands : List Command) (delta : Bool) (moves : List Move) (text nops section behind rest : List Bool) → message.commands ≡ [] → message.delta ≡ false
       → message.moves ≡ [] → length commands ≤ 64 → SpellsCommands words 4 commands text → SpellsNops words nops → SpellsSection words key delta moves section → SpellsNops words behind
       → operations_at words key message (text ++ (nops ++ (section ++ (behind ++ (end words ++ rest))))) ≡ Ok (record message { commands = commands; delta = delta; moves = moves }, rest)
-  operations_are_read nops_law message commands delta [] text nops section behind rest none still no_moves few of_commands of_nops (no_delta, whole) of_behind =
+  operations_are_read nops_law message commands delta [] text nops section behind rest none still no_moves few of_commands of_nops (no_delta, whole) of_after =
       let after : Message = record message { commands = commands } in
       let same : text ++ (nops ++ (section ++ (behind ++ (end words ++ rest)))) ≡ text ++ ((nops ++ behind) ++ (end words ++ rest)) =
       rw whole (ap (λ (left : List Bool). text ++ left) (sym (append_assoc nops behind (end words ++ rest)))) in
       ap (λ (bits : List Bool). operations_at words key message bits) same
-      ∙ row_is_read message commands 5 text (nops ++ behind) rest none few of_commands (nops_law words nops behind of_nops of_behind) (omega arith) (λ e. omega (arith, e)) (λ e. omega (arith, e))
+      ∙ row_is_read message commands 5 text (nops ++ behind) rest none few of_commands (nops_law words nops behind of_nops of_after) (omega arith) (λ e. omega (arith, e)) (λ e. omega (arith, e))
       ∙ done_is_read after rest
       ∙ ap (λ (delta : Bool). Ok (record after { delta = delta }, rest)) (still ∙ sym no_delta)
       ∙ ap (λ (moves : List Move). Ok (record after { delta = delta; moves = moves }, rest)) no_moves
-  operations_are_read nops_law message commands delta (first ∷ moves) text nops section behind rest none still no_moves few of_commands of_nops (of_moves, few_moves, s, whole) of_behind =
+  operations_are_read nops_law message commands delta (first ∷ moves) text nops section behind rest none still no_moves few of_commands of_nops (of_moves, few_moves, s, whole) of_after =
       let after : Message = record message { commands = commands } in
       let all = first ∷ moves in
       let operation = move_operation delta in
@@ -94,11 +94,11 @@ module _ (put : PutIsRead) (row_law : RowSpelledIsRead) (ending_law : EndingSpel
       let same : section ++ ends ≡ row_bits words ((operation, 8) ∷ []) ++ left =
       ap (λ (text : List Bool). text ++ ends) whole
       ∙ append_assoc (row_bits words ((operation, 8) ∷ fields)) of_moves ends
-      ∙ row-behind words operation 8 fields (of_moves ++ ends) in
+      ∙ row-after words operation 8 fields (of_moves ++ ends) in
       ap (λ (left : List Bool). operations_at words key message (text ++ (nops ++ left))) same
       ∙ row_is_read message commands operation text nops left none few of_commands of_nops other.0 other.1 other.2
       ∙ taken_is_read delta after left
-      ∙ moved_is_read delta after all of_moves behind rest (omega arith) few_moves s of_behind
+      ∙ moved_is_read delta after all of_moves behind rest (omega arith) few_moves s of_after
 
 -- the three longs
 heads_are_read : PutIsRead → (words : List (List Bool)) → IsCode words → (id acknowledged command : ℕ) (rest : List Bool) → id < 2 ^ 32 → acknowledged < 2 ^ 32 → command < 2 ^ 32

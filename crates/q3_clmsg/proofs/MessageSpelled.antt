@@ -11,7 +11,7 @@ use Rattle.q3_bits.specs.Laws.{ReadWasPut}
 use Rattle.q3_text.specs.declared.text.Command.{Command}
 use Rattle.q3_strings.specs.Commands.{commands_bits, SpellsNops, SpellsCommands, SpellsEnding}
 use Rattle.q3_strings.specs.Operations.{Row, row_at, ending_at}
-use Rattle.q3_strings.specs.Rows.{row-empty, row-none, row-behind, field_was_put}
+use Rattle.q3_strings.specs.Rows.{row-empty, row-none, row-after, field_was_put}
 use Rattle.q3_strings.specs.Laws.{IsCommand, CommandsAreSpelled, WasRow, RowReadIsSpelled, EndingReadIsSpelled}
 use Rattle.q3_clmsg.specs.declared.moves.Move.{Move}
 use Rattle.q3_clmsg.specs.declared.heads.Heads.{Heads}
@@ -110,13 +110,13 @@ section_was_spelled put words code key bits found e =
 
 -- ---- the operations
 
--- those that were read behind a message's front
+-- those that were read after a message's front
 record ReadOperations (words : List (List Bool)) (key : ℕ) (message : Message) (bits : List Bool) (found : Message × List Bool) : Type 0 where
   added : List Command
   commands : List Bool
   nops : List Bool
   section : List Bool
-  behind : List Bool
+  nops_after : List Bool
   id : found.0.id ≡ message.id
   acknowledged : found.0.acknowledged ≡ message.acknowledged
   command : found.0.command ≡ message.command
@@ -129,8 +129,8 @@ record ReadOperations (words : List (List Bool)) (key : ℕ) (message : Message)
   of_commands : SpellsCommands words 4 added commands
   of_nops : SpellsNops words nops
   of_section : SpellsSection words key found.0.delta found.0.moves section
-  of_behind : SpellsNops words behind
-  parts : bits ≡ commands ++ (nops ++ (section ++ (behind ++ (end words ++ found.1))))
+  of_after : SpellsNops words nops_after
+  parts : bits ≡ commands ++ (nops ++ (section ++ (nops_after ++ (end words ++ found.1))))
 
 -- a message without moves
 record HasNoMoves (message : Message) : Type 0 where
@@ -147,14 +147,14 @@ module _ (words : List (List Bool)) (key : ℕ) (message : Message) (bits left :
       was.parts ∙ ap (λ (text : List Bool). text ++ left) was.spells.whole ∙ append_assoc (text ++ nops) last left ∙ append_assoc text nops (last ++ left)
       ∙ ap (λ (n : ℕ). text ++ (nops ++ (row_bits words ((n, 8) ∷ []) ++ left))) is
 
-  -- the end behind it
+  -- the end after it
   read_end : HasNoMoves message → row.operation ≡ 5 → ReadOperations words key message bits (record message { commands = row.commands }, left)
   read_end none is = record {
     added = was.added;
     commands = was.spells.text;
     nops = was.spells.nops;
     section = [];
-    behind = [];
+    nops_after = [];
     id = refl;
     acknowledged = refl;
     command = refl;
@@ -167,11 +167,11 @@ module _ (words : List (List Bool)) (key : ℕ) (message : Message) (bits left :
     of_commands = was.spells.of_commands;
     of_nops = was.spells.of_nops;
     of_section = none_spelled words key message.delta message.moves none.delta none.moves;
-    of_behind = (0, row-empty words);
+    of_after = (0, row-empty words);
     parts = row_parts 5 is;
   }
 
-  -- moves behind it, and the end behind these
+  -- moves after it, and the end after these
   read_moves : (delta : Bool) (section : List Move × List Bool) (rest : List Bool) → row.operation ≡ move_operation delta → ReadSection words key left section
       → (ending : List Bool) × (section.1 ≡ ending ++ rest) × SpellsEnding words 5 ending
       → ReadOperations words key message bits (record message { commands = row.commands; delta = delta; moves = section.0 }, rest)
@@ -179,19 +179,19 @@ module _ (words : List (List Bool)) (key : ℕ) (message : Message) (bits left :
       let operation = move_operation delta in
       let fields : List (ℕ × ℕ) = (length section.0, 8) ∷ [] in
       let front = row_bits words ((operation, 8) ∷ fields) in
-      let behind = spelled.0 ++ (end words ++ rest) in
-      let ends : section.1 ≡ behind = parts ∙ ap (λ (text : List Bool). text ++ rest) spelled.2 ∙ append_assoc spelled.0 (end words) rest in
+      let left_after = spelled.0 ++ (end words ++ rest) in
+      let ends : section.1 ≡ left_after = parts ∙ ap (λ (text : List Bool). text ++ rest) spelled.2 ∙ append_assoc spelled.0 (end words) rest in
       let inner =
       ap (λ (left : List Bool). row_bits words ((operation, 8) ∷ []) ++ left) read.parts
-      ∙ sym (row-behind words operation 8 fields (read.text ++ section.1))
+      ∙ sym (row-after words operation 8 fields (read.text ++ section.1))
       ∙ ap (λ (left : List Bool). front ++ (read.text ++ left)) ends
-      ∙ sym (append_assoc front read.text behind) in
+      ∙ sym (append_assoc front read.text left_after) in
       record {
         added = was.added;
         commands = was.spells.text;
         nops = was.spells.nops;
         section = front ++ read.text;
-        behind = spelled.0;
+        nops_after = spelled.0;
         id = refl;
         acknowledged = refl;
         command = refl;
@@ -204,7 +204,7 @@ module _ (words : List (List Bool)) (key : ℕ) (message : Message) (bits left :
         of_commands = was.spells.of_commands;
         of_nops = was.spells.of_nops;
         of_section = some_spelled words key delta section.0 read.text read.some read.few read.spells;
-        of_behind = spelled.1;
+        of_after = spelled.1;
         parts = row_parts operation is ∙ ap (λ (left : List Bool). was.spells.text ++ (was.spells.nops ++ left)) inner;
       }
 
@@ -292,17 +292,17 @@ heads_were_spelled put words code bits found e =
 abbrev pub start_of : Heads → Message
 start_of heads = record empty_message { id = heads.id; acknowledged = heads.acknowledged; command = heads.command }
 
-message_behind : (words : List (List Bool)) (key : ℕ) (message : Message) (bits rest : List Bool) (heads : Heads × List Bool) → ReadHeads words bits heads
+message_after : (words : List (List Bool)) (key : ℕ) (message : Message) (bits rest : List Bool) (heads : Heads × List Bool) → ReadHeads words bits heads
     → ReadOperations words key (start_of heads.0) heads.1 (message, rest) → IsMessage message × (text : List Bool) × (bits ≡ text ++ rest) × SpellsMessage words key message text
-message_behind words key message bits rest heads were read =
+message_after words key message bits rest heads were read =
     let longs = λ (id acknowledged command : ℕ). row_bits words ((id, 32) ∷ (acknowledged, 32) ∷ (command, 32) ∷ []) in
     let id = subst (λ (n : ℕ). n < 2 ^ 32) (sym read.id) were.id in
     let acknowledged = subst (λ (n : ℕ). n < 2 ^ 32) (sym read.acknowledged) were.acknowledged in
     let command = subst (λ (n : ℕ). n < 2 ^ 32) (sym read.command) were.command in
     let nops = read.nops in
-    let behind = read.behind in
+    let nops_after = read.nops_after in
     let section = read.section in
-    let left = read.commands ++ (nops ++ (section ++ (behind ++ (end words ++ rest)))) in
+    let left = read.commands ++ (nops ++ (section ++ (nops_after ++ (end words ++ rest)))) in
     let front : bits ≡ longs message.id message.acknowledged message.command ++ left =
     were.parts
     ∙ ap (λ (n : ℕ). longs n heads.0.acknowledged heads.0.command ++ heads.1) (sym read.id)
@@ -319,7 +319,7 @@ message_behind words key message bits rest heads were read =
         moves = read.moves;
         whole = read.whole;
       },
-      longs message.id message.acknowledged message.command ++ (read.commands ++ nops ++ section ++ (behind ++ end words)),
+      longs message.id message.acknowledged message.command ++ (read.commands ++ nops ++ section ++ (nops_after ++ end words)),
       front ∙ simp append_assoc,
       record {
         id = id;
@@ -327,15 +327,15 @@ message_behind words key message bits rest heads were read =
         command = command;
         few = read.few;
         section = section;
-        operations = read.commands ++ nops ++ section ++ (behind ++ end words);
+        operations = read.commands ++ nops ++ section ++ (nops_after ++ end words);
         of_section = read.of_section;
         of_operations = record {
           text = read.commands;
           nops = nops;
-          ending = behind ++ end words;
+          ending = nops_after ++ end words;
           of_commands = subst (λ (commands : List Command). SpellsCommands words 4 commands read.commands) (sym read.all) read.of_commands;
           of_nops = read.of_nops;
-          of_ending = (behind, read.of_behind, refl);
+          of_ending = (nops_after, read.of_after, refl);
           whole = refl;
         };
         whole = refl;
@@ -348,4 +348,4 @@ message_was_spelled put row_law ending_law words key message bits rest code fits
     let heads = bind_ok (fault_as Bits (heads_at words bits)) (λ heads. operations_at words key (start_of heads.0) heads.1) (message, rest) e in
     let were = heads_were_spelled put words code bits heads.0 (map_err_ok Bits (heads_at words bits) heads.0 heads.1) in
     let read = operations_were_spelled put row_law ending_law words code key (start_of heads.0.0) heads.0.1 (message, rest) (record { delta = refl; moves = refl }) (omega arith) heads.2 in
-    message_behind words key message bits rest heads.0 were read
+    message_after words key message bits rest heads.0 were read

@@ -1,4 +1,4 @@
--- Moves, each behind the one before.
+-- Moves, each after the one before.
 use Rattle.std.proofs.Common.{◌≡◌, ℕ, suc, ◌+◌, ◌≤◌, ◌<◌, Bool, List, [], ◌∷◌, ◌++◌, length, drop, get_or, Ok, Err, refl, sym}
 use Rattle.std.proofs.lemmas.List.{drop_more, drop_all}
 use Rattle.q3_bits.specs.declared.reader.ReadError.{ReadError}

@@ -15,7 +15,7 @@ use Rattle.q3_clmsg.proofs.Steps.{fields_are, fields_long, fields_back, fields_g
 use Rattle.q3_clmsg.proofs.TimeSpelled.{time_is_spelled, ReadTime, time_was_spelled, time_is_read}
 use Rattle.q3_clmsg.proofs.FieldsSpelled.{fields_are_spelled, ReadFields, fields_were_spelled, fields_are_read}
 
--- what stands behind a move's time: nothing else changed, or the fields
+-- what follows a move's time: nothing else changed, or the fields
 abbrev SpellsRest : List (List Bool) → ℕ → Move → Move → List Bool → Type 0
 SpellsRest words key from to rest =
     ((to ≡ record from { time = to.time }) × (rest ≡ field_bits words 1 0))
@@ -70,7 +70,7 @@ moves_are_spelled words key from (one ∷ moves) is each =
 
 -- ---- what is read
 
--- a move that was read behind another
+-- a move that was read after another
 record ReadMove (words : List (List Bool)) (key : ℕ) (from : Move) (bits : List Bool) (found : Move × List Bool) : Type 0 where
   text : List Bool
   spells : SpellsMove words key from found.0 text
@@ -132,11 +132,11 @@ move_was_spelled : ReadWasPut → (words : List (List Bool)) → IsCode words �
     → move_at words key from bits ≡ Ok found → ReadMove words key from bits found
 unfolding move_at
 move_was_spelled put words code key from bits found is e =
-    let behind = λ (time : ℕ × List Bool) (changed : ℕ × List Bool).
+    let after = λ (time : ℕ × List Bool) (changed : ℕ × List Bool).
     cond (eqb changed.0 0) (Ok (record from { time = time.0 }, changed.1))
     (fields_at words (move_key key time.0) move_widths (fields_of from) changed.1 >>= λ fields. Ok (move_of time.0 fields.0, fields.1)) in
-    let time = bind_ok (time_at words from.time bits) (λ time. field_at words 1 time.1 >>= λ changed. behind time changed) found e in
-    let changed = bind_ok (field_at words 1 time.0.1) (λ changed. behind time.0 changed) found time.2 in
+    let time = bind_ok (time_at words from.time bits) (λ time. field_at words 1 time.1 >>= λ changed. after time changed) found e in
+    let changed = bind_ok (field_at words 1 time.0.1) (λ changed. after time.0 changed) found time.2 in
     let of_time = time_was_spelled put words code from.time bits time.0 time.1 in
     elim (cases_Bool (eqb changed.0.0 0)) [
       | inl same ↦
@@ -153,7 +153,7 @@ move_was_spelled put words code key from bits found is e =
           (move_marked put words code key from bits time.0 changed.0 fields.0 of_time changed.1 (omega (arith, eqb-false changed.0.0 0 other)) were)
     ]
 
--- moves that were read, each behind the one before
+-- moves that were read, each after the one before
 pub record ReadMoves (words : List (List Bool)) (key count : ℕ) (from : Move) (bits : List Bool) (found : List Move × List Bool) : Type 0 where
   pub long : length found.0 ≡ count
   pub each : All IsMove found.0
@@ -194,11 +194,11 @@ move_is_read put words code key from to text rest s =
           rw (same, time_is_read put words code from.time to.time s.time (s.rest ++ rest) s.of_time, only.1, put words 1 0 rest code (omega arith))
           (ap (λ (one : Move). Ok (one, rest)) (sym only.0))
       | inr some ↦
-          let behind : s.rest ++ rest ≡ field_bits words 1 1 ++ (some.1 ++ rest) = ap (λ (text : List Bool). text ++ rest) some.4 ∙ append_assoc (field_bits words 1 1) some.1 rest in
+          let after : s.rest ++ rest ≡ field_bits words 1 1 ++ (some.1 ++ rest) = ap (λ (text : List Bool). text ++ rest) some.4 ∙ append_assoc (field_bits words 1 1) some.1 rest in
           rw (
             same,
             time_is_read put words code from.time to.time s.time (s.rest ++ rest) s.of_time,
-            behind,
+            after,
             put words 1 1 (some.1 ++ rest) code (omega arith),
             fields_are_read put words code (move_key key to.time) move_widths (fields_of from) some.0 some.1 rest some.3,
           )

@@ -41,21 +41,21 @@ step_fits (negsuc n) is = omega (arith, ints)
 
 -- ---- a move as its fields
 
--- what is behind the angles
-abbrev behind_angles : Move → List ℕ
-behind_angles one = cast_unsigned w8 one.forward ∷ cast_unsigned w8 one.right ∷ cast_unsigned w8 one.up ∷ one.buttons ∷ one.weapon ∷ []
+-- what follows the angles
+abbrev after_angles : Move → List ℕ
+after_angles one = cast_unsigned w8 one.forward ∷ cast_unsigned w8 one.right ∷ cast_unsigned w8 one.up ∷ one.buttons ∷ one.weapon ∷ []
 
 -- its fields fit their widths, as many as there are
 pub fields_are : (one : Move) → IsMove one → AreFields move_widths (fields_of one)
 fields_are one is = go one.angles is.three is.angles
   where
-    go : (angles : List ℕ) → length angles ≡ 3 → All (λ angle. angle < 2 ^ 16) angles → AreFields move_widths (angles ++ behind_angles one)
+    go : (angles : List ℕ) → length angles ≡ 3 → All (λ angle. angle < 2 ^ 16) angles → AreFields move_widths (angles ++ after_angles one)
     go (a ∷ b ∷ c ∷ []) three each =
-        let behind = All-tail (λ (angle : ℕ). angle < 2 ^ 16) a (b ∷ c ∷ []) each in
-        let last = All-tail (λ (angle : ℕ). angle < 2 ^ 16) b (c ∷ []) behind in (
+        let after = All-tail (λ (angle : ℕ). angle < 2 ^ 16) a (b ∷ c ∷ []) each in
+        let last = All-tail (λ (angle : ℕ). angle < 2 ^ 16) b (c ∷ []) after in (
           All-head (λ (angle : ℕ). angle < 2 ^ 16) a (b ∷ c ∷ []) each,
           (
-            All-head (λ (angle : ℕ). angle < 2 ^ 16) b (c ∷ []) behind,
+            All-head (λ (angle : ℕ). angle < 2 ^ 16) b (c ∷ []) after,
             (
               All-head (λ (angle : ℕ). angle < 2 ^ 16) c [] last,
               (step_fits one.forward is.forward, (step_fits one.right is.right, (step_fits one.up is.up, (is.buttons, (is.weapon, tt))))),
@@ -65,13 +65,13 @@ fields_are one is = go one.angles is.three is.angles
     go angles three each = absurd (omega (arith, three))
 
 pub fields_long : (one : Move) → IsMove one → length (fields_of one) ≡ length move_widths
-fields_long one is = length-append one.angles (behind_angles one) ∙ ap (λ (n : ℕ). n + 5) is.three
+fields_long one is = length-append one.angles (after_angles one) ∙ ap (λ (n : ℕ). n + 5) is.three
 
 -- they give it back, with any time
 pub fields_back : (time : ℕ) (one : Move) → IsMove one → move_of time (fields_of one) ≡ record one { time = time }
 fields_back time one is =
     let three = three_values one.angles is.three in
-    ap (λ (angles : List ℕ). move_of time (angles ++ behind_angles one)) three
+    ap (λ (angles : List ℕ). move_of time (angles ++ after_angles one)) three
     ∙ rw (step_back one.forward is.forward, step_back one.right is.right, step_back one.up is.up) (rw (← three) refl)
 
 -- fields that fit give a move

@@ -6,19 +6,19 @@ use Rattle.q3_bits.specs.ResultBind.{◌>>=◌, bind_ok}
 use Rattle.q3_bits.specs.Words.{IsCode, row_bits, field_at}
 use Rattle.q3_bits.specs.Laws.{PutIsRead, ReadWasPut}
 use Rattle.q3_strings.specs.Rows.{row-none, field_was_put, row-first, row-last}
-use Rattle.q3_clmsg.specs.Moves.{behind, time_bits, time_at}
+use Rattle.q3_clmsg.specs.Moves.{time_since, time_bits, time_at}
 use Rattle.q3_clmsg.specs.Spelling.{SpellsTime}
 
--- a time is as far behind another as it says
-far_enough : (from to : ℕ) → from < 2 ^ 32 → to < 2 ^ 32 → to ≡ (from + behind from to) % 2 ^ 32
+-- a time is as far after another as it says
+far_enough : (from to : ℕ) → from < 2 ^ 32 → to < 2 ^ 32 → to ≡ (from + time_since from to) % 2 ^ 32
 far_enough from to fits fits' = omega arith
 
 pub time_is_spelled : (words : List (List Bool)) (from to : ℕ) → from < 2 ^ 32 → to < 2 ^ 32 → SpellsTime words from to (time_bits words from to)
 time_is_spelled words from to fits fits' =
-    elim (cases_Bool (ltb (behind from to) 256)) [
+    elim (cases_Bool (ltb (time_since from to) 256)) [
       | inl near ↦
-          let short : behind from to < 256 = grind (arith, nat_tests) in
-          rw near (inl (behind from to, short, far_enough from to fits fits', refl))
+          let short : time_since from to < 256 = grind (arith, nat_tests) in
+          rw near (inl (time_since from to, short, far_enough from to fits fits', refl))
       | inr far ↦ rw far (inr (fits', refl))
     ]
 
@@ -38,27 +38,27 @@ time_was_spelled put words code from bits found e =
     let was = field_was_put put words 1 bits near.0 code near.1 in
     elim (cases_Bool (eqb near.0.0 0)) [
       | inl whole ↦
-          let behind = field_was_put put words 32 near.0.1 found code (rw whole at near.2) in
+          let after = field_was_put put words 32 near.0.1 found code (rw whole at near.2) in
           record {
             text = row_bits words ((0, 1) ∷ (found.0, 32) ∷ []);
-            spells = inr (behind.fits, refl);
-            fits = behind.fits;
+            spells = inr (after.fits, refl);
+            fits = after.fits;
             parts =
-                was.row ((found.0, 32) ∷ []) found.1 (behind.row [] found.1 (row-none words found.1))
+                was.row ((found.0, 32) ∷ []) found.1 (after.row [] found.1 (row-none words found.1))
                 ∙ ap (λ (mark : ℕ). row_bits words ((mark, 1) ∷ (found.0, 32) ∷ []) ++ found.1) (eqb-true near.0.0 0 whole);
           }
       | inr short ↦
           let difference = bind_ok (field_at words 8 near.0.1) (λ difference. Ok ((from + difference.0) % 2 ^ 32, difference.1)) found (rw short at near.2) in
-          let behind = field_was_put put words 8 near.0.1 difference.0 code difference.1 in
+          let after = field_was_put put words 8 near.0.1 difference.0 code difference.1 in
           let mark : near.0.0 ≡ 1 = omega (arith, was.fits, eqb-false near.0.0 0 short) in
           let made = difference.2 in
           let same : ((from + difference.0.0) % 2 ^ 32, difference.0.1) ≡ found = cc in
           subst (ReadTime words from bits) {x = ((from + difference.0.0) % 2 ^ 32, difference.0.1)} same (record {
             text = row_bits words ((1, 1) ∷ (difference.0.0, 8) ∷ []);
-            spells = inl (difference.0.0, behind.fits, refl, refl);
+            spells = inl (difference.0.0, after.fits, refl, refl);
             fits = omega arith;
             parts =
-                was.row ((difference.0.0, 8) ∷ []) difference.0.1 (behind.row [] difference.0.1 (row-none words difference.0.1))
+                was.row ((difference.0.0, 8) ∷ []) difference.0.1 (after.row [] difference.0.1 (row-none words difference.0.1))
                 ∙ ap (λ (mark : ℕ). row_bits words ((mark, 1) ∷ (difference.0.0, 8) ∷ []) ++ difference.0.1) mark;
           })
     ]

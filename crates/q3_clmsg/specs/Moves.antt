@@ -93,13 +93,13 @@ hidden key width field = bit_xor field (key % 2 ^ width)
 -- ---- what is written
 
 -- how far a time is after another, modulo 2^32
-abbrev pub behind : ℕ → ℕ → ℕ
-behind from to = (to + 2 ^ 32 - from) % 2 ^ 32
+abbrev pub time_since : ℕ → ℕ → ℕ
+time_since from to = (to + 2 ^ 32 - from) % 2 ^ 32
 
 -- the time: bit 1 and the difference in 8 bits where it is below 256, or bit 0 and the time
 abbrev pub time_bits : List (List Bool) → ℕ → ℕ → List Bool
 time_bits words from to =
-    if nat_lt (behind from to) 256 then row_bits words ((1, 1) ∷ (behind from to, 8) ∷ []) else row_bits words ((0, 1) ∷ (to, 32) ∷ [])
+    if nat_lt (time_since from to) 256 then row_bits words ((1, 1) ∷ (time_since from to, 8) ∷ []) else row_bits words ((0, 1) ∷ (to, 32) ∷ [])
 
 -- a field: bit 0 where it is as it was, or bit 1 and the field, hidden
 abbrev pub field_delta : List (List Bool) → ℕ → ℕ → ℕ → ℕ → List Bool

@@ -1,4 +1,4 @@
--- What is left behind a snapshot that was read against its base.
+-- What is left after a snapshot that was read against its base.
 use Rattle.std.proofs.Common.{◌≡◌, ℕ, Bool, true, false, if◌then◌else◌, refl, sym, subst}
 use Rattle.q3_entity_ring.specs.Snapshot.{Snapshot}
 use Rattle.q3_rings.specs.Rings.{accept_at, held_snapshot}
@@ -21,5 +21,5 @@ skip_state state number base true = refl
 skip_state state number base false = refl
 
 -- what holds of one state holds of the same under another name
-pub stands_as : (behind state : AppliedState) → IsApplied behind → state ≡ behind → IsApplied state
-stands_as behind state is same = subst IsApplied (sym same) is
+pub stands_as : (after state : AppliedState) → IsApplied after → state ≡ after → IsApplied state
+stands_as after state is same = subst IsApplied (sym same) is

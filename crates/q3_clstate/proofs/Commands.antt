@@ -1,4 +1,4 @@
--- Settings behind commands.
+-- Settings after commands.
 use Rattle.std.proofs.Common.{◌≡◌, ℕ, ◌+◌, ◌<◌, List, ◌∷◌, length, get_or, drop, refl, sym, ap, ◌∙◌}
 use Rattle.std.proofs.lemmas.List.{drop_more}
 use Rattle.q3_text.specs.declared.text.Command.{Command}

@@ -8,11 +8,11 @@ use Rattle.q3_text.specs.Texts.{IsText}
 use Rattle.q3_text.specs.Info.{info_of}
 use Rattle.q3_text.specs.Decimals.{is_decimal, value_of, number_at, info_number}
 use Rattle.q3_strings.specs.Laws.{IsCommand}
-use Rattle.q3_window.specs.Incoming.{IncomingState, executing, fresh_of, behind}
+use Rattle.q3_window.specs.Incoming.{IncomingState, executing, fresh_of, executed_all}
 use Rattle.q3_config.specs.Strings.{Strings, AreStrings, string_at, server_id}
 use Rattle.q3_config.specs.Changes.{after_command}
 use Rattle.q3_config.specs.Laws.{HoldTexts}
-use Rattle.q3_clstate.specs.State.{AppliedState, Settings, id_in, settled, tells_id, after_texts, settings_behind, hearing}
+use Rattle.q3_clstate.specs.State.{AppliedState, Settings, id_in, settled, tells_id, after_texts, settings_after, hearing}
 use Rattle.q3_clstate.specs.Standing.{IsApplied}
 use Rattle.q3_clstate.proofs.Below.{Below}
 
@@ -80,12 +80,12 @@ record IsWindow (window : IncomingState) : Type 0 where
   number : window.executed < 2 ^ 32
   last : IsText window.last
 
-behind_is : (window : IncomingState) (commands : List Command) → IsWindow window → All IsCommand commands → IsWindow (behind window commands)
-unfolding behind
-behind_is window [] is each = is
-behind_is window (command ∷ commands) is each =
+executed_all_is : (window : IncomingState) (commands : List Command) → IsWindow window → All IsCommand commands → IsWindow (executed_all window commands)
+unfolding executed_all
+executed_all_is window [] is each = is
+executed_all_is window (command ∷ commands) is each =
     let first = All-head IsCommand command commands each in
-    behind_is (executing command) commands (record { number = first.number; last = first.text }) (All-tail IsCommand command commands each)
+    executed_all_is (executing command) commands (record { number = first.number; last = first.text }) (All-tail IsCommand command commands each)
 
 -- ---- a state whose commands are executed
 
@@ -94,7 +94,7 @@ hearing_stays below state commands each is =
     let fresh = fresh_are state.executed.executed commands each in
     let settings = texts_are below (record { strings = state.strings; id = state.id }) (fresh_of state.executed.executed commands)
     (record { strings = is.strings; texts = is.texts; id = is.id }) fresh in
-    let window = behind_is state.executed (fresh_of state.executed.executed commands) (record { number = is.executed; last = is.last }) fresh in
+    let window = executed_all_is state.executed (fresh_of state.executed.executed commands) (record { number = is.executed; last = is.last }) fresh in
     record {
       profile = is.profile;
       number = is.number;

@@ -63,7 +63,7 @@ context_is state is = record {
 
 -- ---- a snapshot is accepted
 
--- what is held of one behind which others were placed
+-- what is held of one after which others were placed
 older_is : (profile : Profile) (ring count : ℕ) (held : HeldSnapshot) → IsWellHeld profile ring held → IsWellHeld profile ring (older ring count held)
 older_is profile ring count held is =
     let more : HeldSnapshot = record held { age = held.age + count } in

@@ -6,7 +6,7 @@ use Rattle.q3_rings.specs.declared.rings.NoBase.{NoBase}
 use Rattle.q3_clstate.specs.declared.applied.SnapOutcome.TheVariants.{Skipped}
 use Rattle.q3_clstate.specs.Report.{cause_text, outcome_text}
 
--- its front, and behind it the cause
+-- its front, and after it the cause
 pub skipped_line : (number base : ℕ) (cause : NoBase)
     → outcome_text number (Skipped base cause)
     ≡ concat (codes "+ skipped " ∷ decimal number ∷ codes " base " ∷ decimal base ∷ codes " " ∷ []) ++ (cause_text cause ++ codes "\n")

@@ -21,7 +21,7 @@ use Rattle.q3_entity_ring.specs.Snapshot.{Snapshot}
 use Rattle.q3_clstate.specs.declared.applied.SnapOutcome.{SnapOutcome}
 use Rattle.q3_clstate.specs.declared.applied.SnapOutcome.TheVariants.{NoSnap, Skipped as SkippedFor, Stale}
 use Rattle.q3_rings.specs.Rings.{held_snapshot}
-use Rattle.q3_clstate.specs.State.{AppliedState, new_state, context_of, Application, passes, accepts, after_gamestate, applies_game, is_stale, skipped_for, apply_section, hearing, apply_read, apply_at, state_behind}
+use Rattle.q3_clstate.specs.State.{AppliedState, new_state, context_of, Application, passes, accepts, after_gamestate, applies_game, is_stale, skipped_for, apply_section, hearing, apply_read, apply_at, state_after_message}
 use Rattle.q3_clstate.specs.Standing.{IsApplied}
 use Rattle.q3_clstate.proofs.Below.{Below}
 use Rattle.q3_clstate.proofs.Hearing.{id_below, hearing_stays}
@@ -69,7 +69,7 @@ passes_stays state number outcome fits is = record {
   snapshots = is.snapshots;
 }
 
--- behind a gamestate
+-- after a gamestate
 record IsWindow (window : IncomingState) : Type 0 where
   number : window.executed < 2 ^ 32
   last : IsText window.last
@@ -102,7 +102,7 @@ game_stays below state number game fits is_game is =
       snapshots = none_is state.profile state.held.ring;
     }
 
--- behind a snapshot that is newer than all others
+-- after a snapshot that is newer than all others
 accepts_stays : Below → (state : AppliedState) (number base : ℕ) (snapshot : Snapshot) → number < 2 ^ 32 → state.held.newest < snapshot.head.number
     → held.IsRead state.profile snapshot → IsApplied state → IsApplied (accepts state number base snapshot).state
 accepts_stays below state number base snapshot fits newer read is = record {
@@ -122,7 +122,7 @@ accepts_stays below state number base snapshot fits newer read is = record {
   snapshots = accepted_are state.profile state.held snapshot is.held read is.snapshots;
 }
 
--- behind any section that was read
+-- after any section that was read
 section_stays : Below → (state : AppliedState) (context : Context) (number : ℕ) (section : Told) → number < 2 ^ 32 → IsReadTold state.profile context section
     → HasNumber number section → IsApplied state → IsApplied (apply_section state number section).state
 section_stays below state context number Nothing fits read under is = passes_stays state number NoSnap fits is
@@ -138,16 +138,16 @@ section_stays below state context number (Skipped base) fits read under is =
     cond_both (is_stale state.held number) (passes state number Stale) (passes state number outcome) (λ applied. IsApplied applied.state)
     (λ stale. passes_stays state number Stale fits is) (λ fresh. passes_stays state number outcome fits is)
 
--- behind a message that was read
+-- after a message that was read
 read_stays : Below → (state : AppliedState) (context : Context) (number : ℕ) (message : Message) → number < 2 ^ 32 → IsRead state.profile context number message
     → IsApplied state → IsApplied (apply_read state number message).state
 read_stays below state context number message fits read is =
     section_stays below (hearing state message.commands) context number message.section fits read.section read.number_is
     (hearing_stays below state message.commands read.commands is)
 
--- behind any bytes
+-- after any bytes
 pub bytes_stay : Below → (state : AppliedState) (number : ℕ) (message : List ℕ) → number < 2 ^ 32 → IsApplied state
-    → IsApplied (state_behind state (apply_at state number message))
+    → IsApplied (state_after_message state (apply_at state number message))
 bytes_stay below state number message fits is = of_read (server_message_in state.profile context number (bits_of message)) refl
   where
     context : Context
@@ -160,7 +160,7 @@ bytes_stay below state number message fits is = of_read (server_message_in state
     same x y e = cc
 
     of_read : (r : Result Message Illegible) → server_message_in state.profile context number (bits_of message) ≡ r
-        → IsApplied (state_behind state (r >>= λ read. Ok (apply_read state number read)))
+        → IsApplied (state_after_message state (r >>= λ read. Ok (apply_read state number read)))
     of_read (Err e) answer = is
     of_read (Ok read) answer =
         let found = bind_ok (server_message_at state.profile context number (bits_of message)) (λ read. Ok read.0) read answer in

@@ -17,7 +17,7 @@ use Rattle.q3_entity_ring.specs.Places.{most_places, place_of, no_places}
 use Rattle.q3_rings.specs.Rings.{HeldSnapshot, HeldSnapshots, held_snapshot, held_remains, is_young, older, accept_at}
 use Rattle.q3_clstate.specs.declared.applied.SnapOutcome.{SnapOutcome}
 use Rattle.q3_clstate.specs.declared.applied.SnapOutcome.TheVariants.{NoSnap, Skipped as SkippedFor, Stale}
-use Rattle.q3_clstate.specs.State.{AppliedState, new_state, context_of, passes, accepts, applies_game, is_stale, skipped_for, apply_section, hearing, apply_read, apply_at, state_behind}
+use Rattle.q3_clstate.specs.State.{AppliedState, new_state, context_of, passes, accepts, applies_game, is_stale, skipped_for, apply_section, hearing, apply_read, apply_at, state_after_message}
 use Rattle.q3_clstate.specs.Standing.{IsApplied}
 use Rattle.q3_clstate.specs.Saving.{IsWithin}
 use Rattle.q3_clstate.proofs.HeldStays.{context_is}
@@ -94,7 +94,7 @@ new_within profile = record { number = omega arith; newest = omega arith; ages =
 
 -- any bytes
 pub bytes_within : ReadIsSpelled → (state : AppliedState) (most number : ℕ) (message : List ℕ) → number < 2 ^ 31 → IsApplied state → IsWithin most state
-    → IsWithin (most + most_entities) (state_behind state (apply_at state number message))
+    → IsWithin (most + most_entities) (state_after_message state (apply_at state number message))
 bytes_within law state most number message fits is within = of_read (server_message_in state.profile context number (bits_of message)) refl
   where
     context : Context
@@ -107,7 +107,7 @@ bytes_within law state most number message fits is within = of_read (server_mess
     same x y e = cc
 
     of_read : (r : Result Message Illegible) → server_message_in state.profile context number (bits_of message) ≡ r
-        → IsWithin (most + most_entities) (state_behind state (r >>= λ read. Ok (apply_read state number read)))
+        → IsWithin (most + most_entities) (state_after_message state (r >>= λ read. Ok (apply_read state number read)))
     of_read (Err e) answer = record { number = within.number; newest = within.newest; ages = longer most most_entities state.held.places within.ages }
     of_read (Ok read) answer =
         let found = bind_ok (server_message_at state.profile context number (bits_of message)) (λ read. Ok read.0) read answer in

@@ -27,9 +27,9 @@ pub record Stands (s : Inside) : Type 0 where
   pub applied : IsApplied (state_in s)
   pub none : s.holding.rings.begun ≡ None
 
--- what is held behind a snapshot that was read, and what is told of it
-abbrev pub held_behind : HeldSnapshots → ℕ → Snapshot → HeldSnapshots
-held_behind held number snapshot = if is_stale held number then held else accept_at held snapshot
+-- what is held after a snapshot that was read, and what is told of it
+abbrev pub held_after : HeldSnapshots → ℕ → Snapshot → HeldSnapshots
+held_after held number snapshot = if is_stale held number then held else accept_at held snapshot
 
 abbrev pub read_outcome : HeldSnapshots → ℕ → ℕ → SnapOutcome
 read_outcome held number base = if is_stale held number then Stale else Accepted base

@@ -4,18 +4,18 @@ use Rattle.q3_profile.specs.declared.profile.Profile.{Profile}
 use Rattle.q3_profile.specs.Profile.{IsCodec}
 use Rattle.q3_svmsg.specs.Values.{Context}
 use Rattle.q3_svmsg.specs.Laws.{IsContext}
-use Rattle.q3_clstate.specs.State.{AppliedState, new_state, context_of, apply_at, state_behind}
+use Rattle.q3_clstate.specs.State.{AppliedState, new_state, context_of, apply_at, state_after_message}
 use Rattle.q3_entity.specs.Entities.{most_entities}
 use Rattle.q3_savestate.specs.State.{Saved, state_bytes, state_at}
 use Rattle.q3_savestate.specs.Standing.{IsSaved}
 use Rattle.q3_clstate.specs.Standing.{IsApplied}
 use Rattle.q3_clstate.specs.Saving.{saved_in, applied_by, IsWithin}
 
--- all that a state holds is well formed and in range: at first, and behind any bytes as a message of any number
+-- all that a state holds is well formed and in range: at first, and after any bytes as a message of any number
 pub record ApplyStays : Type 0 where
   pub none : (profile : Profile) → IsCodec profile → 512 ≤ profile.parse_ring → IsApplied (new_state profile)
   pub apply : (state : AppliedState) (number : ℕ) (message : List ℕ) → number < 2 ^ 32 → IsApplied state
-      → IsApplied (state_behind state (apply_at state number message))
+      → IsApplied (state_after_message state (apply_at state number message))
 
 -- and so is what a message is read against
 abbrev pub AppliedIsContext : Type 0
@@ -25,7 +25,7 @@ AppliedIsContext = (state : AppliedState) → IsApplied state → IsContext stat
 pub record WithinStays : Type 0 where
   pub none : (profile : Profile) → IsWithin 0 (new_state profile)
   pub apply : (state : AppliedState) (most number : ℕ) (message : List ℕ) → number < 2 ^ 31 → IsApplied state → IsWithin most state
-      → IsWithin (most + most_entities) (state_behind state (apply_at state number message))
+      → IsWithin (most + most_entities) (state_after_message state (apply_at state number message))
 
 -- what is saved of a state is well formed and in range, and what is so saved is that of a state
 pub record SavedIsApplied : Type 0 where

@@ -36,7 +36,7 @@ game_text state false = []
 game_text state true =
     concat (codes "+ gamestate id " ∷ decimal state.id ∷ codes " slot " ∷ decimal state.slot ∷ codes " feed " ∷ decimal state.feed ∷ codes "\n" ∷ [])
 
--- the lines under an applied message, by the state behind it: its commands that were executed, its gamestate, and what became of its
+-- the lines under an applied message, by the state after it: its commands that were executed, its gamestate, and what became of its
 -- snapshot
 abbrev pub applied_text : AppliedState → Applied → List Command → List ℕ
 applied_text state applied commands =
@@ -57,7 +57,7 @@ head_text head = concat (start_text head ∷ hex_word head.area.items ∷ codes 
 abbrev pub entity_text : EntityState → List ℕ
 entity_text entity = concat (codes "+ entity " ∷ decimal entity.number ∷ fields_text entity.words ∷ codes "\n" ∷ [])
 
--- a snapshot, behind the word for whose it is: its head, the player in a line of its own, and each entity in one
+-- a snapshot, after the word for whose it is: its head, the player in a line of its own, and each entity in one
 abbrev pub snapshot_text : Snapshot → List ℕ
 snapshot_text snapshot =
     concat (head_text snapshot.head ∷ player_text snapshot.head.player ∷ codes "\n" ∷ flat_map entity_text snapshot.entities ∷ [])

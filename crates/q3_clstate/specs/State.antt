@@ -155,18 +155,18 @@ unfoldable pub after_texts : Settings → List Command → Settings
 after_texts settings [] = settings
 after_texts settings (command ∷ commands) = after_texts (settled settings.id (tells_id command.text) (after_command settings.strings command.text)) commands
 
--- the config strings and the id behind the commands of a message that are executed
-abbrev pub settings_behind : AppliedState → List Command → Settings
-settings_behind state commands =
+-- the config strings and the id after the commands of a message that are executed
+abbrev pub settings_after : AppliedState → List Command → Settings
+settings_after state commands =
     after_texts (record { strings = state.strings; id = state.id }) (fresh_of state.executed.executed commands)
 
 -- the state once the commands of a message are executed: those above the last one executed, also across a gap
 abbrev pub hearing : AppliedState → List Command → AppliedState
 hearing state commands =
-    let settings = settings_behind state commands in
+    let settings = settings_after state commands in
     record state { executed = executes state.executed commands; strings = settings.strings; id = settings.id }
 
--- what was applied behind these commands, of which those above the last one executed were executed
+-- what was applied after these commands, of which those above the last one executed were executed
 abbrev pub heard_with : AppliedState → List Command → Application → Application
 heard_with state commands applied = record applied { heard = fresh_of state.executed.executed commands }
 
@@ -181,10 +181,10 @@ apply_at state number message = do
   read ← server_message_in state.profile (context_of state.held state.baselines) number (bits_of message)
   Ok (apply_read state number read)
 
--- the state behind bytes: what isn't legible changes nothing
-abbrev pub state_behind : AppliedState → Result Application Illegible → AppliedState
-state_behind state (Ok applied) = applied.state
-state_behind state (Err e) = state
+-- the state after bytes: what isn't legible changes nothing
+abbrev pub state_after_message : AppliedState → Result Application Illegible → AppliedState
+state_after_message state (Ok applied) = applied.state
+state_after_message state (Err e) = state
 
 -- and what is answered
 abbrev pub answered : Result Application Illegible → Result Applied Illegible

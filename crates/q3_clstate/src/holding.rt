@@ -5,7 +5,7 @@ ghost use Rattle.q3_entity.specs.Baselines.{no_baselines};
 ghost use Rattle.q3_entity.specs.Entities.{Rises};
 ghost use Rattle.q3_rings.specs.Rings.{no_snapshots, held_snapshot};
 ghost use Rattle.q3_clstate.specs.State.{is_stale, skipped_for};
-ghost use Rattle.q3_clstate.specs.Kept.{held_behind, read_outcome, skipped_outcome};
+ghost use Rattle.q3_clstate.specs.Kept.{held_after, read_outcome, skipped_outcome};
 
 use crate::applied::SnapOutcome;
 use q3_bits::NoMemory;
@@ -54,7 +54,7 @@ impl Holding {
         requires number { message.now.head.number ≡ number }
         requires rises { Rises message.now.entities.value.items }
         requires none { self.old.rings.begun ≡ None }
-        ensures held { self.new.rings.held ≡ held_behind self.old.rings.held number
+        ensures held { self.new.rings.held ≡ held_after self.old.rings.held number
             (record { head = message.now.head; entities = message.now.entities.value.items }) }
         ensures baselines { self.new.baselines ≡ self.old.baselines }
         ensures none { self.new.rings.begun ≡ None }

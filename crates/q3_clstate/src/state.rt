@@ -14,7 +14,7 @@ ghost use Rattle.q3_clstate.specs.Saving.{saved_in, ReadsState};
 ghost use Rattle.q3_savestate.specs.Buffers.{Appends};
 ghost use Rattle.q3_savestate.specs.Lending.{HasAges};
 ghost use Rattle.q3_savestate.specs.State.{state_bytes, state_at};
-ghost use Rattle.q3_clstate.specs.State.{new_state, apply_at, state_behind, answered, heard_in};
+ghost use Rattle.q3_clstate.specs.State.{new_state, apply_at, state_after_message, answered, heard_in};
 
 use crate::applied::{Applied, Log, SnapOutcome};
 use crate::holding::Holding;
@@ -110,7 +110,7 @@ impl ClState {
         message: &[u8],
         log: &mut Log,
     ) -> Result<Applied, Illegible>
-        ensures state { self.new ≡ state_behind self.old (apply_at self.old number message.now) }
+        ensures state { self.new ≡ state_after_message self.old (apply_at self.old number message.now) }
         ensures answer { result ≡ answered (apply_at self.old number message.now) }
         ensures log { log.new.commands ≡ heard_in (apply_at self.old number message.now) }
     {

@@ -86,11 +86,11 @@ word-first count more = rw (ne_eqb count 1 (λ e. omega arith)) refl
 
 word-middle : (count k : ℕ) → 0 < k → k + 1 < count → word_of count k ≡ Middle
 unfolding word_of
-word-middle count k behind before = rw (ne_eqb count 1 (λ e. omega arith), ne_eqb k 0 (λ e. omega arith), ne_eqb (k + 1) count (λ e. omega arith)) refl
+word-middle count k after before = rw (ne_eqb count 1 (λ e. omega arith), ne_eqb k 0 (λ e. omega arith), ne_eqb (k + 1) count (λ e. omega arith)) refl
 
 word-last : (count k : ℕ) → 0 < k → k + 1 ≡ count → word_of count k ≡ Last
 unfolding word_of
-word-last count k behind end = rw (ne_eqb count 1 (λ e. omega arith), ne_eqb k 0 (λ e. omega arith), eq-eqb (k + 1) count end) refl
+word-last count k after end = rw (ne_eqb count 1 (λ e. omega arith), ne_eqb k 0 (λ e. omega arith), eq-eqb (k + 1) count end) refl
 
 -- a short text goes in one
 count-one : (bytes : ℕ) → bytes < 1000 → piece_count bytes ≡ 1
@@ -122,7 +122,7 @@ front-short text k short = omega (arith, length-take (999 * k) (map translated t
 abbrev state : Strings → ℕ → List ℕ → ℕ → Strings
 state strings index text k = with_pending strings index (front text k)
 
--- a piece of one of several goes behind those before it
+-- a piece of one of several goes after those before it
 pieces-grow : (strings : Strings) (index : ℕ) (text : List ℕ) (word : Word) (k : ℕ) → 1000 ≤ length text → length text ≤ longest_string
     → go_on (state strings index text k) word index (map translated (part text k)) (state strings index text k).pending ≡ finish (state strings index text k) word index (front text (k + 1))
 pieces-grow strings index text word k many short =
@@ -149,20 +149,20 @@ first-step strings index text is =
 
 middle-step : (strings : Strings) (index : ℕ) (text : List ℕ) (k : ℕ) → Pieced strings index text → 0 < k → k + 1 < count_of text
     → (after_command (state strings index text k) (piece_at index text k)).strings ≡ state strings index text (k + 1)
-middle-step strings index text k is behind before =
+middle-step strings index text k is after before =
     let now = state strings index text k in
     ap (λ (a : Applied). a.strings) (step now index text k is.may.within is.may.carried
-    ∙ ap (λ (word : Word). after_change now word index (map translated (part text k))) (word-middle (count_of text) k behind before)
+    ∙ ap (λ (word : Word). after_change now word index (map translated (part text k))) (word-middle (count_of text) k after before)
     ∙ pieces-grow strings index text Middle k is.many is.may.fits.short)
 
 last-step : (strings : Strings) (index : ℕ) (text : List ℕ) (k : ℕ) → Pieced strings index text → 0 < k → k + 1 ≡ count_of text
     → (after_command (state strings index text k) (piece_at index text k)).strings ≡ with_string (without_pending strings) index text
-last-step strings index text k is behind end =
+last-step strings index text k is after end =
     let now = state strings index text k in
     let all : front text (k + 1) ≡ map translated text = take_all (999 * (k + 1)) (map translated text) (omega (arith, length-map text translated, (count-many (length text) is.many).1)) in
     let fit = is.may.fits in
     ap (λ (a : Applied). a.strings) (step now index text k is.may.within is.may.carried
-    ∙ ap (λ (word : Word). after_change now word index (map translated (part text k))) (word-last (count_of text) k behind end)
+    ∙ ap (λ (word : Word). after_change now word index (map translated (part text k))) (word-last (count_of text) k after end)
     ∙ pieces-grow strings index text Last k is.many fit.short)
     ∙ made (without_pending strings) index text (front text (k + 1)) all is.may.within (record { short = fit.short; room = fit.room })
 
@@ -170,9 +170,9 @@ last-step strings index text k is behind end =
 others : (strings : Strings) (index : ℕ) (text : List ℕ) (left k : ℕ) → Pieced strings index text → 0 < k → k + suc left ≡ count_of text
     → after_commands (state strings index text k) (map (λ k. piece_at index text k) (range_with_len k (suc left))) ≡ with_string (without_pending strings) index text
 unfolding after_commands
-others strings index text zero k is behind end = last-step strings index text k is behind (omega arith)
-others strings index text (suc left) k is behind end =
-    ap (λ (s : Strings). after_commands s (map (λ k. piece_at index text k) (range_with_len (k + 1) (suc left)))) (middle-step strings index text k is behind (omega arith))
+others strings index text zero k is after end = last-step strings index text k is after (omega arith)
+others strings index text (suc left) k is after end =
+    ap (λ (s : Strings). after_commands s (map (λ k. piece_at index text k) (range_with_len (k + 1) (suc left)))) (middle-step strings index text k is after (omega arith))
     ∙ others strings index text left (k + 1) is (omega arith) (omega arith)
 
 -- all of them

@@ -1,4 +1,4 @@
--- Where strings lie: what stays of them when bytes come behind, when one gets another place, and when all are copied.
+-- Where strings lie: what stays of them when bytes come after, when one gets another place, and when all are copied.
 use Rattle.std.proofs.Common.{◌≡◌, ℕ, zero, suc, ◌+◌, ◌<◌, ◌≤◌, List, [], ◌∷◌, ◌++◌, length, get_or, set, take, drop, replicate, refl, sym, ap, subst, ◌∙◌, arith, length-append, length-drop, length-take-le, take_all}
 use Rattle.std.specs.List.{concat}
 use Rattle.std.proofs.Math.Seq.{take-suc, take-suc-set, drop-append_seam, drop-cons}
@@ -16,7 +16,7 @@ Within bytes place = place.start + place.length ≤ length bytes
 length-text_in : (bytes : List ℕ) (place : Place) → Within bytes place → length (text_in bytes place) ≡ place.length
 length-text_in bytes place within = length-take-le place.length (drop place.start bytes) (omega (arith, length-drop place.start bytes))
 
--- it stays the same when bytes come behind
+-- it stays the same when bytes come after it
 text_in-more : (bytes more : List ℕ) (place : Place) → Within bytes place → text_in (bytes ++ more) place ≡ text_in bytes place
 text_in-more bytes more place within =
     ap (λ (bs : List ℕ). take place.length bs) (drop-append-le place.start bytes more (omega arith))
@@ -34,15 +34,15 @@ texts_in-more bytes more (place ∷ places) within =
 within-more : (bytes more : List ℕ) (places : List Place) → LieWithin bytes places → LieWithin (bytes ++ more) places
 within-more bytes more places within = All-weaker (Within bytes) (Within (bytes ++ more)) (λ place inside. omega (arith, length-append bytes more)) places within
 
--- the place behind all bytes
-abbrev pub behind : List ℕ → ℕ → Place
-behind bytes n = record { start = length bytes; length = n }
+-- the place after all bytes
+abbrev pub place_after : List ℕ → ℕ → Place
+place_after bytes n = record { start = length bytes; length = n }
 
 -- the string that is put there
-text_in-new : (bytes text : List ℕ) (n : ℕ) → n ≡ length text → text_in (bytes ++ text) (behind bytes n) ≡ text
+text_in-new : (bytes text : List ℕ) (n : ℕ) → n ≡ length text → text_in (bytes ++ text) (place_after bytes n) ≡ text
 text_in-new bytes text n is = ap (λ (bs : List ℕ). take n bs) (drop-append_seam bytes text) ∙ take_all n text (omega arith)
 
-within-new : (bytes text : List ℕ) (n : ℕ) → n ≡ length text → Within (bytes ++ text) (behind bytes n)
+within-new : (bytes text : List ℕ) (n : ℕ) → n ≡ length text → Within (bytes ++ text) (place_after bytes n)
 within-new bytes text n is = omega (arith, length-append bytes text)
 
 -- the strings at places
@@ -50,27 +50,27 @@ pub record Lie (bytes : List ℕ) (places : List Place) (texts : List (List ℕ)
   pub within : LieWithin bytes places
   pub same : texts_in bytes places ≡ texts
 
--- a string that is put behind all bytes, and its place there at an index
+-- a string that is put after all bytes, and its place there at an index
 pub put : (bytes : List ℕ) (places : List Place) (index : ℕ) (text : List ℕ) (n : ℕ) → LieWithin bytes places → n ≡ length text
-    → Lie (bytes ++ text) (set places index (behind bytes n)) (set (texts_in bytes places) index text)
+    → Lie (bytes ++ text) (set places index (place_after bytes n)) (set (texts_in bytes places) index text)
 put bytes places index text n within is = record {
-  within = All-set (Within (bytes ++ text)) places index (behind bytes n) (within-new bytes text n is) (within-more bytes text places within);
-  same = map-set (λ place. text_in (bytes ++ text) place) places index (behind bytes n)
-      ∙ ap (λ (texts : List (List ℕ)). set texts index (text_in (bytes ++ text) (behind bytes n))) (texts_in-more bytes text places within)
+  within = All-set (Within (bytes ++ text)) places index (place_after bytes n) (within-new bytes text n is) (within-more bytes text places within);
+  same = map-set (λ place. text_in (bytes ++ text) place) places index (place_after bytes n)
+      ∙ ap (λ (texts : List (List ℕ)). set texts index (text_in (bytes ++ text) (place_after bytes n))) (texts_in-more bytes text places within)
       ∙ ap (λ (other : List ℕ). set (texts_in bytes places) index other) (text_in-new bytes text n is);
 }
 
--- a string that is put there behind others
+-- a string that is put there after others
 added : (bytes : List ℕ) (places : List Place) (texts : List (List ℕ)) (text : List ℕ) (n : ℕ) → Lie bytes places texts → n ≡ length text
-    → Lie (bytes ++ text) (places ++ (behind bytes n ∷ [])) (texts ++ (text ∷ []))
+    → Lie (bytes ++ text) (places ++ (place_after bytes n ∷ [])) (texts ++ (text ∷ []))
 added bytes places texts text n lie is =
     let old : texts_in (bytes ++ text) places ≡ texts = texts_in-more bytes text places lie.within ∙ lie.same in
     let new = text_in-new bytes text n is in
     record {
-      within = All-append (Within (bytes ++ text)) places (behind bytes n ∷ []) (within-more bytes text places lie.within)
-          (All-cons (Within (bytes ++ text)) (behind bytes n) [] (within-new bytes text n is) (All-nil (Within (bytes ++ text))));
-      same = map-append (λ place. text_in (bytes ++ text) place) places (behind bytes n ∷ [])
-          ∙ ap (λ (front : List (List ℕ)). front ++ (text_in (bytes ++ text) (behind bytes n) ∷ [])) old
+      within = All-append (Within (bytes ++ text)) places (place_after bytes n ∷ []) (within-more bytes text places lie.within)
+          (All-cons (Within (bytes ++ text)) (place_after bytes n) [] (within-new bytes text n is) (All-nil (Within (bytes ++ text))));
+      same = map-append (λ place. text_in (bytes ++ text) place) places (place_after bytes n ∷ [])
+          ∙ ap (λ (front : List (List ℕ)). front ++ (text_in (bytes ++ text) (place_after bytes n) ∷ [])) old
           ∙ ap (λ (last : List ℕ). texts ++ (last ∷ [])) new;
     }
 
@@ -95,7 +95,7 @@ next bytes into old now k d done =
     let same : k ≡ k + 0 = omega arith in
     ap (λ i. get_or now i d) same ∙ sym (get_or-drop k now 0 d) ∙ ap (λ (places : List Place). get_or places 0 d) done.left ∙ get_or-drop k old 0 d ∙ ap (λ i. get_or old i d) (sym same)
 
--- the places behind it
+-- the places after it
 drop_next : (places : List Place) (k : ℕ) (d : Place) → k < length places → drop 1 (drop k places) ≡ drop (suc k) places
 drop_next places k d lt = ap (λ (ps : List Place). drop 1 ps) (drop-cons places k d lt)
 
@@ -111,7 +111,7 @@ concat_next bytes old k d lt =
     ∙ concat-append (take k (texts_in bytes old)) (text_in bytes (get_or old k d) ∷ [])
     ∙ ap (λ (text : List ℕ). concat (take k (texts_in bytes old)) ++ text) (append-nil (text_in bytes (get_or old k d)))
 
--- the next string lies within the bytes, and has room behind those that are copied
+-- the next string lies within the bytes, and has room after those that are copied
 pub record HasNext (bytes into : List ℕ) (old : List Place) (place : Place) : Type 0 where
   pub within : Within bytes place
   pub fits : length into + place.length ≤ length (concat (texts_in bytes old))
@@ -135,7 +135,7 @@ has_next bytes into old now k d within done lt =
 
 -- it is copied
 copied : (bytes into new : List ℕ) (old now : List Place) (k : ℕ) (d : Place) → LieWithin bytes old → Copied bytes into old now k → k < length old
-    → new ≡ into ++ text_in bytes (get_or now k d) → Copied bytes new old (set now k (behind into (get_or now k d).length)) (suc k)
+    → new ≡ into ++ text_in bytes (get_or now k d) → Copied bytes new old (set now k (place_after into (get_or now k d).length)) (suc k)
 copied bytes into new old now k d within done lt is =
     let place = get_or now k d in
     let inside : k < length now = (let count = done.count in omega arith) in
@@ -144,22 +144,22 @@ copied bytes into new old now k d within done lt is =
     let here = has_next bytes into old now k d within done lt in
     let next_texts : take (suc k) (texts_in bytes old) ≡ take k (texts_in bytes old) ++ (text ∷ []) =
     take_next bytes old k d lt ∙ ap (λ (p : Place). take k (texts_in bytes old) ++ (text_in bytes p ∷ [])) (sym same) in
-    let places : take (suc k) (set now k (behind into place.length)) ≡ take k now ++ (behind into place.length ∷ []) = take-suc-set now k (behind into place.length) inside in
+    let places : take (suc k) (set now k (place_after into place.length)) ≡ take k now ++ (place_after into place.length ∷ []) = take-suc-set now k (place_after into place.length) inside in
     let lie = added into (take k now) (take k (texts_in bytes old)) text place.length done.lie (sym (length-text_in bytes place here.within)) in
-    let moved : Lie (into ++ text) (take (suc k) (set now k (behind into place.length))) (take (suc k) (texts_in bytes old)) = rw (places, next_texts) lie in
+    let moved : Lie (into ++ text) (take (suc k) (set now k (place_after into place.length))) (take (suc k) (texts_in bytes old)) = rw (places, next_texts) lie in
     record {
-      count = length-set now k (behind into place.length) ∙ done.count;
+      count = length-set now k (place_after into place.length) ∙ done.count;
       whole = is ∙ ap (λ (bs : List ℕ). bs ++ text) done.whole ∙ ap (λ (p : Place). concat (take k (texts_in bytes old)) ++ text_in bytes p) same ∙ sym (concat_next bytes old k d lt);
-      lie = subst (λ (bs : List ℕ). Lie bs (take (suc k) (set now k (behind into place.length))) (take (suc k) (texts_in bytes old))) (sym is) moved;
-      left = drop-set-lt (suc k) now k (behind into place.length) (omega arith) ∙ sym (drop_next now k d inside) ∙ ap (λ (ps : List Place). drop 1 ps) done.left ∙ drop_next old k d lt;
+      lie = subst (λ (bs : List ℕ). Lie bs (take (suc k) (set now k (place_after into place.length))) (take (suc k) (texts_in bytes old))) (sym is) moved;
+      left = drop-set-lt (suc k) now k (place_after into place.length) (omega arith) ∙ sym (drop_next now k d inside) ∙ ap (λ (ps : List Place). drop 1 ps) done.left ∙ drop_next old k d lt;
     }
 
 pub more : (bytes into new : List ℕ) (old now : List Place) (k : ℕ) (d place : Place) → LieWithin bytes old → Copied bytes into old now k → k < length old
-    → new ≡ into ++ text_in bytes (get_or now k d) → place ≡ behind into (get_or now k d).length → Copied bytes new old (set now k place) (k + 1)
+    → new ≡ into ++ text_in bytes (get_or now k d) → place ≡ place_after into (get_or now k d).length → Copied bytes new old (set now k place) (k + 1)
 more bytes into new old now k d place within done lt is place_is =
     let next : suc k ≡ k + 1 = omega arith in
     subst (λ (p : Place). Copied bytes new old (set now k p) (k + 1)) (sym place_is)
-    (subst (λ (n : ℕ). Copied bytes new old (set now k (behind into (get_or now k d).length)) n) next (copied bytes into new old now k d within done lt is))
+    (subst (λ (n : ℕ). Copied bytes new old (set now k (place_after into (get_or now k d).length)) n) next (copied bytes into new old now k d within done lt is))
 
 -- all are copied
 pub all : (bytes into : List ℕ) (old now : List Place) (k : ℕ) → Copied bytes into old now k → k ≡ length old → (into ≡ concat (texts_in bytes old)) × Lie into now (texts_in bytes old)

@@ -23,11 +23,11 @@ pub lacks-none : (byte : ℕ) (text : List ℕ) → All (λ x. x ≢ byte) text 
 lacks-none byte [] none = refl
 lacks-none byte (x ∷ text) none = rw (ne_eqb x byte (All-head (λ x. x ≢ byte) x text none), lacks-none byte text (All-tail (λ x. x ≢ byte) x text none)) refl
 
--- what may stand behind the quote: nothing, or a newline
+-- what may follow the quote: nothing, or a newline
 abbrev pub is_end : List ℕ → Bool
 is_end end = bytes_eq end [] || bytes_eq end (codes "\n")
 
--- a change, with this behind the quote
+-- a change, with this after the quote
 abbrev pub shaped : Change → List ℕ → List ℕ
 shaped change end = spelled change.word ++ 32 ∷ (decimal change.index ++ 32 ∷ (34 ∷ (change.text ++ 34 ∷ end)))
 
@@ -101,7 +101,7 @@ word-spelled text word e = elim (cases_Bool (bytes_eq text (codes "cs"))) [
   ]
 ]
 
--- what was read between the quotes, and what stood behind
+-- what was read between the quotes, and what followed
 record Quoted (text body : List ℕ) : Type 0 where
   pub end : List ℕ
   is : text ≡ 34 ∷ (body ++ 34 ∷ end)
@@ -157,9 +157,9 @@ parts-same : (text : List ℕ) (read change : Change) → read ≡ change → Pa
 parts-same text read change same parts = subst (λ (change : Change). Parts text change) same parts
 
 -- the parts, put together again
-joined : (text first rest second behind end : List ℕ) (change : Change) → text ≡ first ++ 32 ∷ rest → first ≡ spelled change.word → rest ≡ second ++ 32 ∷ behind → second ≡ decimal change.index
-    → behind ≡ 34 ∷ (change.text ++ 34 ∷ end) → text ≡ shaped change end
-joined text first rest second behind end change at_first is_word at_second is_index is_body = rw (at_first, is_word, at_second, is_index, is_body) refl
+joined : (text first rest second after end : List ℕ) (change : Change) → text ≡ first ++ 32 ∷ rest → first ≡ spelled change.word → rest ≡ second ++ 32 ∷ after → second ≡ decimal change.index
+    → after ≡ 34 ∷ (change.text ++ 34 ∷ end) → text ≡ shaped change end
+joined text first rest second after end change at_first is_word at_second is_index is_body = rw (at_first, is_word, at_second, is_index, is_body) refl
 
 pub parts_of : (text : List ℕ) (change : Change) → change_in text ≡ Some change → Parts text change
 unfolding change_in

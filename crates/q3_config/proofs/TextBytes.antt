@@ -87,8 +87,8 @@ after_change-holds strings Middle index text hold each = go_on-holds strings Mid
 after_change-holds strings Last index text hold each = go_on-holds strings Last index text strings.pending refl hold each
 
 -- what holds of each byte of texts that are joined holds of those of the second, and of the first
-behind : (P : ℕ → Type 0) (front rest : List ℕ) → All P (front ++ rest) → All P rest
-behind P front rest each = subst (λ (bytes : List ℕ). All P bytes) (drop-append_seam front rest) (All-drop P (length front) (front ++ rest) each)
+after_front : (P : ℕ → Type 0) (front rest : List ℕ) → All P (front ++ rest) → All P rest
+after_front P front rest each = subst (λ (bytes : List ℕ). All P bytes) (drop-append_seam front rest) (All-drop P (length front) (front ++ rest) each)
 
 before : (P : ℕ → Type 0) (front rest : List ℕ) → All P (front ++ rest) → All P front
 before P front rest each = subst (λ (bytes : List ℕ). All P bytes) (take-append_seam front rest) (All-take P (length front) (front ++ rest) each)
@@ -98,8 +98,8 @@ body : (P : ℕ → Type 0) (change : Change) (end : List ℕ) → All P (shaped
 body P change end each =
     let quoted = change.text ++ 34 ∷ end in
     let number = decimal change.index ++ 32 ∷ (34 ∷ quoted) in
-    let at_number = All-tail P 32 number (behind P (spelled change.word) (32 ∷ number) each) in
-    let at_quote = All-tail P 32 (34 ∷ quoted) (behind P (decimal change.index) (32 ∷ (34 ∷ quoted)) at_number) in
+    let at_number = All-tail P 32 number (after_front P (spelled change.word) (32 ∷ number) each) in
+    let at_quote = All-tail P 32 (34 ∷ quoted) (after_front P (decimal change.index) (32 ∷ (34 ∷ quoted)) at_number) in
     before P change.text (34 ∷ end) (All-tail P 34 quoted at_quote)
 
 after_shape-holds : (strings : Strings) (text : List ℕ) (change : Option Change) → change_in text ≡ change → HoldTexts strings → IsText text → HoldTexts (after_shape strings change).strings

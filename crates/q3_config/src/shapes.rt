@@ -57,11 +57,11 @@ pub(crate) fn change_of(text: &[u8]) -> Option<Change<'_>>
     ensures index { IfSome result (λ change. change.index < places) }
     ensures length { IfSome result (λ change. length change.text.now ≤ length text.now) }
 {
-    let (word, behind) = cut_at(text, b' ')?;
+    let (word, after) = cut_at(text, b' ')?;
     let word = word_of(word)?;
-    let (index, behind) = cut_at(behind, b' ')?;
+    let (index, after) = cut_at(after, b' ')?;
     let index = decimal_within(index, 0, STRINGS - 1)?;
-    let text = quoted(behind)?;
+    let text = quoted(after)?;
     Some(Change { word, index, text })
 }
 
@@ -92,8 +92,8 @@ fn quoted(text: &[u8]) -> Option<&[u8]>
     let [b'"', text @ ..] = text else {
         return None;
     };
-    let (body, behind) = cut_at(text, b'"')?;
-    if is(behind, b"") || is(behind, b"\n") {
+    let (body, after) = cut_at(text, b'"')?;
+    if is(after, b"") || is(after, b"\n") {
         Some(body)
     } else {
         None

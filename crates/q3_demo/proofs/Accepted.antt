@@ -36,10 +36,10 @@ use Rattle.q3_demo.specs.Laws.{AppliedMayBeNoted}
 abbrev front_with : ℕ → Row × List Bool → Result Front OperationError
 front_with ack row = Ok (record { ack = ack; commands = row.0.commands })
 
-abbrev front_behind : List (List Bool) → ℕ × List Bool → Result Front OperationError
-front_behind words ack = row_at words 5 (length ack.1) [] ack.1 >>= front_with ack.0
+abbrev front_after : List (List Bool) → ℕ × List Bool → Result Front OperationError
+front_after words ack = row_at words 5 (length ack.1) [] ack.1 >>= front_with ack.0
 
--- where the operations behind the leading long are read, so is the front
+-- where the operations after the leading long are read, so is the front
 row_read : (profile : Profile) (context : Context) (number : ℕ) (ack : ℕ) (bits : List Bool) (read : Message × List Bool)
     → operations_at profile context number (record { ack = ack; commands = []; section = told.Nothing }) bits ≡ Ok read
     → (row : Row × List Bool) × (row_at profile.code 5 (length bits) [] bits ≡ Ok row)
@@ -50,7 +50,7 @@ row_read profile context number ack bits read e =
     (found.0, map_err_ok operation_error (row_at profile.code 5 (length bits) [] bits) found.0 found.1)
 
 front_read : (profile : Profile) (context : Context) (number : ℕ) (bits : List Bool) (read : Message × List Bool) → server_message_at profile context number bits ≡ Ok read
-    → (front : Front) × ((fault_as operations.Bits (field_at profile.code 32 bits) >>= front_behind profile.code) ≡ Ok front)
+    → (front : Front) × ((fault_as operations.Bits (field_at profile.code 32 bits) >>= front_after profile.code) ≡ Ok front)
 unfolding server_message_at
 front_read profile context number bits read e =
     let found = bind_ok (field_read profile.code 32 bits)
@@ -59,7 +59,7 @@ front_read profile context number bits read e =
     let field = map_err_ok Bits (field_at profile.code 32 bits) ack found.1 in
     let row = row_read profile context number ack.0 ack.1 read found.2 in (
       record { ack = ack.0; commands = row.0.0.commands },
-      ap (λ (r : Result (ℕ × List Bool) ReadError). fault_as operations.Bits r >>= front_behind profile.code) field
+      ap (λ (r : Result (ℕ × List Bool) ReadError). fault_as operations.Bits r >>= front_after profile.code) field
           ∙ ap (λ (r : Result (Row × List Bool) OperationError). r >>= front_with ack.0) row.1,
     )
 
@@ -145,12 +145,12 @@ was_read : (state : AppliedState) (number : ℕ) (message : List ℕ) (applied :
 was_read state number message applied e =
     let context = context_of state.held state.baselines in
     let read = bind_ok (server_message_in state.profile context number (bits_of message)) (λ (read : Message). applied_as (apply_read state number read)) applied e in
-    let behind = bind_ok (server_message_at state.profile context number (bits_of message)) (λ (read : Message × List Bool). read_as read.0) read.0 read.1 in
+    let after = bind_ok (server_message_at state.profile context number (bits_of message)) (λ (read : Message × List Bool). read_as read.0) read.0 read.1 in
     record {
-      read = behind.0.0;
-      left = behind.0.1;
-      by = behind.1;
-      does = ap (λ (m : Message). apply_read state number m) (same_read behind.0.0 read.0 behind.2) ∙ same_applied (apply_read state number read.0) applied read.2;
+      read = after.0.0;
+      left = after.0.1;
+      by = after.1;
+      does = ap (λ (m : Message). apply_read state number m) (same_read after.0.0 read.0 after.2) ∙ same_applied (apply_read state number read.0) applied read.2;
     }
 
 accepted_last : ReadIsSpelled → AcceptedIsHeld → (state : AppliedState) (number first : ℕ) (message : List ℕ) (applied : Application) → IsApplied state → number < 2 ^ 32

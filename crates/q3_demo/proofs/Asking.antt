@@ -93,7 +93,7 @@ asked_so before now file at at' count count' place same costs = λ told is there
 
 -- ---- a record
 
--- behind the first bytes the others are asked for
+-- after the first bytes the others are asked for
 costs_then : (before mid now : Option Told) (file at first second : ℕ) → OnlyAsks before mid → Costs before mid file at first first → Costs mid now file (at + first) second second
     → Costs before now file at (first + second) (first + second)
 costs_then None mid now file at first second asks one other = λ told is there. absurd cc

@@ -1,4 +1,4 @@
--- Behind the last record that may be played, a demo ends or is refused.
+-- After the last record that may be played, a demo ends or is refused.
 use Rattle.std.proofs.Common.{◌≡◌, ℕ, false, List, drop, Result, Ok, Err, sym, ap, ◌∙◌}
 use Rattle.std.specs.Prelude.{nat_lt}
 use Rattle.q3_demo.specs.declared.error.DemoError.{DemoError}

@@ -32,53 +32,53 @@ pub far : (told : Option Told) (file at last number size : ℕ) (buffer : List �
 far told file at last number size buffer found short above below is =
     (found.bytes, found.has, (sym (too_short found.bytes at last number size found.head short above below (inr is)), tt))
 
--- ---- the message behind it
+-- ---- the message after it
 
-long_both : (told : Option Told) (file at number size : ℕ) (found : Found told file at number size) (behind : List ℕ) → length (take head_bytes found.bytes ++ behind) ≡ head_bytes + length behind
-long_both told file at number size found behind = omega (arith, length-append (take head_bytes found.bytes) behind, length-take head_bytes found.bytes, found.head.some)
+long_both : (told : Option Told) (file at number size : ℕ) (found : Found told file at number size) (after : List ℕ) → length (take head_bytes found.bytes ++ after) ≡ head_bytes + length after
+long_both told file at number size found after = omega (arith, length-append (take head_bytes found.bytes) after, length-take head_bytes found.bytes, found.head.some)
 
-both_has : (told mid : Option Told) (file at number size : ℕ) (found : Found told file at number size) (behind : List ℕ) → OnlyAsks told mid → HasFrom mid file (at + head_bytes) behind
-    → HasFrom told file at (take head_bytes found.bytes ++ behind)
-both_has told mid file at number size found behind asks has =
-    has_joined told file at head_bytes found.bytes behind found.has (has_before told mid file (at + head_bytes) behind asks has)
+both_has : (told mid : Option Told) (file at number size : ℕ) (found : Found told file at number size) (after : List ℕ) → OnlyAsks told mid → HasFrom mid file (at + head_bytes) after
+    → HasFrom told file at (take head_bytes found.bytes ++ after)
+both_has told mid file at number size found after asks has =
+    has_joined told file at head_bytes found.bytes after found.has (has_before told mid file (at + head_bytes) after asks has)
 
-both_head : (told : Option Told) (file at number size : ℕ) (found : Found told file at number size) (behind : List ℕ) → HasHead (take head_bytes found.bytes ++ behind) number size
-both_head told file at number size found behind = head_stays found.bytes behind head_bytes number size (omega arith) found.head
+both_head : (told : Option Told) (file at number size : ℕ) (found : Found told file at number size) (after : List ℕ) → HasHead (take head_bytes found.bytes ++ after) number size
+both_head told file at number size found after = head_stays found.bytes after head_bytes number size (omega arith) found.head
 
-pub cut : (told mid : Option Told) (file at last number size count : ℕ) (part buffer behind : List ℕ) → Found told file at number size → size ≤ longest_record → last < number → number < number_end
-    → OnlyAsks told mid → HasFrom mid file (at + head_bytes) behind → Fills behind part (Ok count) → length part ≡ size → count < size
+pub cut : (told mid : Option Told) (file at last number size count : ℕ) (part buffer after : List ℕ) → Found told file at number size → size ≤ longest_record → last < number → number < number_end
+    → OnlyAsks told mid → HasFrom mid file (at + head_bytes) after → Fills after part (Ok count) → length part ≡ size → count < size
     → (bytes : List ℕ) × HasFrom told file at bytes × FindsPiece bytes at last buffer (Err (Truncated at))
-cut told mid file at last number size count part buffer behind found short above below asks has fills room less = (
-  take head_bytes found.bytes ++ behind,
-  both_has told mid file at number size found behind asks has,
+cut told mid file at last number size count part buffer after found short above below asks has fills room less = (
+  take head_bytes found.bytes ++ after,
+  both_has told mid file at number size found after asks has,
   (
-    sym (too_short (take head_bytes found.bytes ++ behind) at last number size (both_head told file at number size found behind) short above below
-        (inl (omega (arith, long_both told file at number size found behind, fills.0)))),
+    sym (too_short (take head_bytes found.bytes ++ after) at last number size (both_head told file at number size found after) short above below
+        (inl (omega (arith, long_both told file at number size found after, fills.0)))),
     tt,
   ),
 )
 
-pub whole : (told mid : Option Told) (file at last number size next count : ℕ) (part buffer behind : List ℕ) → Found told file at number size → size ≤ longest_record → last < number → number < number_end
-    → OnlyAsks told mid → HasFrom mid file (at + head_bytes) behind → Fills behind part (Ok count) → length part ≡ size → size ≤ count → take size buffer ≡ part
+pub whole : (told mid : Option Told) (file at last number size next count : ℕ) (part buffer after : List ℕ) → Found told file at number size → size ≤ longest_record → last < number → number < number_end
+    → OnlyAsks told mid → HasFrom mid file (at + head_bytes) after → Fills after part (Ok count) → length part ≡ size → size ≤ count → take size buffer ≡ part
     → next ≡ at + head_bytes + size → next ≤ most_bytes
     → (bytes : List ℕ) × HasFrom told file at bytes × FindsPiece bytes at last buffer (Ok (piece.Message number size next))
-whole told mid file at last number size next count part buffer behind found short above below asks has fills room all is next_is within =
-    let bytes : List ℕ = take head_bytes found.bytes ++ behind in
+whole told mid file at last number size next count part buffer after found short above below asks has fills room all is next_is within =
+    let bytes : List ℕ = take head_bytes found.bytes ++ after in
     let came : size ≡ count = omega (arith, fills.0) in
     let there : HasRecord bytes at last number size next = record {
-      head = both_head told file at number size found behind;
+      head = both_head told file at number size found after;
       short = short;
       above = above;
       below = below;
-      there = omega (arith, long_both told file at number size found behind, fills.0);
+      there = omega (arith, long_both told file at number size found after, fills.0);
       within = omega arith;
       next_is = next_is;
     } in (
       bytes,
-      both_has told mid file at number size found behind asks has,
+      both_has told mid file at number size found after asks has,
       (
         sym (record_is bytes at last number size next there),
-        is ∙ sym (take_all size part (omega arith)) ∙ ap (λ n. take n part) came ∙ fills.1 ∙ ap (λ n. take n behind) (sym came)
-            ∙ ap (take size) (sym (drop_at (take head_bytes found.bytes) behind head_bytes (omega (arith, length-take head_bytes found.bytes, found.head.some)))),
+        is ∙ sym (take_all size part (omega arith)) ∙ ap (λ n. take n part) came ∙ fills.1 ∙ ap (λ n. take n after) (sym came)
+            ∙ ap (take size) (sym (drop_at (take head_bytes found.bytes) after head_bytes (omega (arith, length-take head_bytes found.bytes, found.head.some)))),
       ),
     )

@@ -82,9 +82,9 @@ fronts_by : (step all : Result (Option Stepped) DemoError) (played : Played) (fr
     → ((stepped : Stepped) → step ≡ Ok (Some stepped) → Fronts (fronts stepped.played) (wholes stepped.played) stepped.played (front stepped.played).ending (whole stepped.played).ending)
     → Fronts (next_records step fronts) (next_records all wholes) played (play_step played step front).ending (play_step played all whole).ending
 unfolding last_of StepsBefore
-fronts_by (Ok None) all played fronts wholes front whole before behind = record { more = next_records all wholes; records = refl; ends = inl refl }
-fronts_by (Ok (Some stepped)) all played fronts wholes front whole before behind =
-    let was = behind stepped refl in
+fronts_by (Ok None) all played fronts wholes front whole before after = record { more = next_records all wholes; records = refl; ends = inl refl }
+fronts_by (Ok (Some stepped)) all played fronts wholes front whole before after =
+    let was = after stepped refl in
     elim before [
       | inl none ↦ absurd cc
       | inr other ↦ elim other [
@@ -95,7 +95,7 @@ fronts_by (Ok (Some stepped)) all played fronts wholes front whole before behind
             same (record { more = was.more; records = ap (λ (xs : List Stepped). stepped ∷ xs) was.records; ends = was.ends })
       ]
     ]
-fronts_by (Err e) all played fronts wholes front whole before behind =
+fronts_by (Err e) all played fronts wholes front whole before after =
     elim before [
       | inl none ↦ absurd cc
       | inr other ↦ elim other [

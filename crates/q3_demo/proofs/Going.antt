@@ -39,17 +39,17 @@ told_all texts others = record others { texts = texts ++ others.texts }
 first_told : (texts : List (List ℕ)) (play : Play) (count : ℕ) → concat (take (length texts + count) (told_all texts play).texts) ≡ concat texts ++ concat (take count play.texts)
 first_told texts play count = ap concat (take-append-add texts play.texts count) ∙ concat-append texts (take count play.texts)
 
--- what is behind texts that were printed ends so behind them
-pub plays_behind : (law : TextsFollow) (texts : List (List ℕ)) (play : Play) (before mid after : Option Written) (result : Result (Unit {0}) DemoError) → (result ≡ Err NoMemory → ⊥)
+-- what follows texts that were printed ends so after them
+pub plays_after : (law : TextsFollow) (texts : List (List ℕ)) (play : Play) (before mid after : Option Written) (result : Result (Unit {0}) DemoError) → (result ≡ Err NoMemory → ⊥)
     → Wrote before mid (concat texts) true → Plays play mid after result → Plays (told_all texts play) before after result
-plays_behind law texts play before mid after (Ok x) some wrote plays = (plays.0, law.more wrote plays.1 (concat-append texts play.texts))
-plays_behind law texts play before mid after (Err ReadFault) some wrote plays = (length texts + plays.0, law.more wrote plays.1 (first_told texts play plays.0))
-plays_behind law texts play before mid after (Err (Truncated at)) some wrote plays = (plays.0, law.more wrote plays.1 (concat-append texts play.texts))
-plays_behind law texts play before mid after (Err (BadLength at)) some wrote plays = (plays.0, law.more wrote plays.1 (concat-append texts play.texts))
-plays_behind law texts play before mid after (Err (BadNumber at)) some wrote plays = (plays.0, law.more wrote plays.1 (concat-append texts play.texts))
-plays_behind law texts play before mid after (Err (NoMessage at cause)) some wrote plays = (plays.0, law.more wrote plays.1 (concat-append texts play.texts))
-plays_behind law texts play before mid after (Err NoMemory) some wrote plays = absurd (some refl)
-plays_behind law texts play before mid after (Err WriteFault) some wrote plays = law.more wrote plays (concat-append texts play.texts)
+plays_after law texts play before mid after (Ok x) some wrote plays = (plays.0, law.more wrote plays.1 (concat-append texts play.texts))
+plays_after law texts play before mid after (Err ReadFault) some wrote plays = (length texts + plays.0, law.more wrote plays.1 (first_told texts play plays.0))
+plays_after law texts play before mid after (Err (Truncated at)) some wrote plays = (plays.0, law.more wrote plays.1 (concat-append texts play.texts))
+plays_after law texts play before mid after (Err (BadLength at)) some wrote plays = (plays.0, law.more wrote plays.1 (concat-append texts play.texts))
+plays_after law texts play before mid after (Err (BadNumber at)) some wrote plays = (plays.0, law.more wrote plays.1 (concat-append texts play.texts))
+plays_after law texts play before mid after (Err (NoMessage at cause)) some wrote plays = (plays.0, law.more wrote plays.1 (concat-append texts play.texts))
+plays_after law texts play before mid after (Err NoMemory) some wrote plays = absurd (some refl)
+plays_after law texts play before mid after (Err WriteFault) some wrote plays = law.more wrote plays (concat-append texts play.texts)
 
 -- the demo ends
 ends_step : (law : TextsFollow) (step : Result (Option Stepped) DemoError) (now next : Played) (others : Played → Play) (mid after : Option Written) → TakesStep step now next mid after (Ok true)
@@ -147,7 +147,7 @@ step_is demo bytes now found there is =
     let here : next_piece demo now ≡ Ok found = ap (λ (xs : List ℕ). piece_of xs now.at now.last) there ∙ sym is in
     ap (λ (r : Result Piece DemoError). r >>= play_piece demo now) here
 
--- ---- behind the last record that may be played
+-- ---- after the last record that may be played
 
 -- what is left at the demo's end is told
 state_last : (law : TextsFollow) (now : Played) (mid after : Option Written) (result : Result (Unit {0}) DemoError) → Wrote mid after (state_text now.state now.records) (is_ok result)
@@ -188,7 +188,7 @@ refuses_limit law demo bytes now written told there is other =
 
 -- ---- a demo
 
--- how far it was played: the bytes up to there, whatever is behind them, and the texts so far
+-- how far it was played: the bytes up to there, whatever follows them, and the texts so far
 pub record Going (told : Option Told) (file left : ℕ) (first now : Played) (before mid : Option Written) : Type 0 where
   pub front : List ℕ
   pub texts : List (List ℕ)
@@ -214,7 +214,7 @@ pub ends_so : (law : TextsFollow) (told : Option Told) (file left : ℕ) (first 
 ends_so law told file left first now before mid after bytes result going has some plays = (
   going.front ++ bytes,
   going.has bytes has,
-  subst (λ (p : Play). Plays p before after result) (sym (going.whole bytes)) (plays_behind law going.texts (play_from left (going.front ++ bytes) now) before mid after result some going.wrote plays),
+  subst (λ (p : Play). Plays p before after result) (sym (going.whole bytes)) (plays_after law going.texts (play_from left (going.front ++ bytes) now) before mid after result some going.wrote plays),
 )
 
 -- one record more
@@ -231,12 +231,12 @@ unfolding play_from
 step_more left demo now next stepped is leads =
     ap (λ (s : Result (Option Stepped) DemoError). play_step now s (play_from left demo)) is ∙ ap (λ (p : Played). told_first stepped.text (play_from left demo p)) leads
 
-text_behind : (texts : List (List ℕ)) (text : List ℕ) (play : Play) → told_all texts (told_first text play) ≡ told_all (texts ++ text ∷ []) play
-text_behind texts text play = ap (λ (ts : List (List ℕ)). record play { texts = ts }) (sym (append_assoc texts (text ∷ []) play.texts))
+text_after : (texts : List (List ℕ)) (text : List ℕ) (play : Play) → told_all texts (told_first text play) ≡ told_all (texts ++ text ∷ []) play
+text_after texts text play = ap (λ (ts : List (List ℕ)). record play { texts = ts }) (sym (append_assoc texts (text ∷ []) play.texts))
 
--- what a step told stands behind the texts so far
-told_behind : (texts : List (List ℕ)) (text : List ℕ) → concat (texts ++ text ∷ []) ≡ concat texts ++ text
-told_behind texts text = concat-append texts (text ∷ []) ∙ ap (λ (t : List ℕ). concat texts ++ t) (append-nil text)
+-- what a step told follows the texts so far
+told_after : (texts : List (List ℕ)) (text : List ℕ) → concat (texts ++ text ∷ []) ≡ concat texts ++ text
+told_after texts text = concat-append texts (text ∷ []) ∙ ap (λ (t : List ℕ). concat texts ++ t) (append-nil text)
 
 goes_on : (law : TextsFollow) (told : Option Told) (file left : ℕ) (first now next : Played) (before mid after : Option Written) (bytes : List ℕ)
     → Going told file (suc left) first now before mid → HasFrom told file now.at bytes
@@ -257,7 +257,7 @@ goes_on law told file left first now next before mid after bytes going has takes
       front = going.front ++ more;
       texts = going.texts ++ stepped.text ∷ [];
       long = omega (arith, length-append going.front more, length-take (head_bytes + size) bytes, had.there, going.long, place);
-      wrote = law.more going.wrote taken.1 (told_behind going.texts stepped.text ∙ ap (λ (t : List ℕ). concat going.texts ++ t) (sym (text_of now (step demo now) stepped leads.1)));
+      wrote = law.more going.wrote taken.1 (told_after going.texts stepped.text ∙ ap (λ (t : List ℕ). concat going.texts ++ t) (sym (text_of now (step demo now) stepped leads.1)));
       has = λ rest behind. subst (λ (xs : List ℕ). HasFrom told file 0 xs) (sym (append_assoc going.front more rest))
           (going.has (more ++ rest) (has_joined told file now.at (head_bytes + size) bytes rest has (subst (λ (n : ℕ). HasFrom told file n rest) place behind)));
       whole = λ rest.
@@ -267,7 +267,7 @@ goes_on law told file left first now next before mid after bytes going has takes
           let one : play_from (suc left) other now ≡ told_first stepped.text (play_from left other next) =
           step_more left other now next stepped (plays_so demo other bytes rest now stepped there was here) leads.2 in
           ap (λ (xs : List ℕ). play_from most_records xs first) same ∙ going.whole (more ++ rest) ∙ ap (told_all going.texts) one
-          ∙ text_behind going.texts stepped.text (play_from left other next)
+          ∙ text_after going.texts stepped.text (play_from left other next)
           ∙ ap (λ (xs : List ℕ). told_all (going.texts ++ stepped.text ∷ []) (play_from left xs next)) (sym same);
     }
 

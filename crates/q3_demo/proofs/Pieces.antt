@@ -126,7 +126,7 @@ was_record bytes at last number size next is =
       next_is = p.next_is ∙ ap (λ (n : ℕ). at + head_bytes + n) (sym p.size_is);
     }
 
--- ---- nothing behind it counts
+-- ---- nothing after it counts
 
 number_before : (front rest : List ℕ) → head_bytes ≤ length front → number_of (front ++ rest) ≡ number_of front
 number_before front rest long = little_from-append 4 front rest (omega arith)
@@ -135,7 +135,7 @@ length_before : (front rest : List ℕ) → head_bytes ≤ length front → leng
 length_before front rest long =
     ap (λ (xs : List ℕ). number_of xs) (drop-append-le 4 front rest (omega arith)) ∙ little_from-append 4 (drop 4 front) rest (omega (arith, length-drop 4 front))
 
--- the first bytes keep their head, whatever is behind them
+-- the first bytes keep their head, whatever follows them
 pub head_stays : (bytes rest : List ℕ) (count number size : ℕ) → head_bytes ≤ count → HasHead bytes number size → HasHead (take count bytes ++ rest) number size
 head_stays bytes rest count number size some head =
     let front : List ℕ = take count bytes in

@@ -5,7 +5,7 @@ use Rattle.q3_bits.specs.ResultBind.{◌>>=◌, fault_as}
 use Rattle.q3_text.specs.declared.text.Command.{Command}
 use Rattle.q3_svmsg.specs.declared.error.Illegible.{Illegible}
 use Rattle.q3_clstate.specs.declared.applied.Applied.{Applied}
-use Rattle.q3_clstate.specs.State.{AppliedState, Application, apply_at, state_behind, answered, heard_in}
+use Rattle.q3_clstate.specs.State.{AppliedState, Application, apply_at, state_after_message, answered, heard_in}
 use Rattle.q3_demo.specs.declared.error.DemoError.{DemoError}
 use Rattle.q3_demo.specs.declared.error.DemoError.TheVariants.{ReadFault, Truncated, BadLength, BadNumber, Message as NoMessage, NoMemory, WriteFault}
 use Rattle.q3_demo.specs.declared.record.Piece.TheVariants as piece
@@ -52,7 +52,7 @@ step_applies demo bytes message now number size next applied there found message
 pub plays_record : (demo bytes message : List ℕ) (was : PlayerState) (number size next : ℕ) (answer : Applied) (state : AppliedState) (heard : List Command) → drop was.played.at demo ≡ bytes
     → Ok (piece.Message number size next) ≡ piece_of bytes was.played.at was.played.last → message ≡ take size (drop head_bytes bytes)
     → Ok answer ≡ fault_as (λ cause. NoMessage was.played.at cause) (answered (apply_at was.played.state number message))
-    → state ≡ state_behind was.played.state (apply_at was.played.state number message) → heard ≡ heard_in (apply_at was.played.state number message)
+    → state ≡ state_after_message was.played.state (apply_at was.played.state number message) → heard ≡ heard_in (apply_at was.played.state number message)
     → PlaysOn (step demo was.played) was (record { played = record { state = state; records = was.played.records + 1; last = number; at = next }; heard = heard }) (Ok (Some answer))
 plays_record demo bytes message was number size next answer state heard there found message_is answers state_is heard_is =
     let now = was.played in
@@ -62,7 +62,7 @@ plays_record demo bytes message was number size next answer state heard there fo
       played_on now number next a.0,
       step_applies demo bytes message now number size next (Ok a.0) there found message_is so,
       ap₂ (λ (s : AppliedState) (h : List Command). record { played = record { state = s; records = now.records + 1; last = number; at = next }; heard = h })
-          (state_is ∙ ap (state_behind now.state) a.1) (heard_is ∙ ap heard_in a.1),
+          (state_is ∙ ap (state_after_message now.state) a.1) (heard_is ∙ ap heard_in a.1),
       a.2,
     )
 

@@ -38,16 +38,16 @@ configs_text-more texts index within =
     ap (configs_text 0) (take_more texts index [] within) ∙ (configs_text-push 0 (take index texts) (get_or texts index [])
     ∙ ap (λ i. configs_text 0 (take index texts) ++ config_text i (get_or texts index [])) (omega (arith, length-take-le index texts (omega arith))))
 
--- the strings behind an index
-abbrev pub configs_behind : List (List ℕ) → ℕ → List ℕ
-configs_behind texts index = configs_text (0 + length (take (index + 1) texts)) (drop (index + 1) texts)
+-- the strings after an index
+abbrev pub configs_after : List (List ℕ) → ℕ → List ℕ
+configs_after texts index = configs_text (0 + length (take (index + 1) texts)) (drop (index + 1) texts)
 
 -- the strings before an index, the string there, and the others
 pub configs_text-split : (texts : List (List ℕ)) (index : ℕ) → index < length texts
-    → configs_text 0 texts ≡ (configs_text 0 (take index texts) ++ config_text index (get_or texts index [])) ++ configs_behind texts index
+    → configs_text 0 texts ≡ (configs_text 0 (take index texts) ++ config_text index (get_or texts index [])) ++ configs_after texts index
 configs_text-split texts index within =
     ap (configs_text 0) (sym (take-append-drop (index + 1) texts))
-    ∙ (configs_text-append 0 (take (index + 1) texts) (drop (index + 1) texts) ∙ ap (λ t. t ++ configs_behind texts index) (configs_text-more texts index within))
+    ∙ (configs_text-append 0 (take (index + 1) texts) (drop (index + 1) texts) ∙ ap (λ t. t ++ configs_after texts index) (configs_text-more texts index within))
 
 -- ---- baselines
 
@@ -101,8 +101,8 @@ more_texts held last (suc more) =
       ap (held_texts held) (let e : last + suc more ≡ last + more + 1 = omega arith in e) ∙ last_one held (last + more) ∙ ap (λ (t : List ℕ). t ++ line) others.1 ∙ append_assoc (held_texts held last) others.0 line,
     )
 
-pub held_texts-behind : (held : HeldSnapshots) (last newest : ℕ) → last ≤ newest → (rest : List ℕ) × (held_texts held newest ≡ held_texts held last ++ rest)
-held_texts-behind held last newest le =
+pub held_texts-after : (held : HeldSnapshots) (last newest : ℕ) → last ≤ newest → (rest : List ℕ) × (held_texts held newest ≡ held_texts held last ++ rest)
+held_texts-after held last newest le =
     let others = more_texts held last (newest - last) in
     let is : newest ≡ last + (newest - last) = omega arith in
     (others.0, ap (held_texts held) is ∙ others.1)

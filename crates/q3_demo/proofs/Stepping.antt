@@ -24,7 +24,7 @@ limit_tells played (Ok (piece.Message number size next)) = refl
 limit_tells played (Err e) = refl
 
 step_tells : (played : Played) (step : Result (Option Stepped) DemoError) (others : Played → Play) (records : Played → List Stepped)
-    → ((behind : Played) → Tells (others behind) (records behind) behind) → Tells (play_step played step others) (next_records step records) played
+    → ((after : Played) → Tells (others after) (records after) after) → Tells (play_step played step others) (next_records step records) played
 unfolding Tells texts_of last_of
 step_tells played (Ok None) others records tells = refl
 step_tells played (Ok (Some stepped)) others records tells = ap (λ (texts : List (List ℕ)). stepped.text ∷ texts) (tells stepped.played)
@@ -46,9 +46,9 @@ step_counts : (played : Played) (step : Result (Option Stepped) DemoError) (reco
     → ((stepped : Stepped) → step ≡ Ok (Some stepped) → (last_of stepped.played (records stepped.played)).records ≡ played.records + 1 + length (records stepped.played))
     → (last_of played (next_records step records)).records ≡ played.records + length (next_records step records)
 unfolding last_of
-step_counts played (Ok None) records behind = omega arith
-step_counts played (Ok (Some stepped)) records behind = behind stepped refl ∙ omega arith
-step_counts played (Err e) records behind = omega arith
+step_counts played (Ok None) records after = omega arith
+step_counts played (Ok (Some stepped)) records after = after stepped refl ∙ omega arith
+step_counts played (Err e) records after = omega arith
 
 counts_from : (left : ℕ) (demo : List ℕ) (played : Played) → (last_of played (records_from left demo played)).records ≡ played.records + length (records_from left demo played)
 unfolding records_from last_of
@@ -67,7 +67,7 @@ tells_records = record {
 -- ---- what the first of them leave
 
 step_leaves : (played : Played) (step : Result (Option Stepped) DemoError) (count : ℕ) (records : Played → List Stepped) (first : Played → Result Played DemoError)
-    → ((behind : Played) → count ≤ length (records behind) → first behind ≡ Ok (last_of behind (take count (records behind))))
+    → ((after : Played) → count ≤ length (records after) → first after ≡ Ok (last_of after (take count (records after))))
     → suc count ≤ length (next_records step records) → (step >>= λ (next : Option Stepped). go_on played next >>= first) ≡ Ok (last_of played (take (suc count) (next_records step records)))
 unfolding last_of
 step_leaves played (Ok None) count records first leaves some = absurd (omega (arith, some))
@@ -85,7 +85,7 @@ leaves_from (suc left) (suc count) demo played some =
 -- ---- where they are fewer
 
 step_refuses : (played : Played) (step : Result (Option Stepped) DemoError) (count : ℕ) (records : Played → List Stepped) (others : Played → Play) (first : Played → Result Played DemoError)
-    → ((behind : Played) → length (records behind) < count → first behind ≡ Err (no_more (last_of behind (records behind)) (others behind).ending))
+    → ((after : Played) → length (records after) < count → first after ≡ Err (no_more (last_of after (records after)) (others after).ending))
     → length (next_records step records) < suc count
     → (step >>= λ (next : Option Stepped). go_on played next >>= first) ≡ Err (no_more (last_of played (next_records step records)) (play_step played step others).ending)
 unfolding last_of
@@ -100,7 +100,7 @@ refuses_from left zero demo played few within = absurd (omega (arith, few))
 refuses_from zero (suc count) demo played few within = absurd (omega (arith, within))
 refuses_from (suc left) (suc count) demo played few within =
     step_refuses played (step demo played) count (records_from left demo) (play_from left demo) (play_first count demo)
-    (λ behind less. refuses_from left count demo behind less (omega (arith, within))) few
+    (λ after less. refuses_from left count demo after less (omega (arith, within))) few
 
 pub first_leave : FirstRecordsLeave
 first_leave = record {

@@ -17,7 +17,7 @@ use Rattle.q3_demo.specs.Report.{state_text}
 use Rattle.q3_demo.specs.Playing.{Played, Stepped, step, at_most}
 use Rattle.q3_demo.specs.Player.{PlayerState, PlaysOn}
 use Rattle.q3_demo.specs.Running.{Plays, WriteCause}
-use Rattle.q3_demo.specs.Steps.{step_text, Leads, Fails, behind_limit}
+use Rattle.q3_demo.specs.Steps.{step_text, Leads, Fails, after_limit}
 use Rattle.q3_demo.proofs.Going.{was_played, ends_limit, refuses_limit}
 use Rattle.q3_demo.proofs.Refusals.{step_refused}
 
@@ -94,7 +94,7 @@ counts_one bytes was now (Some answer) plays =
     let was-one = was_played demo.0 was.played stepped one.1 in
     omega (arith, ap (λ (p : PlayerState). p.played.records) one.2, ap (λ (s : Stepped). s.played.records) was-one.stepped_is)
 
--- ---- behind the last record that may be played
+-- ---- after the last record that may be played
 
 pub limit_ends : (law : TextsFollow) (bytes : List ℕ) (was now : PlayerState) (mid after : Option Written) (result : Result (Unit {0}) DemoError) → PlaysSo bytes was now (Ok None)
     → Wrote mid after (state_text now.played.state now.played.records) (is_ok result) → IfErr result (λ e. e ≡ WriteFault)
@@ -120,7 +120,7 @@ limit_so law bytes was at e written refuses at_is =
     (refuses_limit law demo.0 bytes was.played written (Err e) demo.1 (refuses demo.0 demo.1) (λ is. absurd cc))
 
 pub limit_fails : (law : TextsFollow) (bytes : List ℕ) (was now : PlayerState) (at : ℕ) (e : DemoError) (written : Option Written) → PlaysSo bytes was now (Err e) → at ≡ was.played.at
-    → Plays (at_most was.played (piece_of bytes was.played.at was.played.last)) written written (Err (behind_limit at e))
+    → Plays (at_most was.played (piece_of bytes was.played.at was.played.last)) written written (Err (after_limit at e))
 limit_fails law bytes was now at ReadFault written plays at_is = (0, law.none)
 limit_fails law bytes was now at (Truncated n) written plays at_is = limit_so law bytes was at (Truncated n) written plays at_is
 limit_fails law bytes was now at (BadLength n) written plays at_is = limit_so law bytes was at (BadLength n) written plays at_is

@@ -16,12 +16,12 @@ pub has_some : (told : Option Told) (file at : ℕ) → (bytes : List ℕ) × Ha
 has_some None file at = ([], tt)
 has_some (Some told) file at = (drop at (contents_at told file), refl)
 
--- bytes, and those behind so many of them
+-- bytes, and those after so many of them
 pub has_joined : (told : Option Told) (file at count : ℕ) (bytes rest : List ℕ) → HasFrom told file at bytes → HasFrom told file (at + count) rest
     → HasFrom told file at (take count bytes ++ rest)
-has_joined None file at count bytes rest has behind = tt
-has_joined (Some told) file at count bytes rest has behind =
-    let is : rest ≡ drop count bytes = behind ∙ sym (drop-drop count at (contents_at told file)) ∙ ap (drop count) (sym has) in
+has_joined None file at count bytes rest has after = tt
+has_joined (Some told) file at count bytes rest has after =
+    let is : rest ≡ drop count bytes = after ∙ sym (drop-drop count at (contents_at told file)) ∙ ap (drop count) (sym has) in
     ap (λ (r : List ℕ). take count bytes ++ r) is ∙ take-append-drop count bytes ∙ has
 
 -- ---- what is asked for grows
@@ -61,13 +61,13 @@ ends_before (Some told) now file at size measures short =
 
 -- ---- until the buffer is full
 
--- the buffer behind a read into what was left of it
+-- the buffer after a read into what was left of it
 pub put_front : (a k n : ℕ) (xs ys : List ℕ) → a ≤ length xs → n ≤ length ys → take (a + n) (put_mid a k xs ys) ≡ take a xs ++ take n ys
 put_front a k n xs ys within few =
     let post : List ℕ = post_of a k xs in
     let long : length (take a xs) ≡ a = length-take-le a xs within in
     take-add a n (take a xs ++ (ys ++ post))
-    ∙ ap₂ (λ (front behind : List ℕ). front ++ behind) (take_at (take a xs) (ys ++ post) a long)
+    ∙ ap₂ (λ (front after : List ℕ). front ++ after) (take_at (take a xs) (ys ++ post) a long)
     (ap (take n) (drop_at (take a xs) (ys ++ post) a long) ∙ take-append-le n ys post few)
 
 pub put_before : (a k : ℕ) (xs ys : List ℕ) → a ≤ length xs → take a (put_mid a k xs ys) ≡ take a xs
@@ -89,7 +89,7 @@ pub comes_none : (told : Option Told) (file at : ℕ) (buffer : List ℕ) → Ha
 comes_none None file at buffer = tt
 comes_none (Some told) file at buffer = (omega arith, refl)
 
--- what a read gives of the bytes behind
+-- what a read gives of the bytes that follow
 given : (contents part part' : List ℕ) (at more : ℕ) → Gives contents at more part part' → take more part' ≡ take more (drop at contents)
 given contents part part' at more gives =
     let there : at + more ≤ length contents ⊎ (more ≡ 0) = gives.there in
@@ -105,9 +105,9 @@ grown : (contents part part' buffer buffer' : List ℕ) (at count more : ℕ) �
     → (count + more ≤ length (drop at contents)) × (take (count + more) buffer' ≡ take (count + more) (drop at contents))
 grown contents part part' buffer buffer' at count more fits front gives put =
     let there : at + count + more ≤ length contents ⊎ (more ≡ 0) = gives.there in
-    let behind : take more part' ≡ take more (drop count (drop at contents)) = given contents part part' (at + count) more gives ∙ ap (take more) (sym (drop-drop count at contents)) in (
+    let after : take more part' ≡ take more (drop count (drop at contents)) = given contents part part' (at + count) more gives ∙ ap (take more) (sym (drop-drop count at contents)) in (
       elim there [ inl within ↦ omega (arith, length-drop at contents) | inr none ↦ omega arith ],
-      put ∙ ap (λ (xs : List ℕ). xs ++ take more part') front ∙ ap (λ (xs : List ℕ). take count (drop at contents) ++ xs) behind ∙ sym (take-add count more (drop at contents)),
+      put ∙ ap (λ (xs : List ℕ). xs ++ take more part') front ∙ ap (λ (xs : List ℕ). take count (drop at contents) ++ xs) after ∙ sym (take-add count more (drop at contents)),
     )
 
 -- more came

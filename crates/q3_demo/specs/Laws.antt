@@ -12,7 +12,7 @@ use Rattle.q3_demo.specs.Playing.{Played, Stepped, unplayed, step, most_records,
 use Rattle.q3_demo.specs.Recorder.{MayNote}
 use Rattle.q3_demo.specs.Recording.{Noted, note_of, noted_from, closing, recording}
 
--- behind messages, and behind one more: its bytes stand behind theirs; and the file of a recording is what its messages add, with its end
+-- after messages, and after one more: its bytes follow theirs; and the file of a recording is what its messages add, with its end
 pub record RecordingGoesOn : Type 0 where
   pub stage : (stage : Stage) (messages : List Noted) (noted : Noted)
       → (noted_from stage (messages ++ noted ∷ [])).stage ≡ (note_of (noted_from stage messages).stage noted).stage
@@ -39,7 +39,7 @@ abbrev pub RefusedForItsBytes : Type 0
 RefusedForItsBytes = (demo : List ℕ) (played : Played) (e : DemoError) → step demo played ≡ Err e → IsRefusal e
 
 -- how the play of a front of a demo ends, where these records more are played of the whole: with no refusal; refused as cut, at the place
--- behind its last record; or, where none more is played, as the play of the whole
+-- after its last record; or, where none more is played, as the play of the whole
 abbrev pub EndsBefore : List Stepped → ℕ → Result (Unit {0}) DemoError → Result (Unit {0}) DemoError → Type 0
 EndsBefore more at ending whole = (ending ≡ Ok tt) ⊎ ((ending ≡ Err (Truncated at)) ⊎ ((more ≡ []) × (ending ≡ whole)))
 
@@ -48,7 +48,7 @@ abbrev pub APrefixPlaysAPrefix : Type 0
 APrefixPlaysAPrefix = (profile : Profile) (front rest : List ℕ) → (more : List Stepped) × (records_of profile (front ++ rest) ≡ records_of profile front ++ more)
     × EndsBefore more (last_played profile front).at (play_of profile front).ending (play_of profile (front ++ rest)).ending
 
--- what is told behind the records: what they left, exactly where the demo ends
+-- what is told after the records: what they left, exactly where the demo ends
 abbrev pub end_texts : Played → Result (Unit {0}) DemoError → List (List ℕ)
 end_texts last (Ok x) = state_text last.state last.records ∷ []
 end_texts last (Err e) = []

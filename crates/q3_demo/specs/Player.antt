@@ -13,7 +13,7 @@ pub record PlayerState : Type 0 where
   pub played : Played
   pub heard : List Command
 
--- of a demo that is played from its first record: behind the most that may be played, anything but the demo's end is refused
+-- of a demo that is played from its first record: after the most that may be played, anything but the demo's end is refused
 abbrev pub at_most_end : Played → Result Piece DemoError → Result (Option Stepped) DemoError
 at_most_end played (Ok End) = Ok None
 at_most_end played other = Err (Truncated played.at)
@@ -29,7 +29,7 @@ PlaysOn step was now (Ok None) = (step ≡ Ok None) × (now ≡ was)
 PlaysOn step was now (Err ReadFault) = ⊤
 PlaysOn step was now (Err e) = step ≡ Err e
 
--- what a piece that was read counts as behind the last record that may be played
+-- what a piece that was read counts as after the last record that may be played
 abbrev pub end_alone : ℕ → Result Piece DemoError → Result (Option Applied) DemoError
 end_alone at (Ok End) = Ok None
 end_alone at (Ok (Message number length next)) = Err (Truncated at)

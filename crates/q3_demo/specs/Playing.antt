@@ -12,7 +12,7 @@ use Rattle.q3_demo.specs.declared.record.Piece.TheVariants.{End, Message}
 use Rattle.q3_demo.specs.Records.{head_bytes, piece_of}
 use Rattle.q3_demo.specs.Report.{state_text}
 
--- how far a demo was played: what its messages left, how many they are, the number of the last, 0 for none, and the place behind them
+-- how far a demo was played: what its messages left, how many they are, the number of the last, 0 for none, and the place after them
 pub record Played : Type 0 where
   pub state : AppliedState
   pub records : ℕ
@@ -23,7 +23,7 @@ pub record Played : Type 0 where
 abbrev pub unplayed : Profile → Played
 unplayed profile = record { state = new_state profile; records = 0; last = 0; at = 0 }
 
--- what stands behind what was played
+-- what comes after what was played
 abbrev pub next_piece : List ℕ → Played → Result Piece DemoError
 next_piece demo played = piece_of (drop played.at demo) played.at played.last
 
@@ -68,7 +68,7 @@ step demo played = do
 abbrev pub most_records : ℕ
 most_records = 1048576
 
--- what playing tells: the lines of each record that is played, and behind them, where the demo ends, what they left; and why it ended,
+-- what playing tells: the lines of each record that is played, and after them, where the demo ends, what they left; and why it ended,
 -- where it wasn't by the demo's end
 pub record Play : Type 0 where
   pub texts : List (List ℕ)
@@ -111,7 +111,7 @@ play_of profile demo = play_from most_records demo (unplayed profile)
 
 -- ---- the records that are played
 
--- a record more where a step gives one, and then the others; none behind a refusal or the demo's end
+-- a record more where a step gives one, and then the others; none after a refusal or the demo's end
 abbrev pub next_records : Result (Option Stepped) DemoError → (Played → List Stepped) → List Stepped
 next_records (Ok (Some stepped)) others = stepped ∷ others stepped.played
 next_records other others = []

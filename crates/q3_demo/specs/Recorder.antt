@@ -27,7 +27,7 @@ abbrev pub is_waiting : Stage → Bool
 is_waiting Waits = true
 is_waiting other = false
 
--- what is answered where a recording is so far behind a message
+-- what is answered where a recording has come so far after a message
 abbrev pub noted_as : Stage → Noted
 noted_as Waits = noted.Waits
 noted_as (Runs first) = noted.Wrote

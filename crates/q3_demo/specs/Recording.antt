@@ -78,7 +78,7 @@ whole_bits state message = server_message_bits state.profile state.baselines Non
 
 -- ---- a recording goes on
 
--- what a message adds to the file, and how far the recording is behind it
+-- what a message adds to the file, and how far the recording is after it
 pub record Noting : Type 0 where
   pub stage : Stage
   pub bytes : List ℕ
@@ -135,7 +135,7 @@ pub record Noted : Type 0 where
 abbrev pub note_of : Stage → Noted → Noting
 note_of stage noted = note_at stage (composed (game_bits noted.before noted.issued)) noted.applied.state noted.applied.answer noted.message
 
--- behind these messages
+-- after these messages
 unfoldable pub noted_from : Stage → List Noted → Noting
 noted_from stage [] = record { stage = stage; bytes = [] }
 noted_from stage (noted ∷ others) =
@@ -143,7 +143,7 @@ noted_from stage (noted ∷ others) =
     let rest = noted_from now.stage others in
     record rest { bytes = now.bytes ++ rest.bytes }
 
--- the end behind a recording that goes on
+-- the end after a recording that goes on
 abbrev pub closing : Stage → List ℕ
 closing Ended = []
 closing other = end_bytes

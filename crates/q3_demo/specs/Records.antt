@@ -1,4 +1,4 @@
--- The records of a demo file, one behind the other.
+-- The records of a demo file, one after the other.
 use Rattle.std.specs.Prelude.{ℕ, ◌+◌, ◌==◌, ◌||◌, nat_le, nat_lt, if◌then◌else◌, List, drop, length, Result, Ok, Err}
 use Rattle.byteorder.specs.Endian.{little_number}
 use Rattle.q3_demo.specs.declared.error.DemoError.{DemoError}
@@ -30,7 +30,7 @@ number_end = 2147483648
 abbrev pub most_bytes : ℕ
 most_bytes = 1073741824
 
--- what stands at a place of a demo, by the bytes from there on, behind a record of this number, 0 for none: its end, which is also
+-- what stands at a place of a demo, by the bytes from there on, after a record of this number, 0 for none: its end, which is also
 -- where the bytes end within a head; a record; or the first of its rules that it breaks
 abbrev pub piece_of : List ℕ → ℕ → ℕ → Result Piece DemoError
 piece_of bytes at last =

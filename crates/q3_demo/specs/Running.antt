@@ -47,7 +47,7 @@ FindsPiece bytes at last buffer result = (result ≡ piece_of bytes at last) × 
 -- ---- playing
 
 -- the text of playing was printed and it ended so; or something from outside ended it early: before the first line where memory ran out,
--- behind the first of the texts, whole, where a read failed, and where the sink did it took a front
+-- after the first of the texts, whole, where a read failed, and where the sink did it took a front
 abbrev pub Plays : Play → Option Written → Option Written → Result (Unit {0}) DemoError → Type 0
 Plays play before after (Err NoMemory) = after ≡ before
 Plays play before after (Err ReadFault) = (count : ℕ) × Wrote before after (concat (take count play.texts)) true

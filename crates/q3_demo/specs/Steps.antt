@@ -29,7 +29,7 @@ step_text played (Ok None) = state_text played.state played.records
 step_text played (Ok (Some stepped)) = stepped.text
 step_text played (Err e) = []
 
--- what is played behind a step
+-- what is played after a step
 abbrev pub Leads : Result (Option Stepped) DemoError → Played → Type 0
 Leads (Ok (Some stepped)) now = stepped.played ≡ now
 Leads other now = ⊥
@@ -47,7 +47,7 @@ TakesStep step was now before after (Ok true) = (step ≡ Ok None) × Wrote befo
 TakesStep step was now before after (Ok false) = Leads step now × Wrote before after (step_text was step) true
 TakesStep step was now before after (Err e) = Fails step was before after e
 
--- what a refusal counts as behind the last record that may be played: a read fault stays one
-abbrev pub behind_limit : ℕ → DemoError → DemoError
-behind_limit at ReadFault = ReadFault
-behind_limit at other = Truncated at
+-- what a refusal counts as after the last record that may be played: a read fault stays one
+abbrev pub after_limit : ℕ → DemoError → DemoError
+after_limit at ReadFault = ReadFault
+after_limit at other = Truncated at

@@ -3,7 +3,7 @@
 ghost use Rattle.std.specs.Prelude.{◌≡◌, ◌≢◌, ◌+◌, ◌<◌, ◌≤◌, IsTrue, List, ℕ, [], length, drop, Some, Ok, IfOk, IfErr};
 ghost use Rattle.q3_io.specs.Told.{Told, contents_at};
 ghost use Rattle.q3_bits.specs.ResultBind.{fault_as};
-ghost use Rattle.q3_clstate.specs.State.{apply_at, state_behind, answered, heard_in};
+ghost use Rattle.q3_clstate.specs.State.{apply_at, state_after_message, answered, heard_in};
 ghost use Rattle.q3_demo.specs.Player.{PlaysOn, end_alone, step_of_all};
 ghost use Rattle.q3_demo.specs.Playing.{Stepped, unplayed, step};
 ghost use Rattle.q3_demo.specs.Running.{HasFrom, OnlyAsks, AsksOf, asked_of, ReadCause};
@@ -21,7 +21,7 @@ use std::marker::Model;
 /// How many records are played at most.
 pub(crate) const MOST_RECORDS: u32 = 1_048_576;
 
-/// How far a demo was played. After `new` and `behind` no call takes memory.
+/// How far a demo was played. After `new` and `from_state` no call takes memory.
 #[derive(Drop)]
 pub struct Player {
     /// What the messages left that were played.
@@ -62,11 +62,16 @@ impl Player {
         ensures { IfOk result (λ player. player ≡ record { played = unplayed profile.now; heard = [] }) }
     {
         let state = ClState::new(alloc, profile)?;
-        Player::behind(alloc, state, 0, 0)
+        Player::from_state(alloc, state, 0, 0)
     }
 
     /// Goes on after so many records, at the place of the next one, from what they left. `Err` is want of memory.
-    pub fn behind(alloc: Global, state: ClState, records: u32, at: u64) -> Result<Player, NoMemory>
+    pub fn from_state(
+        alloc: Global,
+        state: ClState,
+        records: u32,
+        at: u64,
+    ) -> Result<Player, NoMemory>
         ensures { IfOk result
             (λ player. player ≡ record {
               played = record {
@@ -213,7 +218,7 @@ fn apply(
     state: &mut ClState,
     log: &mut Log,
 ) -> Result<Applied, DemoError>
-    ensures state { state.new ≡ state_behind state.old (apply_at state.old number message.now) }
+    ensures state { state.new ≡ state_after_message state.old (apply_at state.old number message.now) }
     ensures answer { result ≡ fault_as (λ cause. DemoError.Message at cause)
         (answered (apply_at state.old number message.now)) }
     ensures log { log.new.commands ≡ heard_in (apply_at state.old number message.now) }

@@ -6,7 +6,7 @@ ghost use Rattle.q3_demo.specs.Records.{piece_of};
 ghost use Rattle.q3_demo.specs.Report.{state_text};
 ghost use Rattle.q3_demo.specs.Playing.{most_records, at_most, play_of, play_from, step};
 ghost use Rattle.q3_demo.specs.Running.{HasFrom, OnlyAsks, Plays, ReadCause, WriteCause};
-ghost use Rattle.q3_demo.specs.Steps.{TakesStep, behind_limit};
+ghost use Rattle.q3_demo.specs.Steps.{TakesStep, after_limit};
 
 use crate::error::DemoError;
 use crate::lines::print_record;
@@ -101,7 +101,7 @@ fn play_next<F: Files, O: Sink>(
     }
 }
 
-/// Behind the last record that may be played, anything but the demo's end is refused.
+/// After the last record that may be played, anything but the demo's end is refused.
 fn end_here<F: Files, O: Sink>(
     files: &mut F,
     file: usize,
@@ -125,13 +125,13 @@ fn end_here<F: Files, O: Sink>(
     match player.next(files, file) {
         Ok(None) => end(player, out),
         Ok(Some(_)) => Err(DemoError::Truncated(at)),
-        Err(error) => Err(behind_limit(at, error)),
+        Err(error) => Err(after_limit(at, error)),
     }
 }
 
 /// What a refusal counts as after the last record that may be played: a read fault stays one.
-fn behind_limit(at: u64, error: DemoError) -> DemoError
-    ensures { result ≡ behind_limit at error }
+fn after_limit(at: u64, error: DemoError) -> DemoError
+    ensures { result ≡ after_limit at error }
 {
     match error {
         DemoError::ReadFault => DemoError::ReadFault,

@@ -76,7 +76,7 @@ pub made_stands : (told now : Option Told) (file : ℕ) (name : List ℕ) → Cr
 made_stands None now file name is = rw is tt
 made_stands (Some told) now file name is = rw (is.1, is.0) (get_or-append_seam told.numbers name [] [])
 
--- ---- bytes are put behind those of a file
+-- ---- bytes are put after those of a file
 
 extended_on : (told now : Option Told) (file : ℕ) (name bytes : List ℕ) (result : Result (Unit {0}) Failed) → StandsForName told file name → AppendsBytes told now file bytes result
     → ActsOn told now (extends name bytes) result

@@ -96,10 +96,10 @@ server_line server (events.Time time) = Some (set_time server time)
 server_line server (events.Say c text) = Some (say_command server c text)
 server_line server other = None
 
--- the server behind it
-abbrev pub server_behind : ServerState → Option ServerStep → ServerState
-server_behind server None = server
-server_behind server (Some step) = step.server
+-- the server after it
+abbrev pub stepped_server : ServerState → Option ServerStep → ServerState
+stepped_server server None = server
+stepped_server server (Some step) = step.server
 
 -- what a take of the server ran
 abbrev pub ran_of : Taken → Run

@@ -34,14 +34,14 @@ waits_in (Some recording) = is_waiting recording.stage
 abbrev pub asking : ClientState → Option RecordingState → ClientState
 asking client recording = record client { asks_whole = waits_in recording }
 
--- bytes go behind those of a file, if there are any
+-- bytes go after those of a file, if there are any
 abbrev pub extends : List ℕ → List ℕ → List FileAct
 extends name [] = []
 extends name (byte ∷ bytes) = Extends name (byte ∷ bytes) ∷ []
 
 -- ---- it begins, and has its end
 
--- the recording behind a line, the answer, and what becomes of files
+-- the recording after a line, the answer, and what becomes of files
 pub record RecordingStep (E : Type 0) : Type 0 where
   pub recording : Option RecordingState
   pub answer : Result (Unit {0}) E
@@ -68,7 +68,7 @@ abbrev pub is_ended : Stage → Bool
 is_ended Ended = true
 is_ended other = false
 
--- how far a recording is behind what its client took, whether it ended by that, and what it adds to its file
+-- how far a recording is after what its client took, whether it ended by that, and what it adds to its file
 pub record RecorderTook : Type 0 where
   pub stage : Stage
   pub ended : Bool
@@ -83,7 +83,7 @@ recorder_took stage client taken (Applied applied) =
     noted_by (note_at stage (composed (game_bits client.state (issued_of client.issued))) taken.client.state applied taken.client.message)
 recorder_took stage client taken other = record { stage = stage; ended = false; bytes = [] }
 
--- the recording behind what its client took, whether it ended by that, and what becomes of its file
+-- the recording after what its client took, whether it ended by that, and what becomes of its file
 pub record RecordingTook : Type 0 where
   pub recording : Option RecordingState
   pub ended : Bool
@@ -112,10 +112,10 @@ HasFile told given file (Some recording) = (file < given) × StandsForName told 
 
 -- what a call does to files: these acts, or where one fails some of them; no number is lost, nor the name that it stands for, nothing is
 -- read, and a write that failed was counted
-pub record WritesFiles (told now : Option Told) (given behind faults faults_behind write_faults write_faults_behind : ℕ) (acts : List FileAct) (result : Result (Unit {0}) Failed) : Type 0 where
+pub record WritesFiles (told now : Option Told) (given after faults faults_after write_faults write_faults_after : ℕ) (acts : List FileAct) (result : Result (Unit {0}) Failed) : Type 0 where
   pub acts_on : ActsOn told now acts result
   pub some : IsErr result → acts ≢ []
-  pub numbers : given ≤ behind
+  pub numbers : given ≤ after
   pub names : (file : ℕ) (name : List ℕ) → file < given → StandsForName told file name → StandsForName now file name
-  pub reads : faults_behind ≡ faults
-  pub cause : HasCause write_faults write_faults_behind result
+  pub reads : faults_after ≡ faults
+  pub cause : HasCause write_faults write_faults_after result

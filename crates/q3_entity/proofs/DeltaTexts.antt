@@ -22,7 +22,7 @@ pub entity_delta-unchanged : (words : List (List Bool)) (table : Layout) (from t
 unfolding entity_delta
 entity_delta-unchanged words table from to force none = rw none refl
 
--- two marks behind a number are a field of two bits
+-- two marks after a number are a field of two bits
 pub opening-marks : (words : List (List Bool)) (table : Layout) (number marks : ℕ)
     → opening words table number ((marks % 2, 1) ∷ (marks / 2, 1) ∷ []) ≡ field_bits words table.number_bits number ++ field_bits words 2 marks
 unfolding low_bits bytes_bits field_bits row_bits

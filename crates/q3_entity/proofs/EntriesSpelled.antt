@@ -1,4 +1,4 @@
--- The spellings of entries behind the number of the first, and the end mark.
+-- The spellings of entries after the number of the first, and the end mark.
 use Rattle.std.proofs.Common.{◌≡◌, ℕ, ◌≤◌, Bool, List, [], ◌∷◌, ◌++◌, refl, sym, ap, ◌∙◌, append_assoc, arith}
 use Rattle.std.proofs.lemmas.List.{append-nil}
 use Rattle.q3_bits.specs.Words.{field_bits}
@@ -21,42 +21,42 @@ pub first-least : (table : Layout) (least : ℕ) (entries : List Entered) → le
 first-least table least [] below rise = (below, omega arith)
 first-least table least (entry ∷ entries) below rise = (rise.0, omega (arith, rise.1))
 
--- what stands behind it
-abbrev pub SpellsBehind : List (List Bool) → Layout → Baselines → List EntityState → List Entered → List Bool → Type 0
-SpellsBehind words table baselines base [] text = text ≡ []
-SpellsBehind words table baselines base (entry ∷ entries) text =
+-- what follows it
+abbrev pub SpellsAfter : List (List Bool) → Layout → Baselines → List EntityState → List Entered → List Bool → Type 0
+SpellsAfter words table baselines base [] text = text ≡ []
+SpellsAfter words table baselines base (entry ∷ entries) text =
     (own : List Bool) × (rest : List Bool) × (text ≡ own ++ (field_bits words table.number_bits (first_number table entries) ++ rest))
     × SpellsMarks words table (words_from baselines entry.number (with_number entry.number base)) entry.words own
-    × SpellsBehind words table baselines base entries rest
+    × SpellsAfter words table baselines base entries rest
 
--- a number and what stands behind it spell the entries
-pub entries_of_behind : (words : List (List Bool)) (table : Layout) (baselines : Baselines) (base : List EntityState) (entries : List Entered) (text : List Bool) → SpellsBehind words table baselines base entries text
+-- a number and what follows it spell the entries
+pub entries_of_after : (words : List (List Bool)) (table : Layout) (baselines : Baselines) (base : List EntityState) (entries : List Entered) (text : List Bool) → SpellsAfter words table baselines base entries text
     → SpellsEntries words table baselines base entries (field_bits words table.number_bits (first_number table entries) ++ text)
-entries_of_behind words table baselines base [] text s = rw (s, append-nil) refl
-entries_of_behind words table baselines base (entry ∷ entries) text (own, rest, whole, marks, behind) =
+entries_of_after words table baselines base [] text s = rw (s, append-nil) refl
+entries_of_after words table baselines base (entry ∷ entries) text (own, rest, whole, marks, after) =
     let number = field_bits words table.number_bits entry.number in
     let next = field_bits words table.number_bits (first_number table entries) in (
       number ++ own,
       next ++ rest,
       ap (λ (t : List Bool). number ++ t) whole ∙ sym (append_assoc number own (next ++ rest)),
       entry_of_marks words table (words_from baselines entry.number (with_number entry.number base)) entry own marks,
-      entries_of_behind words table baselines base entries rest behind,
+      entries_of_after words table baselines base entries rest after,
     )
 
 -- and each spelling is made so
-pub behind_of_entries : (words : List (List Bool)) (table : Layout) (baselines : Baselines) (base : List EntityState) (entries : List Entered) (text : List Bool) → SpellsEntries words table baselines base entries text
-    → (behind : List Bool) × SpellsBehind words table baselines base entries behind × (text ≡ field_bits words table.number_bits (first_number table entries) ++ behind)
-behind_of_entries words table baselines base [] text s = ([], refl, s ∙ sym (append-nil (field_bits words table.number_bits (end_mark table))))
-behind_of_entries words table baselines base (entry ∷ entries) text (first, others, whole, spelled, more) =
+pub after_of_entries : (words : List (List Bool)) (table : Layout) (baselines : Baselines) (base : List EntityState) (entries : List Entered) (text : List Bool) → SpellsEntries words table baselines base entries text
+    → (after : List Bool) × SpellsAfter words table baselines base entries after × (text ≡ field_bits words table.number_bits (first_number table entries) ++ after)
+after_of_entries words table baselines base [] text s = ([], refl, s ∙ sym (append-nil (field_bits words table.number_bits (end_mark table))))
+after_of_entries words table baselines base (entry ∷ entries) text (first, others, whole, spelled, more) =
     let marks = marks_of_entry words table (words_from baselines entry.number (with_number entry.number base)) entry first spelled in
-    let behind = behind_of_entries words table baselines base entries others more in
+    let after = after_of_entries words table baselines base entries others more in
     let number = field_bits words table.number_bits entry.number in
     let next = field_bits words table.number_bits (first_number table entries) in (
-      marks.0 ++ (next ++ behind.0),
-      (marks.0, behind.0, refl, marks.1, behind.1),
-      whole ∙ ap (λ (t : List Bool). t ++ others) marks.2 ∙ append_assoc number marks.0 others ∙ ap (λ (t : List Bool). number ++ (marks.0 ++ t)) behind.2,
+      marks.0 ++ (next ++ after.0),
+      (marks.0, after.0, refl, marks.1, after.1),
+      whole ∙ ap (λ (t : List Bool). t ++ others) marks.2 ∙ append_assoc number marks.0 others ∙ ap (λ (t : List Bool). number ++ (marks.0 ++ t)) after.2,
     )
 
--- an entry, the number behind it, and what is behind that number, as one text
-pub behind_texts : (bits own number others left behind rest : List Bool) → bits ≡ own ++ left → left ≡ number ++ behind → behind ≡ others ++ rest → bits ≡ (own ++ (number ++ others)) ++ rest
-behind_texts bits own number others left behind rest first second third = rw (first, second, third) (simp append_assoc)
+-- an entry, the number after it, and what follows that number, as one text
+pub rest_texts : (bits own number others left after rest : List Bool) → bits ≡ own ++ left → left ≡ number ++ after → after ≡ others ++ rest → bits ≡ (own ++ (number ++ others)) ++ rest
+rest_texts bits own number others left after rest first second third = rw (first, second, third) (simp append_assoc)

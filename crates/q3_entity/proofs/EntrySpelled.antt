@@ -1,4 +1,4 @@
--- The spellings of what stands behind an entity's number: a reader takes each of them and no other text.
+-- The spellings of what follows an entity's number: a reader takes each of them and no other text.
 use Rattle.std.proofs.Common.{◌≡◌, ◌⊎◌, ℕ, ◌^◌, ◌<◌, Bool, false, cond, eqb, List, ◌++◌, Option, Some, None, Ok, refl, sym, ap, ◌∙◌, subst, append_assoc, arith, inl, inr}
 use Rattle.std.proofs.lemmas.Bool.{cases_Bool, eqb-true, eqb-false}
 use Rattle.std.proofs.lemmas.List.{append-nil}
@@ -18,7 +18,7 @@ use Rattle.q3_entity.specs.declared.error.EntityError.TheVariants.{Bits}
 use Rattle.q3_entity.specs.Spelling.{Entered, SpellsEntry, words_there}
 use Rattle.q3_entity.specs.Laws.{EntryReadIsSpelled, EntrySpelledIsRead}
 
--- what stands behind the number of an entry
+-- what follows the number of an entry
 abbrev pub SpellsMarks : List (List Bool) → Layout → List ℕ → Option (List ℕ) → List Bool → Type 0
 SpellsMarks words table from there text =
     ((there ≡ None) × (text ≡ field_bits words 1 1))
@@ -52,7 +52,7 @@ pub record ReadMarks (words : List (List Bool)) (table : Layout) (from : List �
   pub are : AreWords 64 found.0.1
   pub normal : normal_words table.kinds from ≡ from → normal_words table.kinds found.0.1 ≡ found.0.1
 
--- the text of a bit that was read, and what is behind it
+-- the text of a bit that was read, and what follows it
 bit_was : ReadWasPut → (words : List (List Bool)) (bits : List Bool) (found : ℕ × List Bool) (value : ℕ) → IsCode words → field_at words 1 bits ≡ Ok found → found.0 ≡ value
     → bits ≡ field_bits words 1 value ++ found.1
 bit_was law words bits found value code e is = rw (← is) (law words 1 found.0 bits found.1 code e).1
@@ -63,7 +63,7 @@ bit_one law words bits found code e other =
     let fits : found.0 < 2 ^ 1 = (law words 1 found.0 bits found.1 code e).0 in
     omega (arith, fits, eqb-false found.0 0 other)
 
--- two texts, and what is behind them
+-- two texts, and what follows them
 two_texts : (bits one two left rest : List Bool) → bits ≡ one ++ left → left ≡ two ++ rest → bits ≡ (one ++ two) ++ rest
 two_texts bits one two left rest a b = rw (a, b, append_assoc) refl
 
@@ -166,7 +166,7 @@ marks_are_read put law words table from there text rest code is_table are (inr (
 marks_are_read put law words table from there text rest code is_table are (inr (inr (to, delta, changed, spelled, is))) =
     record { kind = Changed; to = to; is = sym changed; reads = rw is (changed_is_read put law words table from to delta rest code is_table are spelled) }
 
--- ---- and behind its number
+-- ---- and after its number
 
 pub entry_was_spelled : ReadWasPut → WordsReadAreSpelled → EntryReadIsSpelled
 entry_was_spelled put law words table from to kind number bits rest code is_table are e =

@@ -8,7 +8,7 @@ use Rattle.q3_entity.specs.Baselines.{Baselines}
 use Rattle.q3_entity.specs.Delta.{removal, entity_delta}
 use Rattle.q3_entity.specs.Lists.{piece}
 use Rattle.q3_entity.specs.Runs.{taken, from_number}
-use Rattle.q3_entity.specs.Merging.{removals, entry_bits, left_behind}
+use Rattle.q3_entity.specs.Merging.{removals, entry_bits, left_after}
 
 -- one is removed
 pub removals-next : (words : List (List Bool)) (table : Layout) (number : ℕ) (gone : EntityState) (others : List EntityState) → gone.number < number
@@ -42,7 +42,7 @@ from_number-none number = refl
 -- an entity with which the base begins
 pub record IsFirst (words : List (List Bool)) (table : Layout) (baselines : Baselines) (base : List EntityState) (to first : EntityState) (others : List EntityState) : Type 0 where
   pub text : entry_bits words table baselines base to ≡ entity_delta words table first to false
-  pub left : left_behind to base ≡ others
+  pub left : left_after to base ≡ others
 
 pub is_first : (words : List (List Bool)) (table : Layout) (baselines : Baselines) (base : List EntityState) (to first : EntityState) (others : List EntityState)
     → taken to.number base ≡ (Some first, others) → IsFirst words table baselines base to first others

@@ -15,7 +15,7 @@ use Rattle.q3_entity.specs.Laws.{ZeroIsNormal, ListSpelledIsRead}
 use Rattle.q3_entity.specs.Spelling.{Entered, EntriesRise, RemoveFrom, state_after, words_there}
 use Rattle.q3_entity.proofs.Results.{number_is_read}
 use Rattle.q3_entity.proofs.EntrySpelled.{SpellsMarks, marks_are_read}
-use Rattle.q3_entity.proofs.EntriesSpelled.{first_number, first-least, SpellsBehind, behind_of_entries}
+use Rattle.q3_entity.proofs.EntriesSpelled.{first_number, first-least, SpellsAfter, after_of_entries}
 use Rattle.q3_entity.proofs.OneNumber.{with_first, cut, entry_of, entry_of-below, entry_of-first, entry_of-others, state_there, pushed, pushed-first, stays-is, entered-is}
 use Rattle.q3_entity.proofs.ListSpelled.{from_words}
 
@@ -27,7 +27,7 @@ record ToCome (table : Layout) (base : List EntityState) (number : ℕ) (entitie
   few : length (entities ++ added) ≤ most_entities
   states : (n : ℕ) → number ≤ n → with_number n added ≡ state_after (with_number n base) n (entry_of n entries)
 
--- what is to come behind a number
+-- what is to come after a number
 record CutOff (table : Layout) (base : List EntityState) (number : ℕ) (entities added : List EntityState) (entries : List Entered) (o : Option EntityState) : Type 0 where
   others : List EntityState
   come : ToCome table base (number + 1) (pushed entities o) others entries
@@ -54,7 +54,7 @@ cut_off table base number entities added entries o is risen few rise removes sta
       whole = whole;
     }
 
--- the entities behind a number are read
+-- the entities after a number are read
 abbrev AreRead : List (List Bool) → Layout → Baselines → List EntityState → ℕ → ℕ → ℕ → List Entered → List Bool → List Bool → Type 0
 AreRead words table baselines base left number next entries bits rest =
     (entities added : List EntityState) → ToCome table base number entities added entries → numbers_at words table baselines base left number next entities bits ≡ Ok (entities ++ added, rest)
@@ -72,17 +72,17 @@ read_over words table baselines base left number next entries bits rest other no
 
 -- an entry is read
 read_entry : PutIsRead → WordsSpelledAreRead → ZeroIsNormal → (words : List (List Bool)) (table : Layout) (baselines : Baselines) (base : List EntityState) → IsCode words → IsTable table
-    → AreBaselines table baselines → AreStates base → (left number next : ℕ) (entry : Entered) (entries : List Entered) (text own behind rest : List Bool)
-    → entry.number ≡ number → number + 1 ≤ next → next ≤ end_mark table → text ≡ own ++ (field_bits words table.number_bits next ++ behind)
+    → AreBaselines table baselines → AreStates base → (left number next : ℕ) (entry : Entered) (entries : List Entered) (text own after rest : List Bool)
+    → entry.number ≡ number → number + 1 ≤ next → next ≤ end_mark table → text ≡ own ++ (field_bits words table.number_bits next ++ after)
     → SpellsMarks words table (words_from baselines entry.number (with_number entry.number base)) entry.words own
-    → AreRead words table baselines base left (number + 1) next entries (behind ++ rest) rest → AreRead words table baselines base (suc left) number number (entry ∷ entries) (text ++ rest) rest
+    → AreRead words table baselines base left (number + 1) next entries (after ++ rest) rest → AreRead words table baselines base (suc left) number number (entry ∷ entries) (text ++ rest) rest
 unfolding numbers_at
-read_entry put law law' words table baselines base code is_table are states left number next entry entries text own behind rest same low high whole spelled others entities added come =
+read_entry put law law' words table baselines base code is_table are states left number next entry entries text own after rest same low high whole spelled others entities added come =
     let from = with_number number base in
     let changed = words_from baselines number from in
     let field = field_bits words table.number_bits next in
     let spells = subst (λ (n : ℕ). SpellsMarks words table (words_from baselines n (with_number n base)) entry.words own) same spelled in
-    let took = marks_are_read put law words table changed entry.words own (field ++ (behind ++ rest)) code is_table (from_words table baselines base number law' is_table are states).are spells in
+    let took = marks_are_read put law words table changed entry.words own (field ++ (after ++ rest)) code is_table (from_words table baselines base number law' is_table are states).are spells in
     let o = state_there number (words_there took.kind took.to) in
     let here : with_number number added ≡ o =
     come.states number (omega arith) ∙ ap (λ (e : Option Entered). state_after from number e) (entry_of-first entry entries number same) ∙ ap (state_there number) (sym took.is) in
@@ -92,19 +92,19 @@ read_entry put law law' words table baselines base code is_table are states left
     let risen : EntriesRise (end_mark table) (number + 1) entries = subst (λ (n : ℕ). EntriesRise (end_mark table) (n + 1) entries) same rise.2 in
     let off = cut_off table base number entities added entries o here come.risen come.few risen removes.1
     (λ n more. come.states n (omega arith) ∙ ap (λ (e : Option Entered). state_after (with_number n base) n e) (entry_of-others entry entries n (λ is. omega arith))) in
-    let regrouped : text ++ rest ≡ own ++ (field ++ (behind ++ rest)) = rw whole (simp append_assoc) in
+    let regrouped : text ++ rest ≡ own ++ (field ++ (after ++ rest)) = rw whole (simp append_assoc) in
     rw (
       eq-eqb number number refl,
       regrouped,
       took.reads,
       entered-is entities (is_some from) number took.kind took.to off.others off.few held,
-      number_is_read put words table (number + 1) next (behind ++ rest) code low high,
+      number_is_read put words table (number + 1) next (after ++ rest) code low high,
     ) (others (pushed entities o) off.others off.come ∙ ap (λ (xs : List EntityState). Ok (xs, rest)) off.whole)
 
 -- the entities from a number on are read
 numbers_are_read : PutIsRead → WordsSpelledAreRead → ZeroIsNormal → (words : List (List Bool)) (table : Layout) (baselines : Baselines) (base : List EntityState) → IsCode words → IsTable table
     → AreBaselines table baselines → AreStates base → (left number : ℕ) (entries : List Entered) (text rest : List Bool) → left + number ≡ end_mark table → EntriesRise (end_mark table) number entries
-    → SpellsBehind words table baselines base entries text → AreRead words table baselines base left number (first_number table entries) entries (text ++ rest) rest
+    → SpellsAfter words table baselines base entries text → AreRead words table baselines base left number (first_number table entries) entries (text ++ rest) rest
 unfolding numbers_at
 numbers_are_read put law law' words table baselines base code is_table are states zero number [] text rest sum rise s entities [] come = rw (s, append-nil) refl
 numbers_are_read put law law' words table baselines base code is_table are states zero number [] text rest sum rise s entities (x ∷ added) come =
@@ -134,11 +134,11 @@ numbers_are_read put law law' words table baselines base code is_table are state
 pub list_is_read : PutIsRead → WordsSpelledAreRead → ZeroIsNormal → ListSpelledIsRead
 unfolding entity_list_at
 list_is_read put law law' words table baselines base now text rest code is_table are list states s =
-    let behind = behind_of_entries words table baselines base s.entries text s.spells in
+    let after = after_of_entries words table baselines base s.entries text s.spells in
     let first = first_number table s.entries in
     let least = first-least table 0 s.entries (omega arith) s.rise in
     let field = field_bits words table.number_bits first in
-    let regrouped : text ++ rest ≡ field ++ (behind.0 ++ rest) = ap (λ (t : List Bool). t ++ rest) behind.2 ∙ append_assoc field behind.0 rest in
+    let regrouped : text ++ rest ≡ field ++ (after.0 ++ rest) = ap (λ (t : List Bool). t ++ rest) after.2 ∙ append_assoc field after.0 rest in
     let come : ToCome table base 0 [] now s.entries = record { rise = s.rise; removes = s.removes; risen = s.list.rise; few = s.list.few; states = λ n more. s.states n } in
-    rw (regrouped, number_is_read put words table 0 first (behind.0 ++ rest) code (omega arith) least.1)
-    (numbers_are_read put law law' words table baselines base code is_table are states (end_mark table) 0 s.entries behind.0 rest (omega arith) s.rise behind.1 [] now come)
+    rw (regrouped, number_is_read put words table 0 first (after.0 ++ rest) code (omega arith) least.1)
+    (numbers_are_read put law law' words table baselines base code is_table are states (end_mark table) 0 s.entries after.0 rest (omega arith) s.rise after.1 [] now come)

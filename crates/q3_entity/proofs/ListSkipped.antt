@@ -1,6 +1,6 @@
 -- A list that is read is skipped to the same place.
 use Rattle.std.proofs.Common.{◌≡◌, ◌==◌, ℕ, zero, suc, ◌+◌, Bool, if◌then◌else◌, List, [], length, replicate, Ok, refl, sym, ap, ◌∙◌, inl, inr}
-use Rattle.q3_bits.specs.ResultBind.{bind_ok, left_of, left_ok, bind_alike, bind_behind, if_alike, map_err_alike}
+use Rattle.q3_bits.specs.ResultBind.{bind_ok, left_of, left_ok, bind_alike, bind_after, if_alike, map_err_alike}
 use Rattle.q3_bits.specs.Words.{field_at}
 use Rattle.q3_fields.specs.declared.delta.StateKind.TheVariants.{Entity}
 use Rattle.q3_fields.specs.Kinds.{Layout, IsTable, end_mark}
@@ -16,7 +16,7 @@ use Rattle.q3_entity.specs.Laws.{ZeroIsNormal, ReadIsSkipped}
 use Rattle.q3_entity.proofs.ListSpelled.{from_words}
 use Rattle.q3_entity.proofs.Steps.{number_step}
 
--- what stands behind a number ends at the same place, whatever words it changed from
+-- what follows a number ends at the same place, whatever words it changed from
 delta_alike : WordsEndAlike → (words : List (List Bool)) (table : Layout) (from other : List ℕ) (bits : List Bool) → length from ≡ length other
     → left_of (delta_at words table from bits) ≡ left_of (delta_at words table other bits)
 delta_alike law words table from other bits long =
@@ -28,7 +28,7 @@ delta_alike law words table from other bits long =
 present_alike : WordsEndAlike → (words : List (List Bool)) (table : Layout) (from other : List ℕ) (bits : List Bool) → length from ≡ length other
     → left_of (present_at words table from bits) ≡ left_of (present_at words table other bits)
 present_alike law words table from other bits long =
-    bind_behind (bits_read (field_at words 1 bits)) (λ changed. if changed.0 == 0 then Ok ((Same, from), changed.1) else delta_at words table from changed.1)
+    bind_after (bits_read (field_at words 1 bits)) (λ changed. if changed.0 == 0 then Ok ((Same, from), changed.1) else delta_at words table from changed.1)
     (λ changed. if changed.0 == 0 then Ok ((Same, other), changed.1) else delta_at words table other changed.1)
     (λ changed.
     if_alike (changed.0 == 0) (Ok ((Same, from), changed.1)) (delta_at words table from changed.1) (Ok ((Same, other), changed.1)) (delta_at words table other changed.1) refl
@@ -38,7 +38,7 @@ entity_alike : WordsEndAlike → (words : List (List Bool)) (table : Layout) (fr
     → left_of (entity_at words table from bits) ≡ left_of (entity_at words table other bits)
 unfolding entity_at
 entity_alike law words table from other bits long =
-    bind_behind (bits_read (field_at words 1 bits)) (λ removed. if removed.0 == 0 then present_at words table from removed.1 else Ok ((Removed, from), removed.1))
+    bind_after (bits_read (field_at words 1 bits)) (λ removed. if removed.0 == 0 then present_at words table from removed.1 else Ok ((Removed, from), removed.1))
     (λ removed. if removed.0 == 0 then present_at words table other removed.1 else Ok ((Removed, other), removed.1))
     (λ removed.
     if_alike (removed.0 == 0) (present_at words table from removed.1) (Ok ((Removed, from), removed.1)) (present_at words table other removed.1) (Ok ((Removed, other), removed.1))

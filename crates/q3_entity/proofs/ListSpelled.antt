@@ -20,7 +20,7 @@ use Rattle.q3_entity.specs.Laws.{ZeroIsNormal, ListReadIsSpelled}
 use Rattle.q3_entity.specs.Spelling.{Entered, SpellsEntries, EntriesRise, RemoveFrom, state_after, words_there}
 use Rattle.q3_entity.proofs.Results.{number_was_read}
 use Rattle.q3_entity.proofs.EntrySpelled.{ReadMarks, marks_were_spelled}
-use Rattle.q3_entity.proofs.EntriesSpelled.{first_number, SpellsBehind, entries_of_behind, behind_texts}
+use Rattle.q3_entity.proofs.EntriesSpelled.{first_number, SpellsAfter, entries_of_after, rest_texts}
 use Rattle.q3_entity.proofs.OneNumber.{with_first, IsNamed, first-rises, first-found, first-others, first-all, with_number-all, entry_of, entry_of-below, entry_of-first, entry_of-others, state_there, pushed, pushed-first, stays-was, entered-was}
 use Rattle.q3_entity.proofs.Steps.{number_step}
 use Rattle.q3_entity.proofs.Listed.{list_is_listed}
@@ -55,7 +55,7 @@ record ReadNumbers (words : List (List Bool)) (table : Layout) (baselines : Base
   first : first_number table entries ≡ next
   rise : EntriesRise (end_mark table) next entries
   removes : RemoveFrom base entries
-  spells : SpellsBehind words table baselines base entries text
+  spells : SpellsAfter words table baselines base entries text
   risen : RiseFrom (end_mark table) number added
   states : (n : ℕ) → number ≤ n → with_number n added ≡ state_after (with_number n base) n (entry_of n entries)
   are : AreStates added
@@ -137,14 +137,14 @@ normal_there table number (Some ws) h x e =
     subst (IsNormal table) (some_value (record { number = number; words = ws }) x e) (ap (λ (ws : List ℕ). let made : EntityState = record { number = number; words = ws } in made) (h ws refl))
 
 -- a number with its entry
-behind_number : (words : List (List Bool)) (table : Layout) (baselines : Baselines) (base : List EntityState) (number next : ℕ) (entities now : List EntityState) (bits left behind : List Bool)
+after_number : (words : List (List Bool)) (table : Layout) (baselines : Baselines) (base : List EntityState) (number next : ℕ) (entities now : List EntityState) (bits left after : List Bool)
     (kind : Entry) (to : List ℕ) (found : List EntityState × List Bool) → number < end_mark table
     → (marks : ReadMarks words table (words_from baselines number (with_number number base)) bits ((kind, to), left))
     → (AreNormal table base → normal_words table.kinds (words_from baselines number (with_number number base)) ≡ words_from baselines number (with_number number base))
     → now ≡ pushed entities (state_there number (words_there kind to)) → ((words_there kind to ≡ None) → is_some (with_number number base) ≡ true)
-    → number < next → left ≡ field_bits words table.number_bits next ++ behind
-    → ReadNumbers words table baselines base (number + 1) next now behind found → ReadNumbers words table baselines base number number entities bits found
-behind_number words table baselines base number next entities now bits left behind kind to found within marks was_normal is held rises number_text read =
+    → number < next → left ≡ field_bits words table.number_bits next ++ after
+    → ReadNumbers words table baselines base (number + 1) next now after found → ReadNumbers words table baselines base number number entities bits found
+after_number words table baselines base number next entities now bits left after kind to found within marks was_normal is held rises number_text read =
     let there = words_there kind to in
     let o = state_there number there in
     let entry : Entered = record { number = number; words = there } in
@@ -154,7 +154,7 @@ behind_number words table baselines base number next entities now bits left behi
       entries = entry ∷ read.entries;
       added = with_first o read.added;
       text = marks.text ++ (field ++ read.text);
-      parts = behind_texts bits marks.text field read.text left behind found.1 marks.parts number_text read.parts;
+      parts = rest_texts bits marks.text field read.text left after found.1 marks.parts number_text read.parts;
       whole = read.whole ∙ ap (λ (xs : List EntityState). xs ++ read.added) is ∙ pushed-first entities o read.added;
       first = refl;
       rise = (omega arith, within, rise-weaker (end_mark table) next (number + 1) read.entries (omega arith) read.rise);
@@ -201,7 +201,7 @@ numbers_were_spelled put law law' words table baselines base code is_table are l
           let was = entered-was entities (is_some from) number r.entry.0.0 r.entry.0.1 r.now r.now_is in
           let read = number_was_read put words table (number + 1) r.entry.1 r.more code r.more_is in
           let others = numbers_were_spelled put law law' words table baselines base code is_table are list states left (number + 1) r.more.0 r.now r.more.1 found (omega arith) read.0 read.1 r.others in
-          let all = behind_number words table baselines base number r.more.0 entities r.now bits r.entry.1 r.more.1 r.entry.0.0 r.entry.0.1 found within marks fw.normal was.0 was.1 (omega (arith, read.0)) read.2 others in
+          let all = after_number words table baselines base number r.more.0 entities r.now bits r.entry.1 r.more.1 r.entry.0.0 r.entry.0.1 found within marks fw.normal was.0 was.1 (omega (arith, read.0)) read.2 others in
           subst (λ (n : ℕ). ReadNumbers words table baselines base number n entities bits found) (eqb-true number next r.here) all
       | inr r ↦
           let below : number < next = omega (arith, low, eqb-false number next r.there) in
@@ -233,7 +233,7 @@ list_was_spelled put law law' words table baselines base now bits rest code is_t
         rise = rise-weaker (end_mark table) first.0.0 0 read.entries (omega arith) read.rise;
         removes = read.removes;
         spells = subst (λ (n : ℕ). SpellsEntries words table baselines base read.entries (field_bits words table.number_bits n ++ read.text)) read.first
-            (entries_of_behind words table baselines base read.entries read.text read.spells);
+            (entries_of_after words table baselines base read.entries read.text read.spells);
         list = list_is_listed words table baselines base bits now rest (entity_list_at_is words table baselines base bits now rest e);
         states = λ n. ap (with_number n) (sym is) ∙ read.states n (omega arith);
       },

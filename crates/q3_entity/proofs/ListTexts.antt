@@ -12,10 +12,10 @@ use Rattle.q3_entity.specs.Baselines.{Baselines}
 use Rattle.q3_entity.specs.Delta.{removal}
 use Rattle.q3_entity.specs.Lists.{piece, entity_list_bits}
 use Rattle.q3_entity.specs.Runs.{taken, from_number, ShareFront}
-use Rattle.q3_entity.specs.Merging.{removals, end_bits, entry_bits, left_behind}
+use Rattle.q3_entity.specs.Merging.{removals, end_bits, entry_bits, left_after}
 use Rattle.q3_entity.proofs.DeltaTexts.{entity_delta-unchanged}
 use Rattle.q3_entity.proofs.Gone.{removals-next, removals-stay, removals-none, from_number-next, from_number-stay, from_number-none, is_first}
-use Rattle.q3_entity.proofs.Risen.{rise-lower, rise-behind, with_number-first, with_number-behind, with_number-below, from_number-rises, from_number-limit, is_taken}
+use Rattle.q3_entity.proofs.Risen.{rise-lower, rise-after, with_number-first, with_number-after, with_number-below, from_number-rises, from_number-limit, is_taken}
 
 -- the pieces of numbers, where they are the same, where there are none, and from the first on that has one
 pub pieces-same : (f g : ℕ → List Bool) (a count : ℕ) → ((n : ℕ) → a ≤ n → f n ≡ g n) → flat_map f (range_with_len a count) ≡ flat_map g (range_with_len a count)
@@ -51,7 +51,7 @@ module _ (words : List (List Bool)) (table : Layout) (baselines : Baselines) whe
   unfolding entity_list_bits
   entity_list_bits-nothing = ap (λ t. t ++ field_bits words table.number_bits (end_mark table)) (pieces-none (λ n. []) 0 (end_mark table) (λ n. refl))
 
-  -- the piece of a number below which there is nothing, and then the text of what is behind it
+  -- the piece of a number below which there is nothing, and then the text of what follows it
   pub entity_list_bits-next : (number : ℕ) (base now base' now' : List EntityState) → number < end_mark table
       → RiseFrom (end_mark table) number base → RiseFrom (end_mark table) number now
       → RiseFrom (end_mark table) (number + 1) base' → RiseFrom (end_mark table) (number + 1) now'
@@ -79,7 +79,7 @@ module _ (words : List (List Bool)) (table : Layout) (baselines : Baselines) whe
             let end = end_mark table in
             let n = entity.number in
             let next = entity_list_bits-next n (entity ∷ others) now others now rise.1 (omega arith, rise.1, rise.2) (rise-lower end number n now (omega (arith, below)) rise-now) rise.2
-            (rise-lower end number (n + 1) now (omega (arith, below)) rise-now) (λ m above. with_number-behind m entity others (omega (arith, above))) (λ m above. refl) in
+            (rise-lower end number (n + 1) now (omega (arith, below)) rise-now) (λ m above. with_number-after m entity others (omega (arith, above))) (λ m above. refl) in
             rw (removals-next words table number entity others below, from_number-next number entity others below)
             (next
             ∙ ap (λ o. piece words table baselines n o (with_number n now) ++ entity_list_bits words table baselines others now) (with_number-first entity others)
@@ -89,9 +89,9 @@ module _ (words : List (List Bool)) (table : Layout) (baselines : Baselines) whe
         | inr above ↦ rw (removals-stay words table number entity others above, from_number-stay number entity others above) refl
       ]
 
-  -- an entity that there is now is behind what is gone below it
+  -- an entity that there is now comes after what is gone below it
   pub entity_list_bits-entry : (least : ℕ) (base : List EntityState) (to : EntityState) (now : List EntityState) → RiseFrom (end_mark table) least base → RiseFrom (end_mark table) 0 (to ∷ now)
-      → entity_list_bits words table baselines base (to ∷ now) ≡ entry_bits words table baselines base to ++ entity_list_bits words table baselines (left_behind to base) now
+      → entity_list_bits words table baselines base (to ∷ now) ≡ entry_bits words table baselines base to ++ entity_list_bits words table baselines (left_after to base) now
   entity_list_bits-entry least base to now rise rise-now =
       let end = end_mark table in
       let n = to.number in
@@ -99,7 +99,7 @@ module _ (words : List (List Bool)) (table : Layout) (baselines : Baselines) whe
       let risen = from_number-rises end least n base rise in
       let h = is_taken end n left risen in
       let next = entity_list_bits-next n left (to ∷ now) (taken n left).1 now rise-now.1 risen (omega arith, rise-now.1, rise-now.2) h.rise rise-now.2
-      h.behind (λ m above. with_number-behind m to now (omega (arith, above))) in
+      h.after (λ m above. with_number-after m to now (omega (arith, above))) in
       entity_list_bits-gone n least base (to ∷ now) rise (omega arith, rise-now.1, rise-now.2)
       ∙ ap (λ t. removals words table n base ++ t)
       (next
@@ -118,8 +118,8 @@ module _ (words : List (List Bool)) (table : Layout) (baselines : Baselines) whe
   -- one entity more of those that there are now, written by the same words: the text goes on by its entry, and what is left
   -- rises as before
   pub record IsTurn (same : List (List Bool)) (base : List EntityState) (to : EntityState) (now : List EntityState) : Type 0 where
-    pub text : entity_list_bits words table baselines base (to ∷ now) ≡ entry_bits same table baselines base to ++ entity_list_bits words table baselines (left_behind to base) now
-    pub rise : RiseFrom (end_mark table) 0 (left_behind to base)
+    pub text : entity_list_bits words table baselines base (to ∷ now) ≡ entry_bits same table baselines base to ++ entity_list_bits words table baselines (left_after to base) now
+    pub rise : RiseFrom (end_mark table) 0 (left_after to base)
     pub rise-now : RiseFrom (end_mark table) 0 now
 
   pub is_turn : (same : List (List Bool)) (base : List EntityState) (to : EntityState) (now : List EntityState) → same ≡ words
@@ -128,7 +128,7 @@ module _ (words : List (List Bool)) (table : Layout) (baselines : Baselines) whe
       let end = end_mark table in
       let left = from_number to.number base in
       record {
-        text = entity_list_bits-entry 0 base to now rise rise-now ∙ ap (λ ws. entry_bits ws table baselines base to ++ entity_list_bits words table baselines (left_behind to base) now) (sym is);
+        text = entity_list_bits-entry 0 base to now rise rise-now ∙ ap (λ ws. entry_bits ws table baselines base to ++ entity_list_bits words table baselines (left_after to base) now) (sym is);
         rise = rise-lower end (to.number + 1) 0 (taken to.number left).1 (omega arith) (is_taken end to.number left (from_number-rises end 0 to.number base rise)).rise;
         rise-now = rise-lower end (to.number + 1) 0 now (omega arith) rise-now.2;
       }
@@ -144,7 +144,7 @@ module _ (words : List (List Bool)) (table : Layout) (baselines : Baselines) whe
       let none : changed_count table.kinds entity.words entity.words ≡ 0 = omega (arith, (law fields fields refl).1 0 refl) in
       let first = is_first words table baselines (entity ∷ (front ++ base)) entity entity (front ++ base) (rw (eq-eqb n n refl) refl) in
       entity_list_bits-entry 0 (entity ∷ (front ++ base)) entity (front ++ now) rise rise-now
-      ∙ ap (λ t. t ++ entity_list_bits words table baselines (left_behind entity (entity ∷ (front ++ base))) (front ++ now)) (first.text ∙ entity_delta-unchanged words table entity entity false none)
+      ∙ ap (λ t. t ++ entity_list_bits words table baselines (left_after entity (entity ∷ (front ++ base))) (front ++ now)) (first.text ∙ entity_delta-unchanged words table entity entity false none)
       ∙ ap (λ left. entity_list_bits words table baselines left (front ++ now)) first.left
       ∙ entity_list_bits-same law front base now (rise-lower end (n + 1) 0 (front ++ base) (omega arith) rise.2) (rise-lower end (n + 1) 0 (front ++ now) (omega arith) rise-now.2)
 
@@ -161,6 +161,6 @@ module _ (words : List (List Bool)) (table : Layout) (baselines : Baselines) whe
       let risen-now = subst (RiseFrom (end_mark table) 0) share.now-is rise-now in
       record {
         text = rw (share.base-is, share.now-is) (entity_list_bits-same law share.front base' now' risen risen-now);
-        rise = rise-behind (end_mark table) share.front base' risen;
-        rise-now = rise-behind (end_mark table) share.front now' risen-now;
+        rise = rise-after (end_mark table) share.front base' risen;
+        rise-now = rise-after (end_mark table) share.front now' risen-now;
       }

@@ -27,7 +27,7 @@ list_rises table entities is_table list =
     let most : 2 ^ table.number_bits ≤ 2 ^ 16 = pow_mono is_table.number_bits.1 in
     record { rise = rise-more (end_mark table) (2 ^ 16) 0 entities (omega (arith, most)) list.rise; few = list.few }
 
--- one more behind them
+-- one more after them
 pub rise-push : (limit least : ℕ) (xs : List EntityState) (x : EntityState) → least ≤ limit → RiseFrom limit least xs → x.number ≡ limit → RiseFrom (limit + 1) least (xs ++ x ∷ [])
 rise-push limit least [] x below rise is = (omega arith, omega arith, tt)
 rise-push limit least (y ∷ ys) x below rise is = (rise.0, omega (arith, rise.1), rise-push limit (y.number + 1) ys x (omega (arith, rise.1)) rise.2 is)

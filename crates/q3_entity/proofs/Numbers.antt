@@ -56,26 +56,26 @@ below-others : (number : ℕ) (x : EntityState) (xs : List EntityState) → All 
 below-others number x xs below = λ k d within. below (suc k) d (omega (arith, within))
 
 -- entities below the number stay, as far as there is room for all
-pub kept_below-fits : (number : ℕ) (entities front behind : List EntityState) → All (λ entity. entity.number < number) front
+pub kept_below-fits : (number : ℕ) (entities front after : List EntityState) → All (λ entity. entity.number < number) front
     → length entities + length front ≤ most_entities
-    → kept_below number entities (front ++ behind) ≡ kept_below number (entities ++ front) behind
-kept_below-fits number entities [] behind below fit = ap (λ xs. kept_below number xs behind) (sym (append-nil entities))
-kept_below-fits number entities (x ∷ front) behind below fit =
-    kept_below-more number entities x (front ++ behind) (below-first number x front below)
-    ∙ rw (lt-ltb (length entities) most_entities (omega arith)) (kept_below-fits number (entities ++ x ∷ []) front behind (below-others number x front below) (omega (arith, length-append entities (x ∷ []))))
-    ∙ ap (λ xs. kept_below number xs behind) (append_assoc entities (x ∷ []) front)
+    → kept_below number entities (front ++ after) ≡ kept_below number (entities ++ front) after
+kept_below-fits number entities [] after below fit = ap (λ xs. kept_below number xs after) (sym (append-nil entities))
+kept_below-fits number entities (x ∷ front) after below fit =
+    kept_below-more number entities x (front ++ after) (below-first number x front below)
+    ∙ rw (lt-ltb (length entities) most_entities (omega arith)) (kept_below-fits number (entities ++ x ∷ []) front after (below-others number x front below) (omega (arith, length-append entities (x ∷ []))))
+    ∙ ap (λ xs. kept_below number xs after) (append_assoc entities (x ∷ []) front)
 
 -- and are refused where there isn't
-pub kept_below-many : (number : ℕ) (entities front behind : List EntityState) → All (λ entity. entity.number < number) front
+pub kept_below-many : (number : ℕ) (entities front after : List EntityState) → All (λ entity. entity.number < number) front
     → length entities ≤ most_entities → most_entities < length entities + length front
-    → kept_below number entities (front ++ behind) ≡ Err Many
-kept_below-many number entities [] behind below few many = absurd (omega arith)
-kept_below-many number entities (x ∷ front) behind below few many =
-    kept_below-more number entities x (front ++ behind) (below-first number x front below)
+    → kept_below number entities (front ++ after) ≡ Err Many
+kept_below-many number entities [] after below few many = absurd (omega arith)
+kept_below-many number entities (x ∷ front) after below few many =
+    kept_below-more number entities x (front ++ after) (below-first number x front below)
     ∙ elim (cases_lt (length entities) most_entities) [
       | inl room ↦
           rw (lt-ltb (length entities) most_entities room)
-          (kept_below-many number (entities ++ x ∷ []) front behind (below-others number x front below) (omega (arith, length-append entities (x ∷ []))) (omega (arith, length-append entities (x ∷ []))))
+          (kept_below-many number (entities ++ x ∷ []) front after (below-others number x front below) (omega (arith, length-append entities (x ∷ []))) (omega (arith, length-append entities (x ∷ []))))
       | inr full ↦ rw (le-ltb (length entities) most_entities full) refl
     ]
 
@@ -86,10 +86,10 @@ kept_below-stays number entities [] from = refl
 kept_below-stays number entities (x ∷ xs) from = rw (le-ltb x.number number from) refl
 
 -- of a part something is left, or all stay
-pub kept_below-left : (number : ℕ) (entities part kept left behind : List EntityState) → KeepsFront number entities part kept left → length left ≢ 0
-    → kept_below number entities (part ++ behind) ≡ Ok (kept, left ++ behind)
-kept_below-left number entities part kept [] behind keeps some = absurd (some refl)
-kept_below-left number entities part kept (x ∷ xs) behind keeps some = keeps.goes_on behind ∙ kept_below-stays number kept (x ∷ (xs ++ behind)) keeps.from
+pub kept_below-left : (number : ℕ) (entities part kept left after : List EntityState) → KeepsFront number entities part kept left → length left ≢ 0
+    → kept_below number entities (part ++ after) ≡ Ok (kept, left ++ after)
+kept_below-left number entities part kept [] after keeps some = absurd (some refl)
+kept_below-left number entities part kept (x ∷ xs) after keeps some = keeps.goes_on after ∙ kept_below-stays number kept (x ∷ (xs ++ after)) keeps.from
 
 pub kept_below-part : (number : ℕ) (entities part kept left : List EntityState) → KeepsFront number entities part kept left
     → kept_below number entities part ≡ Ok (kept, left)

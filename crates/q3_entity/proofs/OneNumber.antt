@@ -9,11 +9,11 @@ use Rattle.q3_entity.specs.declared.reading.Entry.TheVariants.{Removed, Changed,
 use Rattle.q3_entity.specs.Entities.{RiseFrom, most_entities, with_number}
 use Rattle.q3_entity.specs.Lists.{one_more, stays, entered}
 use Rattle.q3_entity.specs.Spelling.{Entered, EntriesRise, state_after, words_there}
-use Rattle.q3_entity.proofs.Risen.{rise-lower, with_number-behind, with_number-below}
+use Rattle.q3_entity.proofs.Risen.{rise-lower, with_number-after, with_number-below}
 use Rattle.q3_entity.proofs.Numbers.{with_number-named}
 use Rattle.q3_entity.proofs.ListWritten.{found-all}
 
--- the entity of a number, if there is one, and those behind it
+-- the entity of a number, if there is one, and those after it
 abbrev pub with_first : Option EntityState → List EntityState → List EntityState
 with_first None others = others
 with_first (Some x) others = x ∷ others
@@ -34,13 +34,13 @@ first-found limit number (Some x) others named rise = with_number-named x others
 
 pub first-others : (number n : ℕ) (o : Option EntityState) (others : List EntityState) → IsNamed number o → n ≢ number → with_number n (with_first o others) ≡ with_number n others
 first-others number n None others named other = refl
-first-others number n (Some x) others named other = with_number-behind n x others (λ same. other (sym same ∙ named))
+first-others number n (Some x) others named other = with_number-after n x others (λ same. other (sym same ∙ named))
 
 pub first-all : (P : EntityState → Type 0) (o : Option EntityState) (others : List EntityState) → ((x : EntityState) → o ≡ Some x → P x) → All P others → All P (with_first o others)
 first-all P None others one all = all
 first-all P (Some x) others one all = All-cons P x others (one x refl) all
 
--- the entities of a list, cut behind one number
+-- the entities of a list, cut after one number
 pub record IsCut (limit number : ℕ) (xs : List EntityState) : Type 0 where
   pub others : List EntityState
   pub whole : xs ≡ with_first (with_number number xs) others
@@ -55,7 +55,7 @@ cut limit number (x ∷ xs) rise =
         others = xs;
         whole = rw (with_number-named x xs number here) refl;
         rise = rw (← here) rise.2;
-        same = λ n more. sym (with_number-behind n x xs (λ is. omega arith));
+        same = λ n more. sym (with_number-after n x xs (λ is. omega arith));
       }
       | inr later ↦
           let risen : RiseFrom limit (number + 1) (x ∷ xs) = (omega (arith, rise.0, later), rise.1, rise.2) in

@@ -143,7 +143,7 @@ replaced places states number state kept low own some = elim (kept.placed number
       }
 ]
 
--- ---- a state behind all others
+-- ---- a state after all others
 
 pub record Added (places : List ℕ) (states : List EntityState) (number : ℕ) (state : EntityState) : Type 0 where
   pub baselines : baselines_in (set places number (length states)) (states ++ state ∷ []) ≡ set (baselines_in places states) number (Some state)

@@ -11,24 +11,24 @@ pub rise-lower : (limit most least : ℕ) (entities : List EntityState) → leas
 rise-lower limit most least [] le rise = tt
 rise-lower limit most least (entity ∷ others) le rise = (omega (arith, le, rise.0), rise.1, rise.2)
 
--- and behind others
-pub rise-behind : (limit : ℕ) (front entities : List EntityState) → RiseFrom limit 0 (front ++ entities) → RiseFrom limit 0 entities
-rise-behind limit [] entities rise = rise
-rise-behind limit (entity ∷ front) entities rise =
-    rise-behind limit front entities (rise-lower limit (entity.number + 1) 0 (front ++ entities) (omega arith) rise.2)
+-- and after others
+pub rise-after : (limit : ℕ) (front entities : List EntityState) → RiseFrom limit 0 (front ++ entities) → RiseFrom limit 0 entities
+rise-after limit [] entities rise = rise
+rise-after limit (entity ∷ front) entities rise =
+    rise-after limit front entities (rise-lower limit (entity.number + 1) 0 (front ++ entities) (omega arith) rise.2)
 
 -- the first is found under its number
 pub with_number-first : (entity : EntityState) (others : List EntityState) → with_number entity.number (entity ∷ others) ≡ Some entity
 with_number-first entity others = rw (eq-eqb entity.number entity.number refl) refl
 
-pub with_number-behind : (number : ℕ) (entity : EntityState) (others : List EntityState) → entity.number ≢ number → with_number number (entity ∷ others) ≡ with_number number others
-with_number-behind number entity others other = rw (ne_eqb entity.number number other) refl
+pub with_number-after : (number : ℕ) (entity : EntityState) (others : List EntityState) → entity.number ≢ number → with_number number (entity ∷ others) ≡ with_number number others
+with_number-after number entity others other = rw (ne_eqb entity.number number other) refl
 
 -- below the least number there is none
 pub with_number-below : (limit least number : ℕ) (entities : List EntityState) → RiseFrom limit least entities → number < least → with_number number entities ≡ None
 with_number-below limit least number [] rise below = refl
 with_number-below limit least number (entity ∷ others) rise below =
-    with_number-behind number entity others (omega (arith, rise.0, below))
+    with_number-after number entity others (omega (arith, rise.0, below))
     ∙ with_number-below limit (entity.number + 1) number others rise.2 (omega (arith, rise.0, below))
 
 -- from a number on
@@ -46,14 +46,14 @@ from_number-limit limit least [] rise = from_number-none limit
 from_number-limit limit least (entity ∷ others) rise =
     from_number-next limit entity others rise.1 ∙ from_number-limit limit (entity.number + 1) others rise.2
 
--- the entity of the least number is taken, if there is one, and the others rise from behind it
+-- the entity of the least number is taken, if there is one, and the others rise from the next number on
 pub record IsTaken (limit number : ℕ) (entities : List EntityState) : Type 0 where
   pub found : (taken number entities).0 ≡ with_number number entities
   pub rise : RiseFrom limit (number + 1) (taken number entities).1
-  pub behind : (n : ℕ) → number < n → with_number n entities ≡ with_number n (taken number entities).1
+  pub after : (n : ℕ) → number < n → with_number n entities ≡ with_number n (taken number entities).1
 
 pub is_taken : (limit number : ℕ) (entities : List EntityState) → RiseFrom limit number entities → IsTaken limit number entities
-is_taken limit number [] rise = record { found = refl; rise = tt; behind = λ n h. refl }
+is_taken limit number [] rise = record { found = refl; rise = tt; after = λ n h. refl }
 is_taken limit number (entity ∷ others) rise =
     elim (cases_eq entity.number number) [
       | inl here ↦
@@ -61,13 +61,13 @@ is_taken limit number (entity ∷ others) rise =
           record {
             found = rw test refl;
             rise = rw test (rise-lower limit (entity.number + 1) (number + 1) others (omega (arith, here)) rise.2);
-            behind = λ n above. rw test (with_number-behind n entity others (omega (arith, here, above)));
+            after = λ n above. rw test (with_number-after n entity others (omega (arith, here, above)));
           }
       | inr other ↦
           let test : eqb entity.number number ≡ false = ne_eqb entity.number number other in
           record {
             found = rw test (sym (with_number-below limit (entity.number + 1) number others rise.2 (omega (arith, rise.0))));
             rise = rw test (omega (arith, rise.0, other), rise.1, rise.2);
-            behind = λ n above. rw test refl;
+            after = λ n above. rw test refl;
           }
     ]

@@ -5,15 +5,15 @@ use Rattle.q3_entity.specs.Runs.{ShareFront}
 
 -- a base in two pieces, of which the first is used up
 pub share-both : (head now now' tail tail' now'' : List EntityState) → ShareFront head now [] now' → ShareFront tail now' tail' now'' → ShareFront (head ++ tail) now tail' now''
-share-both head now now' tail tail' now'' share behind = record {
-  front = share.front ++ behind.front;
+share-both head now now' tail tail' now'' share after = record {
+  front = share.front ++ after.front;
   base-is =
-      ap (λ entities. entities ++ tail) share.base-is ∙ append_assoc share.front [] tail ∙ ap (λ entities. share.front ++ entities) behind.base-is
-      ∙ sym (append_assoc share.front behind.front tail');
-  now-is = share.now-is ∙ ap (λ entities. share.front ++ entities) behind.now-is ∙ sym (append_assoc share.front behind.front now'');
+      ap (λ entities. entities ++ tail) share.base-is ∙ append_assoc share.front [] tail ∙ ap (λ entities. share.front ++ entities) after.base-is
+      ∙ sym (append_assoc share.front after.front tail');
+  now-is = share.now-is ∙ ap (λ entities. share.front ++ entities) after.now-is ∙ sym (append_assoc share.front after.front now'');
 }
 
--- more stands behind one of them
+-- more follows one of them
 pub share-more : (base head base' head' tail : List EntityState) → ShareFront base head base' head' → ShareFront base (head ++ tail) base' (head' ++ tail)
 share-more base head base' head' tail share = record {
   front = share.front;
@@ -23,10 +23,10 @@ share-more base head base' head' tail share = record {
 
 -- and where it is in two pieces, of which the first is used up
 pub share-on : (base base' base'' head tail tail' : List EntityState) → ShareFront base head base' [] → ShareFront base' tail base'' tail' → ShareFront base (head ++ tail) base'' tail'
-share-on base base' base'' head tail tail' share behind = record {
-  front = share.front ++ behind.front;
-  base-is = share.base-is ∙ ap (λ entities. share.front ++ entities) behind.base-is ∙ sym (append_assoc share.front behind.front base'');
+share-on base base' base'' head tail tail' share after = record {
+  front = share.front ++ after.front;
+  base-is = share.base-is ∙ ap (λ entities. share.front ++ entities) after.base-is ∙ sym (append_assoc share.front after.front base'');
   now-is =
-      ap (λ entities. entities ++ tail) share.now-is ∙ append_assoc share.front [] tail ∙ ap (λ entities. share.front ++ entities) behind.now-is
-      ∙ sym (append_assoc share.front behind.front tail');
+      ap (λ entities. entities ++ tail) share.now-is ∙ append_assoc share.front [] tail ∙ ap (λ entities. share.front ++ entities) after.now-is
+      ∙ sym (append_assoc share.front after.front tail');
 }

@@ -17,7 +17,7 @@ use Rattle.q3_entity.specs.Spelling.{Entered, SpellsEntries, EntriesRise, words_
 use Rattle.q3_entity.proofs.Results.{number_was_read, number_is_read}
 use Rattle.q3_entity.proofs.Skipping.{skipped_from, skip_begins, skip_turns, skip_ends}
 use Rattle.q3_entity.proofs.EntrySpelled.{SpellsMarks, marks_were_spelled, marks_are_read}
-use Rattle.q3_entity.proofs.EntriesSpelled.{first_number, SpellsBehind, entries_of_behind, behind_of_entries, first-least, behind_texts}
+use Rattle.q3_entity.proofs.EntriesSpelled.{first_number, SpellsAfter, entries_of_after, after_of_entries, first-least, rest_texts}
 use Rattle.q3_entity.proofs.ListWritten.{rise-weaker}
 use Rattle.q3_entity.proofs.SetBaselines.{zeros_there}
 
@@ -38,7 +38,7 @@ record PassedOver (words : List (List Bool)) (table : Layout) (next : ℕ) (bits
   parts : bits ≡ text ++ rest
   first : first_number table entries ≡ next
   rise : EntriesRise (end_mark table) next entries
-  spells : SpellsBehind words table no_baselines [] entries text
+  spells : SpellsAfter words table no_baselines [] entries text
 
 -- at the end mark nothing is left
 passed_end : (words : List (List Bool)) (table : Layout) (next : ℕ) (bits rest : List Bool) → next ≡ end_mark table → skipped_from words table (next, bits) ≡ Ok (tt, rest)
@@ -68,7 +68,7 @@ numbers_were_spelled put law words table code is_table are (suc left) next bits 
           record {
             entries = record { number = next; words = words_there entry.0.0.0 entry.0.0.1 } ∷ others.entries;
             text = marks.text ++ (field ++ others.text);
-            parts = behind_texts bits marks.text field others.text entry.0.1 more.1 rest marks.parts read.2 others.parts;
+            parts = rest_texts bits marks.text field others.text entry.0.1 more.1 rest marks.parts read.2 others.parts;
             first = refl;
             rise = (omega arith, omega arith, rise-weaker (end_mark table) more.0 (next + 1) others.entries read.0 others.rise);
             spells = (
@@ -93,40 +93,40 @@ skipped_was_spelled put law law' words table bits rest code is_table e =
         entries = passed.entries;
         rise = rise-weaker (end_mark table) first.0.0 0 passed.entries (omega arith) passed.rise;
         spells = subst (λ (n : ℕ). SpellsEntries words table no_baselines [] passed.entries (field_bits words table.number_bits n ++ passed.text)) passed.first
-            (entries_of_behind words table no_baselines [] passed.entries passed.text passed.spells);
+            (entries_of_after words table no_baselines [] passed.entries passed.text passed.spells);
       },
     )
 
 -- ---- what is spelled so is passed over
 
 entries_are_skipped : PutIsRead → WordsSpelledAreRead → (words : List (List Bool)) (table : Layout) → IsCode words → IsTable table → AreWords 64 zeros
-    → (least : ℕ) (entries : List Entered) (text rest : List Bool) → EntriesRise (end_mark table) least entries → SpellsBehind words table no_baselines [] entries text
+    → (least : ℕ) (entries : List Entered) (text rest : List Bool) → EntriesRise (end_mark table) least entries → SpellsAfter words table no_baselines [] entries text
     → skipped_from words table (first_number table entries, text ++ rest) ≡ Ok (tt, rest)
 unfolding skipped_at
 entries_are_skipped put law words table code is_table are least [] text rest rise s =
     skip_ends words table (end_mark table) (text ++ rest) (omega arith) ∙ ap (λ (t : List Bool). Ok (tt, t ++ rest)) s
-entries_are_skipped put law words table code is_table are least (entry ∷ entries) text rest rise (own, behind, whole, marks, others) =
+entries_are_skipped put law words table code is_table are least (entry ∷ entries) text rest rise (own, after, whole, marks, others) =
     let next = first_number table entries in
     let from_here = first-least table (entry.number + 1) entries (omega (arith, rise.1)) rise.2 in
     let field = field_bits words table.number_bits next in
-    let took = marks_are_read put law words table zeros entry.words own (field ++ (behind ++ rest)) code is_table are
+    let took = marks_are_read put law words table zeros entry.words own (field ++ (after ++ rest)) code is_table are
     (subst (λ (from : List ℕ). SpellsMarks words table from entry.words own) (zeros_there entry.number) marks) in
-    let parts : text ++ rest ≡ own ++ (field ++ (behind ++ rest)) = rw whole (simp append_assoc) in
-    let number = number_is_read put words table (entry.number + 1) next (behind ++ rest) code from_here.0 from_here.1 in
+    let parts : text ++ rest ≡ own ++ (field ++ (after ++ rest)) = rw whole (simp append_assoc) in
+    let number = number_is_read put words table (entry.number + 1) next (after ++ rest) code from_here.0 from_here.1 in
     ap (λ (t : List Bool). skipped_from words table (entry.number, t)) parts
-    ∙ skip_turns words table entry.number (own ++ (field ++ (behind ++ rest))) rise.1
-    ∙ bind_is (skipped_at words table zeros entry.number (own ++ (field ++ (behind ++ rest)))) (skipped_from words table) (next, behind ++ rest) _ (rw took.reads number)
-    (entries_are_skipped put law words table code is_table are (entry.number + 1) entries behind rest rise.2 others)
+    ∙ skip_turns words table entry.number (own ++ (field ++ (after ++ rest))) rise.1
+    ∙ bind_is (skipped_at words table zeros entry.number (own ++ (field ++ (after ++ rest)))) (skipped_from words table) (next, after ++ rest) _ (rw took.reads number)
+    (entries_are_skipped put law words table code is_table are (entry.number + 1) entries after rest rise.2 others)
 
 pub spelled_is_skipped : PutIsRead → WordsSpelledAreRead → ZeroIsNormal → SpelledIsSkipped
 spelled_is_skipped put law law' words table text rest code is_table s =
-    let behind = behind_of_entries words table no_baselines [] s.entries text s.spells in
+    let after = after_of_entries words table no_baselines [] s.entries text s.spells in
     let first = first_number table s.entries in
     let from_here = first-least table 0 s.entries (omega arith) s.rise in
     let field = field_bits words table.number_bits first in
-    let parts : text ++ rest ≡ field ++ (behind.0 ++ rest) = ap (λ (t : List Bool). t ++ rest) behind.2 ∙ append_assoc field behind.0 rest in
+    let parts : text ++ rest ≡ field ++ (after.0 ++ rest) = ap (λ (t : List Bool). t ++ rest) after.2 ∙ append_assoc field after.0 rest in
     skip_begins words table (text ++ rest)
     ∙ ap (λ (t : List Bool). number_at words table 0 t >>= skipped_from words table) parts
-    ∙ bind_is (number_at words table 0 (field ++ (behind.0 ++ rest))) (skipped_from words table) (first, behind.0 ++ rest) _
-    (number_is_read put words table 0 first (behind.0 ++ rest) code (omega arith) from_here.1)
-    (entries_are_skipped put law words table code is_table (zeros_are table law' is_table) 0 s.entries behind.0 rest s.rise behind.1)
+    ∙ bind_is (number_at words table 0 (field ++ (after.0 ++ rest))) (skipped_from words table) (first, after.0 ++ rest) _
+    (number_is_read put words table 0 first (after.0 ++ rest) code (omega arith) from_here.1)
+    (entries_are_skipped put law words table code is_table (zeros_are table law' is_table) 0 s.entries after.0 rest s.rise after.1)

@@ -38,7 +38,7 @@ skip_begins words table bits =
     bind_same (number_at words table 0 bits) (λ first. numbers_skipped words table (end_mark table) 0 first.0 first.1) (skipped_from words table)
     (λ first is. skip_jump words table (end_mark table) 0 first.0 first.1 (omega arith) (omega arith))
 
--- a turn: the entry, and the number behind it
+-- a turn: the entry, and the number after it
 pub skip_turns : (words : List (List Bool)) (table : Layout) (next : ℕ) (bits : List Bool) → next < end_mark table
     → skipped_from words table (next, bits) ≡ (skipped_at words table (replicate 64 0) next bits >>= skipped_from words table)
 unfolding numbers_skipped skipped_at

@@ -11,7 +11,7 @@ use Rattle.q3_entity.specs.Baselines.{Baselines}
 use Rattle.q3_entity.specs.Delta.{entity_at}
 use Rattle.q3_entity.specs.Lists.{number_at, stays, entered, words_from, numbers_at}
 
--- the number's entry is read, and what is behind it
+-- the number's entry is read, and what follows it
 pub record ReadHere (words : List (List Bool)) (table : Layout) (baselines : Baselines) (base : List EntityState) (left number next : ℕ) (entities : List EntityState) (bits : List Bool)
     (found : List EntityState × List Bool) : Type 0 where
   pub here : eqb number next ≡ true
@@ -23,7 +23,7 @@ pub record ReadHere (words : List (List Bool)) (table : Layout) (baselines : Bas
   pub more_is : number_at words table (number + 1) entry.1 ≡ Ok more
   pub others : numbers_at words table baselines base left (number + 1) more.0 now more.1 ≡ Ok found
 
--- the base's entity stays, and what is behind it is read
+-- the base's entity stays, and what follows it is read
 pub record ReadThere (words : List (List Bool)) (table : Layout) (baselines : Baselines) (base : List EntityState) (left number next : ℕ) (entities : List EntityState) (bits : List Bool)
     (found : List EntityState × List Bool) : Type 0 where
   pub there : eqb number next ≡ false

@@ -14,7 +14,7 @@ use Rattle.q3_entity.specs.Lists.{number_at, one_more, stays, entered, words_fro
 use Rattle.q3_entity.specs.Runs.{taken}
 use Rattle.q3_entity.specs.Walking.{kept_below, Reached, next_at, entry_at, turn_at, count_after, first_of}
 use Rattle.q3_entity.proofs.Results.{number_was_read}
-use Rattle.q3_entity.proofs.Risen.{with_number-behind, with_number-below, is_taken}
+use Rattle.q3_entity.proofs.Risen.{with_number-after, with_number-below, is_taken}
 use Rattle.q3_entity.proofs.Numbers.{with_number-named, kept_below-none, kept_below-more, kept_below-rises}
 use Rattle.q3_bits.specs.Words.{IsCode, field_at}
 use Rattle.q3_bits.specs.Laws.{ReadWasPut}
@@ -38,17 +38,17 @@ number_at-least words table least bits found e =
           subst (λ (x : ℕ × List Bool). least ≤ x.0) is (ltb-false number.0.0 least high)
     ]
 
--- an entry, the number behind it, and what is read from there on
-abbrev behind_entry : List (List Bool) → Layout → Baselines → ℕ → Option EntityState → List EntityState → List Bool → (ℕ → List EntityState → List Bool → Answer) → Answer
-behind_entry words table baselines number from entities bits go =
+-- an entry, the number after it, and what is read from there on
+abbrev after_entry : List (List Bool) → Layout → Baselines → ℕ → Option EntityState → List EntityState → List Bool → (ℕ → List EntityState → List Bool → Answer) → Answer
+after_entry words table baselines number from entities bits go =
     entry_at words table (words_from baselines number from) (is_some from) number entities bits
     >>= λ now. (number_at words table (number + 1) now.1 >>= λ more. go more.0 now.0 more.1)
 
-behind_entry-same : (words : List (List Bool)) (table : Layout) (baselines : Baselines) (number : ℕ) (from : Option EntityState) (entities : List EntityState) (bits : List Bool)
+after_entry-same : (words : List (List Bool)) (table : Layout) (baselines : Baselines) (number : ℕ) (from : Option EntityState) (entities : List EntityState) (bits : List Bool)
     (go go' : ℕ → List EntityState → List Bool → Answer)
     → ((left : List Bool) (now : List EntityState) (more : ℕ × List Bool) → number_at words table (number + 1) left ≡ Ok more → go more.0 now more.1 ≡ go' more.0 now more.1)
-    → behind_entry words table baselines number from entities bits go ≡ behind_entry words table baselines number from entities bits go'
-behind_entry-same words table baselines number from entities bits go go' same =
+    → after_entry words table baselines number from entities bits go ≡ after_entry words table baselines number from entities bits go'
+after_entry-same words table baselines number from entities bits go go' same =
     bind_same (entry_at words table (words_from baselines number from) (is_some from) number entities bits)
     (λ now. number_at words table (number + 1) now.1 >>= λ more. go more.0 now.0 more.1)
     (λ now. number_at words table (number + 1) now.1 >>= λ more. go' more.0 now.0 more.1)
@@ -59,7 +59,7 @@ behind_entry-same words table baselines number from entities bits go go' same =
 -- at the number of the next entry
 numbers_at-here : (words : List (List Bool)) (table : Layout) (baselines : Baselines) (base : List EntityState) (left number : ℕ) (entities : List EntityState) (bits : List Bool)
     → numbers_at words table baselines base (suc left) number number entities bits
-    ≡ behind_entry words table baselines number (with_number number base) entities bits (λ next now left'. numbers_at words table baselines base left (number + 1) next now left')
+    ≡ after_entry words table baselines number (with_number number base) entities bits (λ next now left'. numbers_at words table baselines base left (number + 1) next now left')
 unfolding numbers_at entry_at
 numbers_at-here words table baselines base left number entities bits =
     let from = with_number number base in
@@ -85,13 +85,13 @@ forget : (words : List (List Bool)) (table : Layout) (baselines : Baselines) (x 
 unfolding numbers_at
 forget words table baselines x base zero number next entities bits below = refl
 forget words table baselines x base (suc left) number next entities bits below =
-    let gone = with_number-behind number x base (λ same. omega arith) in
+    let gone = with_number-after number x base (λ same. omega arith) in
     elim (cases_eq number next) [
       | inl same ↦
           rw (← same)
           (numbers_at-here words table baselines (x ∷ base) left number entities bits
-          ∙ ap (λ (from : Option EntityState). behind_entry words table baselines number from entities bits (λ next now left'. numbers_at words table baselines (x ∷ base) left (number + 1) next now left')) gone
-          ∙ behind_entry-same words table baselines number (with_number number base) entities bits _ _
+          ∙ ap (λ (from : Option EntityState). after_entry words table baselines number from entities bits (λ next now left'. numbers_at words table baselines (x ∷ base) left (number + 1) next now left')) gone
+          ∙ after_entry-same words table baselines number (with_number number base) entities bits _ _
           (λ left' now more is. forget words table baselines x base left (number + 1) more.0 now more.1 (omega arith))
           ∙ sym (numbers_at-here words table baselines base left number entities bits))
       | inr other ↦
@@ -164,7 +164,7 @@ jump words table baselines (x ∷ xs) limit (suc left) number next entities bits
 abbrev pub from_reached : List (List Bool) → Layout → Baselines → Reached × List Bool → Answer
 from_reached words table baselines at = from_next words table baselines at.0.next at.0.base at.0.entities at.1
 
--- the number behind an entry, and what is read from there on
+-- the number after an entry, and what is read from there on
 next_goes_on : (words : List (List Bool)) (table : Layout) (baselines : Baselines) (least : ℕ) (base entities : List EntityState) (bits : List Bool)
     → (next_at words table least base entities bits >>= from_reached words table baselines)
     ≡ (number_at words table least bits >>= λ number. (kept_below number.0 entities base >>= λ kept. from_next words table baselines number.0 kept.1 kept.0 number.1))
@@ -189,17 +189,17 @@ list_begins put words table baselines base limit bits code rise =
     jump words table baselines base limit (end_mark table) 0 first.0 [] first.1 rise (omega arith) (omega arith) (number_was_read put words table 0 bits first code is).1)
     ∙ sym (next_goes_on words table baselines 0 base [] bits)
 
--- those behind a number say all that comes
-behind_taken : (words : List (List Bool)) (table : Layout) (baselines : Baselines) (base : List EntityState) (left number next : ℕ) (entities : List EntityState) (bits : List Bool)
+-- those after a number say all that comes
+after_taken : (words : List (List Bool)) (table : Layout) (baselines : Baselines) (base : List EntityState) (left number next : ℕ) (entities : List EntityState) (bits : List Bool)
     → numbers_at words table baselines base left (number + 1) next entities bits ≡ numbers_at words table baselines (taken number base).1 left (number + 1) next entities bits
-behind_taken words table baselines [] left number next entities bits = refl
-behind_taken words table baselines (x ∷ xs) left number next entities bits =
+after_taken words table baselines [] left number next entities bits = refl
+after_taken words table baselines (x ∷ xs) left number next entities bits =
     elim (cases_eq x.number number) [
       | inl same ↦ rw (eq-eqb x.number number same) (forget words table baselines x xs left (number + 1) next entities bits (omega arith))
       | inr other ↦ rw (ne_eqb x.number number other) refl
     ]
 
--- a turn: the next entry, and the number behind it
+-- a turn: the next entry, and the number after it
 pub list_turns : ReadWasPut → (words : List (List Bool)) (table : Layout) (baselines : Baselines) (at : Reached) (limit : ℕ) (bits : List Bool) → IsCode words → at.next < end_mark table
     → RiseFrom limit at.next at.base
     → from_next words table baselines at.next at.base at.entities bits ≡ (turn_at words table baselines at bits >>= from_reached words table baselines)
@@ -209,22 +209,22 @@ list_turns put words table baselines at limit bits code below rise =
     let rest = end_mark table - (at.next + 1) in
     let all : end_mark table - at.next ≡ suc rest = omega arith in
     let read = entry_at words table (words_from baselines at.next found.0) (is_some found.0) at.next at.entities bits in
-    let behind = λ (now : List EntityState × List Bool). next_at words table (at.next + 1) found.1 now.0 now.1 in
+    let after = λ (now : List EntityState × List Bool). next_at words table (at.next + 1) found.1 now.0 now.1 in
     ap (λ (left : ℕ). numbers_at words table baselines at.base left at.next at.next at.entities bits) all
     ∙ numbers_at-here words table baselines at.base rest at.next at.entities bits
-    ∙ ap (λ (from : Option EntityState). behind_entry words table baselines at.next from at.entities bits (λ next now left. numbers_at words table baselines at.base rest (at.next + 1) next now left))
+    ∙ ap (λ (from : Option EntityState). after_entry words table baselines at.next from at.entities bits (λ next now left. numbers_at words table baselines at.base rest (at.next + 1) next now left))
     (sym (is_taken limit at.next at.base rise).found)
-    ∙ behind_entry-same words table baselines at.next found.0 at.entities bits
+    ∙ after_entry-same words table baselines at.next found.0 at.entities bits
     (λ next now left. numbers_at words table baselines at.base rest (at.next + 1) next now left)
     (λ next now left. kept_below next now found.1 >>= λ kept. from_next words table baselines next kept.1 kept.0 left)
     (λ left now more is.
     let number = number_was_read put words table (at.next + 1) left more code is in
-    behind_taken words table baselines at.base rest at.next more.0 now more.1
+    after_taken words table baselines at.base rest at.next more.0 now more.1
     ∙ jump words table baselines found.1 limit rest (at.next + 1) more.0 now more.1 (is_taken limit at.next at.base rise).rise (omega arith) number.0 number.1)
     ∙ bind_same read (λ now. number_at words table (at.next + 1) now.1 >>= λ more. (kept_below more.0 now.0 found.1 >>= λ kept. from_next words table baselines more.0 kept.1 kept.0 more.1))
-    (λ now. behind now >>= from_reached words table baselines)
+    (λ now. after now >>= from_reached words table baselines)
     (λ now is. sym (next_goes_on words table baselines (at.next + 1) found.1 now.0 now.1))
-    ∙ sym (bind_assoc read behind (from_reached words table baselines))
+    ∙ sym (bind_assoc read after (from_reached words table baselines))
 
 -- what is left of the base rises from the next number on
 pub next_rises : (words : List (List Bool)) (table : Layout) (least : ℕ) (base entities : List EntityState) (bits : List Bool) (at : Reached × List Bool) (limit from : ℕ) → RiseFrom limit from base
@@ -289,25 +289,25 @@ one_counted : (number count : ℕ) (entities items : List EntityState) (left : L
     → (count < most_entities → take (count + 1) items ≡ entities ++ state ∷ [])
     → with_rest left (first_of items (cond (ltb count most_entities) (Ok (count + 1)) (Err Many)))
     ≡ (one_more entities (record { number = number; words = state.words }) >>= λ now. Ok (now, left))
-one_counted number count entities items left state same long behind =
+one_counted number count entities items left state same long after =
     rw (named state number same, long)
     (elim (cases_lt count most_entities) [
-      | inl room ↦ rw (lt-ltb count most_entities room) (front_counted items (entities ++ state ∷ []) (count + 1) left (behind room))
+      | inl room ↦ rw (lt-ltb count most_entities room) (front_counted items (entities ++ state ∷ []) (count + 1) left (after room))
       | inr full ↦ rw (le-ltb count most_entities full) refl
     ])
 
--- an entry that was read over the entity behind the first ones, or beside them where there is no room
+-- an entry that was read over the entity after the first ones, or beside them where there is no room
 pub entry_counted : (words : List (List Bool)) (table : Layout) (from : List ℕ) (in_base : Bool) (number count : ℕ) (entities items : List EntityState) (bits left : List Bool) (kind : Entry)
     (state : EntityState) → state.number ≡ number → length entities ≡ count → take count items ≡ entities → (count < most_entities → take (count + 1) items ≡ entities ++ state ∷ [])
     → Ok ((kind, state.words), left) ≡ entity_at words table from bits
     → with_rest left (first_of items (count_after count in_base number kind)) ≡ entry_at words table from in_base number entities bits
 unfolding entry_at
-entry_counted words table from true number count entities items bits left Removed state same long front behind e = rw (← e) (front_counted items entities count left front)
-entry_counted words table from false number count entities items bits left Removed state same long front behind e = rw (← e) refl
-entry_counted words table from in_base number count entities items bits left Changed state same long front behind e =
-    rw (← e) (one_counted number count entities items left state same long behind)
-entry_counted words table from in_base number count entities items bits left Same state same long front behind e =
-    rw (← e) (one_counted number count entities items left state same long behind)
+entry_counted words table from true number count entities items bits left Removed state same long front after e = rw (← e) (front_counted items entities count left front)
+entry_counted words table from false number count entities items bits left Removed state same long front after e = rw (← e) refl
+entry_counted words table from in_base number count entities items bits left Changed state same long front after e =
+    rw (← e) (one_counted number count entities items left state same long after)
+entry_counted words table from in_base number count entities items bits left Same state same long front after e =
+    rw (← e) (one_counted number count entities items left state same long after)
 
 -- and one that was refused
 pub entry_refused : (words : List (List Bool)) (table : Layout) (from : List ℕ) (in_base : Bool) (number : ℕ) (entities : List EntityState) (bits : List Bool) (e : EntityError)

@@ -70,16 +70,16 @@ forced_is_spelled law same words table number from to code is_table are normal a
 
 -- ---- what is written is read back
 
--- a text behind a number
-record IsBehind (words : List (List Bool)) (table : Layout) (from : EntityState) (number : ℕ) (text rest : List Bool) (found : Entry × List ℕ) : Type 0 where
+-- a text after a number
+record IsAfter (words : List (List Bool)) (table : Layout) (from : EntityState) (number : ℕ) (text rest : List Bool) (found : Entry × List ℕ) : Type 0 where
   left : List Bool
   number_is : field_at words table.number_bits (text ++ rest) ≡ Ok (number, left)
   reads : entity_at words table from.words left ≡ Ok (found, rest)
 
-behind_number : PutIsRead → (words : List (List Bool)) (table : Layout) (from : EntityState) (number : ℕ) (text own rest : List Bool) (found : Entry × List ℕ) → IsCode words
+after_number : PutIsRead → (words : List (List Bool)) (table : Layout) (from : EntityState) (number : ℕ) (text own rest : List Bool) (found : Entry × List ℕ) → IsCode words
     → number < end_mark table → text ≡ field_bits words table.number_bits number ++ own → entity_at words table from.words (own ++ rest) ≡ Ok (found, rest)
-    → IsBehind words table from number text rest found
-behind_number put words table from number text own rest found code within is read = record {
+    → IsAfter words table from number text rest found
+after_number put words table from number text own rest found code within is read = record {
   left = own ++ rest;
   number_is =
       ap (λ (text : List Bool). field_at words table.number_bits (text ++ rest)) is
@@ -89,29 +89,29 @@ behind_number put words table from number text own rest found code within is rea
 }
 
 -- an entity that didn't change, which is written by force alone
-same_behind : PutIsRead → UnchangedIsNormal → (words : List (List Bool)) (table : Layout) (from to : EntityState) (force : Bool) (rest : List Bool) → IsCode words → IsTable table
+same_after : PutIsRead → UnchangedIsNormal → (words : List (List Bool)) (table : Layout) (from to : EntityState) (force : Bool) (rest : List Bool) → IsCode words → IsTable table
     → AreWords 64 from.words → IsNormal table from → AreWords 64 to.words → to.number < end_mark table → entity_delta words table from to force ≢ []
     → changed_count table.kinds from.words to.words ≡ 0
-    → IsBehind words table from to.number (entity_delta words table from to force) rest (entry_of table from to, normal_words table.kinds to.words)
+    → IsAfter words table from to.number (entity_delta words table from to force) rest (entry_of table from to, normal_words table.kinds to.words)
 unfolding row_bits
-same_behind put same words table from to true rest code is_table are normal are' within some none =
+same_after put same words table from to true rest code is_table are normal are' within some none =
     let words_are = same table.kinds from.words to.words is_table.kinds are (ap (λ (e : EntityState). e.words) normal) are' none in
     let kind : Same ≡ entry_of table from to = rw none refl in
-    behind_number put words table from to.number _ (field_bits words 1 0 ++ field_bits words 1 0) rest (entry_of table from to, normal_words table.kinds to.words) code within
+    after_number put words table from to.number _ (field_bits words 1 0 ++ field_bits words 1 0) rest (entry_of table from to, normal_words table.kinds to.words) code within
     (entity_delta-unchanged words table from to true none ∙ simp append-nil)
     (same_is_read put words table from.words rest code ∙ ap (λ (ws : List ℕ). Ok ((Same, ws), rest)) (sym words_are)
     ∙ ap (λ (kind : Entry). Ok ((kind, normal_words table.kinds to.words), rest)) kind)
-same_behind put same words table from to false rest code is_table are normal are' within some none = absurd (some (entity_delta-unchanged words table from to false none))
+same_after put same words table from to false rest code is_table are normal are' within some none = absurd (some (entity_delta-unchanged words table from to false none))
 
 -- and one that did
-changed_behind : PutIsRead → WordsAreSpelled → WordsSpelledAreRead → (words : List (List Bool)) (table : Layout) (from to : EntityState) (force : Bool) (rest : List Bool) → IsCode words
+changed_after : PutIsRead → WordsAreSpelled → WordsSpelledAreRead → (words : List (List Bool)) (table : Layout) (from to : EntityState) (force : Bool) (rest : List Bool) → IsCode words
     → IsTable table → AreWords 64 from.words → IsNormal table from → AreWords 64 to.words → to.number < end_mark table → changed_count table.kinds from.words to.words ≢ 0
-    → IsBehind words table from to.number (entity_delta words table from to force) rest (entry_of table from to, normal_words table.kinds to.words)
+    → IsAfter words table from to.number (entity_delta words table from to force) rest (entry_of table from to, normal_words table.kinds to.words)
 unfolding row_bits words_delta
-changed_behind put law read words table from to force rest code is_table are normal are' within some =
+changed_after put law read words table from to force rest code is_table are normal are' within some =
     let delta = words_delta Entity words table.kinds from.words to.words in
     let kind : Changed ≡ entry_of table from to = rw (ne_eqb (changed_count table.kinds from.words to.words) 0 some) refl in
-    behind_number put words table from to.number _ (field_bits words 1 0 ++ field_bits words 1 1 ++ delta) rest (entry_of table from to, normal_words table.kinds to.words) code within
+    after_number put words table from to.number _ (field_bits words 1 0 ++ field_bits words 1 1 ++ delta) rest (entry_of table from to, normal_words table.kinds to.words) code within
     (entity_delta-changed words table from to force some ∙ simp (append-nil, append_assoc))
     (changed_is_read put read words table from.words (normal_words table.kinds to.words) delta rest code is_table are
     (law Entity words table.kinds from.words to.words code is_table.kinds are (ap (λ (e : EntityState). e.words) normal) are')
@@ -119,11 +119,11 @@ changed_behind put law read words table from to force rest code is_table are nor
 
 pub entity_is_read : PutIsRead → WordsAreSpelled → UnchangedIsNormal → WordsSpelledAreRead → EntityWrittenIsRead
 entity_is_read put law same read words table from to force rest code is_table are normal are' within some =
-    let behind = elim (cases_eq (changed_count table.kinds from.words to.words) 0) as (λ _. IsBehind words table from to.number (entity_delta words table from to force) rest (entry_of table from to, normal_words table.kinds to.words)) [
-      | inl none ↦ same_behind put same words table from to force rest code is_table are normal are' within some none
-      | inr changed ↦ changed_behind put law read words table from to force rest code is_table are normal are' within changed
+    let after = elim (cases_eq (changed_count table.kinds from.words to.words) 0) as (λ _. IsAfter words table from to.number (entity_delta words table from to force) rest (entry_of table from to, normal_words table.kinds to.words)) [
+      | inl none ↦ same_after put same words table from to force rest code is_table are normal are' within some none
+      | inr changed ↦ changed_after put law read words table from to force rest code is_table are normal are' within changed
     ] in
-    (behind.left, behind.number_is, behind.reads)
+    (after.left, after.number_is, after.reads)
 
 -- a removal
 removed_text : (words : List (List Bool)) (table : Layout) (number : ℕ) (rest : List Bool) → removal words table number ++ rest ≡ field_bits words table.number_bits number ++ (field_bits words 1 1 ++ rest)
@@ -134,8 +134,8 @@ pub removal_is_read : PutIsRead → RemovalIsRead
 unfolding entity_at
 removal_is_read put words table number from rest code is_table within =
     let fits : number < 2 ^ table.number_bits = omega (arith, within) in
-    let behind = field_bits words 1 1 ++ rest in (
-      behind,
-      ap (field_at words table.number_bits) (removed_text words table number rest) ∙ put words table.number_bits number behind code fits,
+    let after = field_bits words 1 1 ++ rest in (
+      after,
+      ap (field_at words table.number_bits) (removed_text words table number rest) ∙ put words table.number_bits number after code fits,
       rw (put words 1 1 rest code (omega arith)) refl,
     )

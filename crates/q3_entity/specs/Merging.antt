@@ -24,8 +24,8 @@ abbrev pub end_bits : List (List Bool) → Layout → List EntityState → List 
 end_bits words table base = removals words table (end_mark table) base ++ field_bits words table.number_bits (end_mark table)
 
 -- what is left of the base after an entity's number
-abbrev pub left_behind : EntityState → List EntityState → List EntityState
-left_behind to base = (taken to.number (from_number to.number base)).1
+abbrev pub left_after : EntityState → List EntityState → List EntityState
+left_after to base = (taken to.number (from_number to.number base)).1
 
 -- the answer of a call that writes, without what it lends
 abbrev pub done : {A : Type 0} → Result A Overflow → Result (Unit {0}) Overflow

@@ -24,7 +24,7 @@ kept_below number entities (entity ∷ base) =
 
 -- the first entities of a part stay, as far as they are below a number, and these are left of it
 pub record KeepsFront (number : ℕ) (entities part kept left : List EntityState) : Type 0 where
-  pub goes_on : (behind : List EntityState) → kept_below number entities (part ++ behind) ≡ kept_below number kept (left ++ behind)
+  pub goes_on : (after : List EntityState) → kept_below number entities (part ++ after) ≡ kept_below number kept (left ++ after)
   pub from : IsFrom number left
 
 -- where a list stands: its next number, what is left of the base, and the entities so far

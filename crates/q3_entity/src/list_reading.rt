@@ -310,8 +310,8 @@ fn keep_front<'a>(
     ensures kept { IfOk result (λ kept. KeepsFront number (take count into.old.items) part.now
         (take kept.1 into.new.items) kept.0.now) }
     ensures within { IfOk result (λ kept. kept.1 ≤ length into.new.items) }
-    ensures many { IfErr result (λ e. (behind : List EntityState)
-        → kept_below number (take count into.old.items) (part.now ++ behind) ≡ Err e) }
+    ensures many { IfErr result (λ e. (after : List EntityState)
+        → kept_below number (take count into.old.items) (part.now ++ after) ≡ Err e) }
 {
     let below = count_below(part, number);
     if below == 0 {

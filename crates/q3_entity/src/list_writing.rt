@@ -6,7 +6,7 @@ ghost use Rattle.q3_bits.specs.Streams.{Writes};
 ghost use Rattle.q3_entity.specs.Entities.{IsList, run_of};
 ghost use Rattle.q3_entity.specs.Lists.{piece, entity_list_bits};
 ghost use Rattle.q3_entity.specs.Runs.{from_number};
-ghost use Rattle.q3_entity.specs.Merging.{removals, end_bits, entry_bits, left_behind, done};
+ghost use Rattle.q3_entity.specs.Merging.{removals, end_bits, entry_bits, left_after, done};
 
 use crate::baselines::Baselines;
 use crate::run::{skip_same, split_first, take_number};
@@ -53,8 +53,8 @@ pub fn write_run(
     fields::last_changed_is_least();
     let (mut left, mut rest) = skip_same(base, now);
     while let Some((entity, others)) = split_first(rest) {
-        let behind = write_entry(w, table, baselines, left, entity)?;
-        (left, rest) = skip_same(behind, others);
+        let after = write_entry(w, table, baselines, left, entity)?;
+        (left, rest) = skip_same(after, others);
     }
     write_end(w, table, left)
 }
@@ -79,18 +79,18 @@ fn write_entry<'a>(
 ) -> Result<Run<'a>, Overflow>
     ensures writes { Writes w.old w.new (entry_bits w.old.words table.now baselines.now
         (run_of base.entry) entity.now) (done result) }
-    ensures left { IfOk result (λ left. run_of left ≡ left_behind entity.now (run_of base.entry)) }
+    ensures left { IfOk result (λ left. run_of left ≡ left_after entity.now (run_of base.entry)) }
 {
     let (from, others) = take_number(base, entity.number);
     if let Some(from) = from {
         write_entity(w, table, from, entity, false)?;
         return Ok(others);
     }
-    write_behind(w, table, baselines, base, entity)
+    write_after(w, table, baselines, base, entity)
 }
 
 /// The same, where the base doesn't begin with the entity.
-fn write_behind<'a>(
+fn write_after<'a>(
     w: &mut Writer,
     table: &Table,
     baselines: &Baselines,
@@ -99,7 +99,7 @@ fn write_behind<'a>(
 ) -> Result<Run<'a>, Overflow>
     ensures writes { Writes w.old w.new (entry_bits w.old.words table.now baselines.now
         (run_of base.entry) entity.now) (done result) }
-    ensures left { IfOk result (λ left. run_of left ≡ left_behind entity.now (run_of base.entry)) }
+    ensures left { IfOk result (λ left. run_of left ≡ left_after entity.now (run_of base.entry)) }
 {
     laws::texts_are_written();
     let left = write_gone(w, table, base, entity.number)?;

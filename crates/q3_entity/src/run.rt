@@ -59,17 +59,17 @@ pub(crate) fn skip_same<'a, 'b>(base: Run<'a>, now: Run<'b>) -> (Run<'a>, Run<'b
 fn skip_piece<'a, 'b>(base: Run<'a>, now: &'b [EntityState]) -> (Run<'a>, &'b [EntityState])
     ensures { ShareFront (run_of base.entry) now.now (run_of result.0) result.1.now }
 {
-    let (head, now) = behind_same(base.head, now);
+    let (head, now) = after_same(base.head, now);
     let tail = base.tail;
     if !head.is_empty() {
         return (Run { head, tail }, now);
     }
-    let (tail, now) = behind_same(tail, now);
+    let (tail, now) = after_same(tail, now);
     (Run { head, tail }, now)
 }
 
 /// What follows the entities, the same in both, with which both begin.
-fn behind_same<'a, 'b>(
+fn after_same<'a, 'b>(
     base: &'a [EntityState],
     now: &'b [EntityState],
 ) -> (&'a [EntityState], &'b [EntityState])
@@ -97,7 +97,7 @@ pub fn count_same(base: &[EntityState], now: &[EntityState]) -> usize
 /// How many of the first entities are below a number.
 pub(crate) fn count_below(part: &[EntityState], number: u16) -> usize
     ensures below { All (λ entity. entity.number < number) (take result part.now) }
-    ensures behind { IsFrom number (drop result part.now) }
+    ensures after { IsFrom number (drop result part.now) }
     ensures most { result ≤ length part.now }
 {
     for k in 0..part.len() {

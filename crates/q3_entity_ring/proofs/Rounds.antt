@@ -45,12 +45,12 @@ turned-mod place n xs count most = elim (cases_lt place n) [
       ap (λ (k : ℕ). turned k xs) zero_is ∙ sym (turned-end xs) ∙ ap (λ (k : ℕ). turned k xs) (count ∙ sym end)
 ]
 
--- what is behind more of a turned list stands in front of the list turned further
+-- what is after more of a turned list stands in front of the list turned further
 pub turned_further : {X : Type 0} (place more n : ℕ) (xs : List X) → length xs ≡ n → place < n → more ≤ n
     → drop more (turned place xs) ≡ take (n - more) (turned ((place + more) % n) xs)
 turned_further {X = X} place more n xs count below most = elim (cases_lt n (place + more)) [
   | inr within ↦
-      let behind : length (drop place xs) ≡ n - place = omega (arith, length-drop place xs) in
+      let after : length (drop place xs) ≡ n - place = omega (arith, length-drop place xs) in
       let left : drop more (turned place xs) ≡ drop (place + more) xs ++ take place xs =
       drop-append-le more (drop place xs) (take place xs) (omega arith) ∙ ap (λ (ys : List X). ys ++ take place xs) (drop-drop more place xs) in
       let here : length (drop (place + more) xs) ≡ n - (place + more) = omega (arith, length-drop (place + more) xs) in
@@ -63,7 +63,7 @@ turned_further {X = X} place more n xs count below most = elim (cases_lt n (plac
   | inl past ↦
       let at : ℕ = place + more - n in
       let is : (place + more) % n ≡ at = above-mod (place + more) n (omega arith) (omega arith) in
-      let behind : length (drop place xs) ≡ n - place = omega (arith, length-drop place xs) in
+      let after : length (drop place xs) ≡ n - place = omega (arith, length-drop place xs) in
       let left : drop more (turned place xs) ≡ drop at (take place xs) =
       drop_past more (drop place xs) (take place xs) (omega arith) ∙ ap (λ (k : ℕ). drop k (take place xs)) (omega arith) in
       let here : length (drop at xs) ≡ n - at = omega (arith, length-drop at xs) in
@@ -86,9 +86,9 @@ put_within {X = X} start n xs es new count below within is =
     let end : ℕ = start + length es in
     let front : length (take start xs ++ es) ≡ end = omega (arith, length-append (take start xs) es, length-take-le start xs (omega arith)) in
     let whole : length new ≡ n = ap length is ∙ omega (arith, front, length-append (take start xs ++ es) (drop end xs), length-drop end xs) in
-    let behind : drop end new ≡ drop end xs = ap (drop end) is ∙ drop_at (take start xs ++ es) (drop end xs) end front in
+    let after : drop end new ≡ drop end xs = ap (drop end) is ∙ drop_at (take start xs ++ es) (drop end xs) end front in
     let before : take end new ≡ take start xs ++ es = ap (take end) is ∙ take_at (take start xs ++ es) (drop end xs) end front in
-    let left : turned end new ≡ drop end xs ++ (take start xs ++ es) = ap (λ (ys : List X). ys ++ take end new) behind ∙ ap (λ (ys : List X). drop end xs ++ ys) before in
+    let left : turned end new ≡ drop end xs ++ (take start xs ++ es) = ap (λ (ys : List X). ys ++ take end new) after ∙ ap (λ (ys : List X). drop end xs ++ ys) before in
     let right : drop (length es) (turned start xs ++ es) ≡ drop end xs ++ (take start xs ++ es) =
     ap (drop (length es)) (append_assoc (drop start xs) (take start xs) es)
     ∙ drop-append-le (length es) (drop start xs) (take start xs ++ es) (omega (arith, length-drop start xs))
@@ -109,10 +109,10 @@ put_past {X = X} start n xs first rest es middle new count below parts end some 
     let middle_whole : middle ≡ take start xs ++ first = middle_is ∙ ap (λ (ys : List X). take start xs ++ first ++ ys) none ∙ append-nil (take start xs ++ first) in
     let front : length (take start xs) ≡ start = length-take-le start xs (omega arith) in
     let round : (start + length es) % n ≡ at = above-mod (start + length es) n (omega arith) (omega arith) ∙ omega arith in
-    let behind : drop at new ≡ drop at middle = ap (drop at) is ∙ drop_at rest (drop at middle) at refl in
+    let after : drop at new ≡ drop at middle = ap (drop at) is ∙ drop_at rest (drop at middle) at refl in
     let before : take at new ≡ rest = ap (take at) is ∙ take_at rest (drop at middle) at refl in
     let left : turned at new ≡ drop at (take start xs) ++ es =
-    ap (λ (ys : List X). ys ++ take at new) behind ∙ ap (λ (ys : List X). drop at middle ++ ys) before
+    ap (λ (ys : List X). ys ++ take at new) after ∙ ap (λ (ys : List X). drop at middle ++ ys) before
     ∙ ap (λ (ys : List X). ys ++ rest) (ap (drop at) middle_whole ∙ drop-append-le at (take start xs) first (omega arith))
     ∙ append_assoc (drop at (take start xs)) first rest ∙ ap (λ (ys : List X). drop at (take start xs) ++ ys) parts in
     let right : drop (length es) (turned start xs ++ es) ≡ drop at (take start xs) ++ es =
@@ -126,7 +126,7 @@ put_past {X = X} start n xs first rest es middle new count below parts end some 
 turned_set : {X : Type 0} (place at n : ℕ) (xs : List X) (x : X) → length xs ≡ n → place < n → at < n
     → turned place (set xs ((place + at) % n) x) ≡ set (turned place xs) at x
 turned_set {X = X} place at n xs x count below within =
-    let behind : length (drop place xs) ≡ n - place = omega (arith, length-drop place xs) in
+    let after : length (drop place xs) ≡ n - place = omega (arith, length-drop place xs) in
     elim (cases_lt (place + at) n) [
       | inl here ↦
           ap (λ (k : ℕ). turned place (set xs k x)) (mod-eq_of_lt {n = place + at} {m = n} here)
@@ -139,7 +139,7 @@ turned_set {X = X} place at n xs x count below within =
           ap (λ (k : ℕ). turned place (set xs k x)) (above-mod (place + at) n past (omega arith))
           ∙ ap (λ (ys : List X). ys ++ take place (set xs round x)) (drop-set-lt place xs round x (omega arith))
           ∙ ap (λ (ys : List X). drop place xs ++ ys) (take-set-lt place xs round x (omega arith))
-          ∙ sym (set-append_right (drop place xs) (take place xs) (n - place) at x behind (omega arith)
+          ∙ sym (set-append_right (drop place xs) (take place xs) (n - place) at x after (omega arith)
           ∙ ap (λ (k : ℕ). drop place xs ++ set (take place xs) k x) same)
     ]
 
@@ -161,7 +161,7 @@ filled_set {X = X} empty room place xs x within =
     ap (λ (k : ℕ). set xs place x ++ replicate (room - k) empty) (length-set xs place x)
     ∙ sym (set-append_left xs (replicate (room - length xs) empty) place x within)
 
--- what is put where something stood, or right behind that: how long the list is then
+-- what is put where something stood, or right after that: how long the list is then
 pub length-put : {X : Type 0} (place : ℕ) (xs es new : List X) → place ≤ length xs → new ≡ take place xs ++ es ++ drop (place + length es) xs
     → length new ≡ place + length es + (length xs - (place + length es))
 length-put place xs es new within is = ap length is
@@ -175,7 +175,7 @@ filled_put {X = X} empty room place xs es new within most few is =
     let end : ℕ = place + length es in
     let others : List X = replicate (room - length xs) empty in
     let left : room - length new ≡ room - length xs - (end - length xs) = omega (arith, length-put place xs es new within is) in
-    let behind : drop end (xs ++ others) ≡ drop end xs ++ replicate (room - length new) empty = elim (cases_lt (length xs) end) [
+    let after : drop end (xs ++ others) ≡ drop end xs ++ replicate (room - length new) empty = elim (cases_lt (length xs) end) [
       | inl past ↦
           drop_past end xs others (omega arith) ∙ drop-replicate (end - length xs) (room - length xs) empty
           ∙ ap (λ (k : ℕ). replicate k empty) (sym left)
@@ -187,7 +187,7 @@ filled_put {X = X} empty room place xs es new within most few is =
     ap (λ (ys : List X). ys ++ replicate (room - length new) empty) is
     ∙ append_assoc (take place xs ++ es) (drop end xs) (replicate (room - length new) empty)
     ∙ sym (ap (λ (ys : List X). ys ++ es ++ drop end (xs ++ others)) (take-append-le place xs others within)
-    ∙ ap (λ (ys : List X). take place xs ++ es ++ ys) behind)
+    ∙ ap (λ (ys : List X). take place xs ++ es ++ ys) after)
 
 -- ---- a ring
 
@@ -259,10 +259,10 @@ lent_within r ring first count lent ring_is view were there few is =
     let placed : ring.placed ≡ r.placed = ap (λ (ring : RingState). ring.placed) (sym view) in
     let room : length ring.recent ≡ r.room = room_of r ring ring_is view in
     let within : start + count ≤ length cells = lies_within first count r.placed r.room (length cells) ring_is.0 (omega arith) (omega arith) ring_is.1 ring_is.2 few in
-    let behind : drop start (cells ++ others) ≡ drop start cells ++ others = drop-append-le start cells others (omega arith) in
+    let after : drop start (cells ++ others) ≡ drop start cells ++ others = drop-append-le start cells others (omega arith) in
     append-nil (take count (take (length lent - start) (drop start lent)))
     ∙ ap (take count) (take_rest lent start ∙ ap (drop start) is)
-    ∙ sym (ap (λ (ys : List EntityState). take count (ys ++ take start (cells ++ others))) behind
+    ∙ sym (ap (λ (ys : List EntityState). take count (ys ++ take start (cells ++ others))) after
     ∙ ap (take count) (append_assoc (drop start cells) others (take start (cells ++ others)))
     ∙ take-append-le count (drop start cells) (others ++ take start (cells ++ others)) (omega (arith, length-drop start cells)))
     ∙ lent_of r ring first count ring_is view were there
@@ -273,19 +273,19 @@ pub lent_past : (r : Inside) (ring : RingState) (first count : ℕ) (lent other 
     → take (length lent - first % r.room) (drop (first % r.room) lent) ++ take (count - (r.room - first % r.room)) other ≡ entities_from ring first count
 lent_past r ring first count lent other ring_is view were there past is other_is =
     let start : ℕ = first % r.room in
-    let behind : ℕ = r.room - start in
+    let after : ℕ = r.room - start in
     let cells = r.cells.items in
     let placed : ring.placed ≡ r.placed = ap (λ (ring : RingState). ring.placed) (sym view) in
     let room : length ring.recent ≡ r.room = room_of r ring ring_is view in
     let whole : length cells ≡ r.room = is_full first count r.placed r.room (length cells) ring_is.0 (omega arith) ring_is.1 ring_is.2 past in
     let below : start < r.room = mod-lt first {m = r.room} ring_is.0 in
-    let left : length (drop start cells) ≡ behind = omega (arith, length-drop start cells) in
-    ap (λ (ys : List EntityState). ys ++ take (count - behind) other) (take_rest lent start ∙ ap (drop start) is)
-    ∙ ap (λ (ys : List EntityState). drop start cells ++ take (count - behind) ys) other_is
+    let left : length (drop start cells) ≡ after = omega (arith, length-drop start cells) in
+    ap (λ (ys : List EntityState). ys ++ take (count - after) other) (take_rest lent start ∙ ap (drop start) is)
+    ∙ ap (λ (ys : List EntityState). drop start cells ++ take (count - after) ys) other_is
     ∙ sym (ap (λ (ys : List EntityState). take count (turned start ys)) (filled_whole (zero_entity 0) r.room cells whole)
     ∙ take_past count (drop start cells) (take start cells) (omega arith)
     ∙ ap (λ (ys : List EntityState). drop start cells ++ ys)
-    (ap (λ (k : ℕ). take (count - k) (take start cells)) left ∙ take-take (count - behind) start cells (omega arith)))
+    (ap (λ (k : ℕ). take (count - k) (take start cells)) left ∙ take-take (count - after) start cells (omega arith)))
     ∙ lent_of r ring first count ring_is view were there
 
 -- ---- what is put into the ring where something lay
@@ -325,11 +325,11 @@ put_there r ring number entity is view were there =
     ap (λ (recent : List EntityState). record { placed = r.placed; recent = recent }) (ap (turned (r.placed % r.room)) written ∙ round)
     ∙ ap (λ (ring : RingState). with_entity_at ring number entity) view
 
--- the list from one on, behind one that is put at it or behind it
+-- the list from one on, after one that is put at it or after it
 drop_put : (ring : RingState) (entity : EntityState) (number first : ℕ) → first ≤ number → number < ring.placed → ring.placed ≤ first + length ring.recent
     → drop (first + length (with_entity_at ring number entity).recent - ring.placed) (with_entity_at ring number entity).recent
     ≡ set (drop (first + length ring.recent - ring.placed) ring.recent) (number - first) entity
-drop_put ring entity number first behind was there =
+drop_put ring entity number first after was there =
     let start : ℕ = first + length ring.recent - ring.placed in
     let at : ℕ = number + length ring.recent - ring.placed in
     let same : at ≡ start + (number - first) = omega arith in
@@ -345,7 +345,7 @@ put_next ring entity first count was there =
     ∙ ap (λ (k : ℕ). take (count + 1) (set (drop start ring.recent) k entity)) same
     ∙ take_more_set (drop start ring.recent) count entity (omega (arith, length-drop start ring.recent))
 
-pub put_behind : PutLeavesOthers
-put_behind ring entity number first count within was there =
+pub put_after : PutLeavesOthers
+put_after ring entity number first count within was there =
     ap (take count) (drop_put ring entity number first (omega arith) was there)
     ∙ take-set-le count (drop (first + length ring.recent - ring.placed) ring.recent) (number - first) entity (omega arith)

@@ -110,8 +110,8 @@ impl Ring {
         ensures head { length result.head.now ≡ min count (length self.now.recent - first % length self.now.recent) }
     {
         let start = (first % self.room as u64) as usize;
-        let behind = self.room - start;
-        if count <= behind {
+        let after = self.room - start;
+        if count <= after {
             return Run {
                 head: &self.cells[start..][..count],
                 tail: &[],
@@ -119,7 +119,7 @@ impl Ring {
         }
         Run {
             head: &self.cells[start..],
-            tail: &self.cells[..count - behind],
+            tail: &self.cells[..count - after],
         }
     }
 
@@ -179,13 +179,13 @@ fn put_round(cells: &mut Vec<EntityState>, room: usize, start: usize, entities: 
     ensures cells { turned ((start + length entities.now) % room) (filled (zero_entity 0) room cells.new.items)
         ≡ drop (length entities.now) (turned start (filled (zero_entity 0) room cells.old.items) ++ entities.now) }
 {
-    let behind = room - start;
-    if entities.len() <= behind {
+    let after = room - start;
+    if entities.len() <= after {
         put_at(cells, start, entities);
         return;
     }
-    put_at(cells, start, &entities[..behind]);
-    put_at(cells, 0, &entities[behind..]);
+    put_at(cells, start, &entities[..after]);
+    put_at(cells, 0, &entities[after..]);
 }
 
 /// Puts entities into the places from one on, as far as they were written, and the others after all of these.
@@ -215,9 +215,9 @@ fn put_over(cells: &mut Vec<EntityState>, place: usize, entities: &[EntityState]
 fn is_run(run: Run, entities: &[EntityState]) -> bool
     ensures { IsTrue result → run_of run.entry ≡ entities.now }
 {
-    let behind = count_same(run.head, entities);
+    let after = count_same(run.head, entities);
     let most = run.head.len();
-    behind == most && is_piece(run.tail, &entities[behind..])
+    after == most && is_piece(run.tail, &entities[after..])
 }
 
 /// The same of entities that lie in one piece.

@@ -1,6 +1,6 @@
 -- What is read over other words ends at the same place, or is refused in the same way.
 use Rattle.std.proofs.Common.{◌≡◌, ◌==◌, ℕ, Bool, nat_lt, if◌then◌else◌, List, [], ◌∷◌, length, take, Ok, Err, refl, arith}
-use Rattle.q3_bits.specs.ResultBind.{◌>>=◌, left_of, bind_alike, bind_behind, if_alike, map_err_alike}
+use Rattle.q3_bits.specs.ResultBind.{◌>>=◌, left_of, bind_alike, bind_after, if_alike, map_err_alike}
 use Rattle.q3_bits.specs.Words.{field_at}
 use Rattle.q3_fields.specs.declared.kind.Kind.{Kind}
 use Rattle.q3_fields.specs.declared.delta.StateKind.{StateKind}
@@ -12,7 +12,7 @@ field_alike : (state : StateKind) (words : List (List Bool)) (kind : Kind) (from
     → left_of (marked_field_at state words kind from bits) ≡ left_of (marked_field_at state words kind other bits)
 unfolding marked_field_at
 field_alike state words kind from other bits =
-    bind_behind (field_at words 1 bits) (λ mark. if mark.0 == 0 then Ok (from, mark.1) else changed_at state words kind mark.1)
+    bind_after (field_at words 1 bits) (λ mark. if mark.0 == 0 then Ok (from, mark.1) else changed_at state words kind mark.1)
     (λ mark. if mark.0 == 0 then Ok (other, mark.1) else changed_at state words kind mark.1)
     (λ mark. if_alike (mark.0 == 0) (Ok (from, mark.1)) (changed_at state words kind mark.1) (Ok (other, mark.1)) (changed_at state words kind mark.1) refl refl)
 
@@ -36,7 +36,7 @@ pub words_alike : WordsEndAlike
 unfolding words_at
 words_alike state words table from other bits long =
     let some = λ (from : List ℕ) (count : ℕ × List Bool). bits_read (fields_at state words (take count.0 table) from count.1) in
-    bind_behind (bits_read (field_at words 8 bits)) (λ count. if nat_lt (length table) count.0 then Err (Count count.0) else some from count)
+    bind_after (bits_read (field_at words 8 bits)) (λ count. if nat_lt (length table) count.0 then Err (Count count.0) else some from count)
     (λ count. if nat_lt (length table) count.0 then Err (Count count.0) else some other count)
     (λ count.
     if_alike (nat_lt (length table) count.0) (Err (Count count.0)) (some from count) (Err (Count count.0)) (some other count) refl

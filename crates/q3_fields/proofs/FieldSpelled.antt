@@ -29,7 +29,7 @@ pub record ReadField (state : StateKind) (words : List (List Bool)) (kind : Kind
   pub fits : from < 2 ^ 32 → found.0 < 2 ^ 32
   pub normal : norm kind from ≡ from → norm kind found.0 ≡ found.0
 
--- the field behind a mark
+-- the field after a mark
 abbrev marked_at : StateKind → List (List Bool) → Kind → ℕ → ℕ × List Bool → Result (ℕ × List Bool) ReadError
 marked_at state words kind from mark = cond (eqb mark.0 0) (Ok (from, mark.1)) (changed_at state words kind mark.1)
 
@@ -110,7 +110,7 @@ none_was_spelled state words from bits found same left = record {
   long = ap length (sym same);
 }
 
--- the fields behind the first
+-- the fields after the first
 abbrev others_at : StateKind → List (List Bool) → List Kind → List ℕ → ℕ × List Bool → Result (List ℕ × List Bool) ReadError
 others_at state words kinds from first = fields_at state words kinds from first.1 >>= λ others. Ok (first.0 ∷ others.0, others.1)
 
@@ -153,12 +153,12 @@ fields_are_normal put law state words code (suc count) (kind ∷ table) allowed 
     subst (λ (xs : List ℕ). normal_words (kind ∷ table) xs ≡ xs) parts.0 normal
 fields_are_normal put law state words code (suc count) (kind ∷ table) allowed (x ∷ from) bits found e normal =
     let here : norm kind x ≡ x = cc in
-    let behind : normal_words table from ≡ from = cc in
+    let after : normal_words table from ≡ from = cc in
     let first = bind_ok (marked_field_at state words kind x bits) (others_at state words (take count table) from) found e in
     let others = bind_ok (fields_at state words (take count table) from first.0.1) (λ others. Ok (first.0.0 ∷ others.0, others.1)) found first.2 in
     let parts = answer_parts (first.0.0 ∷ others.0.0) found.0 others.0.1 found.1 others.2 in
     let one = field_was_spelled put law state words code kind (All-head IsKind kind table allowed) x bits first.0 first.1 in
-    let more = fields_are_normal put law state words code count table (All-tail IsKind kind table allowed) from first.0.1 others.0 others.1 behind in
+    let more = fields_are_normal put law state words code count table (All-tail IsKind kind table allowed) from first.0.1 others.0 others.1 after in
     subst (λ (xs : List ℕ). normal_words (kind ∷ table) xs ≡ xs) parts.0 (rw (one.normal here, more) refl)
 
 -- fields that are spelled so are read
@@ -180,7 +180,7 @@ fields_are_read put law state words code (kind ∷ kinds) allowed (x ∷ from) t
 pub fronts : (count : ℕ) (from to : List ℕ) → length from ≡ length to → length (take count from) ≡ length (take count to)
 fronts count from to long = simp length-take (ap (min count) long)
 
--- fields that are written against normal ones spell the normal form, and the words behind them are as they were
+-- fields that are written against normal ones spell the normal form, and the words after them are as they were
 pub fields_are_spelled : ChangedIsSpelled → (state : StateKind) (words : List (List Bool)) (table : List Kind) → All IsKind table → (from to : List ℕ) → length from ≡ length to
     → All (λ word. word < 2 ^ 32) to → normal_words table from ≡ from
     → SpellsFields state words (take (last_changed (take (length table) from) (take (length table) to)) table) from (normal_words table to)
@@ -193,7 +193,7 @@ fields_are_spelled law state words (kind ∷ table) allowed [] (y ∷ to) long f
 fields_are_spelled law state words (kind ∷ table) allowed (x ∷ from) [] long fits normal = absurd (omega arith)
 fields_are_spelled law state words (kind ∷ table) allowed (x ∷ from) (y ∷ to) long fits normal =
     let here : norm kind x ≡ x = cc in
-    let behind : normal_words table from ≡ from = cc in
+    let after : normal_words table from ≡ from = cc in
     let as_long : length from ≡ length to = omega arith in
     let old = take (length table) from in
     let new = take (length table) to in
@@ -201,7 +201,7 @@ fields_are_spelled law state words (kind ∷ table) allowed (x ∷ from) (y ∷ 
       | inl none ↦
           let both = and_parts (eqb (last_changed old new) 0) (eqb x y) none in
           let agree : old ≡ new = rw (eqb-true (last_changed old new) 0 both.0) at (last_changed-agrees old new (fronts (length table) from to as_long)) in
-          let others : normal_words table to ≡ from = sym (normal_words-front table from to as_long agree) ∙ behind in
+          let others : normal_words table to ≡ from = sym (normal_words-front table from to as_long agree) ∙ after in
           rw none (rw (← eqb-true x y both.1, here, others) refl, refl)
       | inr some ↦
           rw (some, add-one) (
@@ -212,6 +212,6 @@ fields_are_spelled law state words (kind ∷ table) allowed (x ∷ from) (y ∷ 
             refl,
             refl,
             field_is_spelled law state words kind (All-head IsKind kind table allowed) x y (All-head Fits y to fits) here,
-            fields_are_spelled law state words table (All-tail IsKind kind table allowed) from to as_long (All-tail Fits y to fits) behind,
+            fields_are_spelled law state words table (All-tail IsKind kind table allowed) from to as_long (All-tail Fits y to fits) after,
           )
     ]

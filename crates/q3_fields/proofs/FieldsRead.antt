@@ -27,7 +27,7 @@ front-first : (x : ℕ) (front : List ℕ) (read : ListRead) → with_first x (w
 front-first x front (Ok y) = refl
 front-first x front (Err e) = refl
 
--- a field, and those behind it
+-- a field, and those after it
 fields-same : MarksAreBits → (state : StateKind) (words : List (List Bool)) (kind : Kind) (kinds : List Kind) (x : ℕ) (from : List ℕ) (bits : List Bool)
     → fields_at state words (kind ∷ kinds) (x ∷ from) (false ∷ bits) ≡ with_first x (fields_at state words kinds from bits)
 unfolding fields_at marked_field_at
@@ -53,7 +53,7 @@ told-parts x y rest other e =
     (ap (λ (p : ℕ × List Bool). p.0) whole, ap (λ (p : ℕ × List Bool). p.1) whole)
 
 told-same : (x y : ℕ) (rest other : List Bool) → x ≡ y → rest ≡ other → told x rest ≡ told y other
-told-same x y rest other same behind = rw (same, behind) refl
+told-same x y rest other same after = rw (same, after) refl
 
 -- a run that goes on
 run-on : (n : ℕ) (bits : List Bool) → run_at (suc n) (false ∷ bits) ≡ (run_at n bits >>= λ others. told (others.0 + 1) others.1)

@@ -94,13 +94,13 @@ last_changed-le (x ∷ from) (y ∷ to) =
 pub last_changed-none : (words : List ℕ) → last_changed words words ≡ 0
 last_changed-none words = omega (arith, last_changed-least words words refl 0 refl)
 
--- nor do they behind others
-last_changed-behind : (from to words : List ℕ) → length from ≡ length to → last_changed (from ++ words) (to ++ words) ≡ last_changed from to
+-- nor do they after others
+last_changed-after : (from to words : List ℕ) → length from ≡ length to → last_changed (from ++ words) (to ++ words) ≡ last_changed from to
 unfolding last_changed
-last_changed-behind [] [] words same = last_changed-none words
-last_changed-behind [] (y ∷ to) words same = absurd (omega arith)
-last_changed-behind (x ∷ from) [] words same = absurd (omega arith)
-last_changed-behind (x ∷ from) (y ∷ to) words same = rw (last_changed-behind from to words (omega arith)) refl
+last_changed-after [] [] words same = last_changed-none words
+last_changed-after [] (y ∷ to) words same = absurd (omega arith)
+last_changed-after (x ∷ from) [] words same = absurd (omega arith)
+last_changed-after (x ∷ from) (y ∷ to) words same = rw (last_changed-after from to words (omega arith)) refl
 
 -- the words from one place to another agree
 pub last_changed-block : (from to : List ℕ) (start end : ℕ) → start ≤ end → end ≤ length from → end ≤ length to
@@ -112,4 +112,4 @@ last_changed-block from to start end some within within' agree =
     let whole : start + (end - start) ≡ end = omega arith in
     let front : take end from ≡ take start from ++ slice_range from start end = ap (λ n. take n from) (sym whole) ∙ take-add start (end - start) from in
     let front' : take end to ≡ take start to ++ slice_range to start end = ap (λ n. take n to) (sym whole) ∙ take-add start (end - start) to in
-    sym (rw (front, front', agree) (last_changed-behind (take start from) (take start to) (slice_range to start end) (long ∙ sym long')))
+    sym (rw (front, front', agree) (last_changed-after (take start from) (take start to) (slice_range to start end) (long ∙ sym long')))

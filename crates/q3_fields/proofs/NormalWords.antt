@@ -49,8 +49,8 @@ pub normal_words-more : (table : List Kind) (k y : ℕ) (words whole : List ℕ)
     → take (k + 1) (set words k y) ++ normal_words (drop (k + 1) table) (drop (k + 1) (set words k y)) ≡ whole
 normal_words-more table k y words whole within is next =
     let rest = normal_words (drop (k + 1) table) (drop (k + 1) words) in
-    let behind : drop 1 (drop k table) ≡ drop (k + 1) table = rw add-one (drop-next table k) in
-    let first : normal_words (drop k table) (get_or words k 0 ∷ drop (k + 1) words) ≡ y ∷ rest = normal_words-first (drop k table) (get_or words k 0) y (drop (k + 1) words) next ∙ ap (λ (kinds : List Kind). y ∷ normal_words kinds (drop (k + 1) words)) behind in
+    let after : drop 1 (drop k table) ≡ drop (k + 1) table = rw add-one (drop-next table k) in
+    let first : normal_words (drop k table) (get_or words k 0 ∷ drop (k + 1) words) ≡ y ∷ rest = normal_words-first (drop k table) (get_or words k 0) y (drop (k + 1) words) next ∙ ap (λ (kinds : List Kind). y ∷ normal_words kinds (drop (k + 1) words)) after in
     let left : normal_words (drop k table) (drop k words) ≡ y ∷ rest = rw (drop_more words k 0 within) first in
     rw (take_more_set words k y within, drop-set-lt (k + 1) words k y (omega arith)) (append_assoc (take k words) (y ∷ []) rest ∙ ap (λ (ys : List ℕ). take k words ++ ys) (sym left) ∙ is)
 

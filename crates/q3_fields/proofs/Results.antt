@@ -35,6 +35,6 @@ pub bits_were : (words : List (List Bool)) (width : ℕ) (bits : List Bool) (fou
     → found.0 ≡ value → found.1 ≡ rest → bits ≡ field_bits words width value ++ rest
 bits_were words width bits found value rest put is left = rw (← is, ← left) put
 
--- a text behind another, and what is behind both
-pub behind_mark : (bits mark text left rest : List Bool) → bits ≡ mark ++ left → left ≡ text ++ rest → bits ≡ mark ++ text ++ rest
-behind_mark bits mark text left rest whole part = whole ∙ ap (λ (ys : List Bool). mark ++ ys) part ∙ sym (append_assoc mark text rest)
+-- a text after another, and what follows both
+pub after_mark : (bits mark text left rest : List Bool) → bits ≡ mark ++ left → left ≡ text ++ rest → bits ≡ mark ++ text ++ rest
+after_mark bits mark text left rest whole part = whole ∙ ap (λ (ys : List Bool). mark ++ ys) part ∙ sym (append_assoc mark text rest)

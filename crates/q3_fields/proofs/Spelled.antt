@@ -14,7 +14,7 @@ use Rattle.q3_fields.specs.Floats.{pattern, small_float}
 use Rattle.q3_fields.specs.Texts.{biased, unbiased, float_bits, player_field, entity_field, float_at, integer_at, player_field_at, entity_field_at}
 use Rattle.q3_fields.specs.Spelling.{SpellsFloat, SpellsInteger}
 use Rattle.q3_fields.specs.Laws.{IsSmall, PlayerFieldIsSpelled, EntityFieldIsSpelled, PlayerReadIsSpelled, EntityReadIsSpelled, PlayerSpelledIsRead, EntitySpelledIsRead}
-use Rattle.q3_fields.proofs.Results.{answer_parts, bits_were_put, bits_were, behind_mark}
+use Rattle.q3_fields.proofs.Results.{answer_parts, bits_were_put, bits_were, after_mark}
 use Rattle.q3_fields.proofs.FieldBits.{field_bits-cut}
 use Rattle.q3_fields.proofs.SmallFloats.{pattern-fits, pattern-no_negative_zero, unbiased-small, unbiased-biased, biased-fits, small_float-some, small_float-within, small_float-negative_zero}
 use Rattle.q3_fields.proofs.Normal.{norm-below, norm-twice, norm-zero, norm-float, norm-negative_zero, norm-unsigned_cut, norm-signed_cut}
@@ -74,16 +74,16 @@ entity_field_spelled player words kind word allowed below =
 abbrev WasSpelled : (Kind → ℕ → List Bool → Type 0) → Kind → ℕ → List Bool → List Bool → Type 0
 WasSpelled Spells kind word bits rest = (word < 4294967296) × (norm kind word ≡ word) × (text : List Bool) × (bits ≡ text ++ rest) × Spells kind word text
 
--- how a float goes on behind its first bit
-abbrev float_behind : List (List Bool) → ℕ × List Bool → Result (ℕ × List Bool) ReadError
-float_behind words full =
+-- how a float goes on after its first bit
+abbrev float_after : List (List Bool) → ℕ × List Bool → Result (ℕ × List Bool) ReadError
+float_after words full =
     field_at words (cond (eqb full.0 0) 13 32) full.1 >>= λ value. Ok (cond (eqb full.0 0) (pattern (unbiased value.0)) (norm Float value.0), value.1)
 
 float_was_spelled : ReadWasPut → (words : List (List Bool)) (word : ℕ) (bits rest : List Bool) → IsCode words → float_at words bits ≡ Ok (word, rest)
     → WasSpelled (λ kind. SpellsFloat words) Float word bits rest
 unfolding float_at
 float_was_spelled law words word bits rest code e =
-    let full = bind_ok (field_at words 1 bits) (float_behind words) (word, rest) e in
+    let full = bind_ok (field_at words 1 bits) (float_after words) (word, rest) e in
     let mark = bits_were_put law words code 1 bits full.0 full.1 in
     elim (cases_Bool (eqb full.0.0 0)) [
       | inl short ↦
@@ -96,7 +96,7 @@ float_was_spelled law words word bits rest code e =
             rw (← parts.0) (pattern-fits (unbiased value.0.0) small),
             rw (← parts.0) (norm-float (pattern (unbiased value.0.0)) (ne_eqb (pattern (unbiased value.0.0)) 2147483648 (pattern-no_negative_zero (unbiased value.0.0) small))),
             field_bits words 1 0 ++ field_bits words 13 value.0.0,
-            behind_mark bits (field_bits words 1 0) (field_bits words 13 value.0.0) full.0.1 rest first left,
+            after_mark bits (field_bits words 1 0) (field_bits words 13 value.0.0) full.0.1 rest first left,
             inl (value.0.0, put.0, sym parts.0, refl),
           )
       | inr long ↦
@@ -108,7 +108,7 @@ float_was_spelled law words word bits rest code e =
             rw (← parts.0) (norm-below Float value.0.0 tt put.0),
             rw (← parts.0) (norm-twice Float value.0.0 tt),
             field_bits words 1 1 ++ field_bits words 32 value.0.0,
-            behind_mark bits (field_bits words 1 1) (field_bits words 32 value.0.0) full.0.1 rest first left,
+            after_mark bits (field_bits words 1 1) (field_bits words 32 value.0.0) full.0.1 rest first left,
             inr (value.0.0, put.0, sym parts.0, refl),
           )
     ]
@@ -160,7 +160,7 @@ entity_read_spelled law player words kind word bits rest code allowed e =
             field.0,
             field.1,
             field_bits words 1 1 ++ field.2,
-            behind_mark bits (field_bits words 1 1) field.2 mark.0.1 rest first field.3,
+            after_mark bits (field_bits words 1 1) field.2 mark.0.1 rest first field.3,
             inr (field.2, field.4, refl),
           )
     ]

@@ -15,7 +15,7 @@ use Rattle.q3_fields.specs.Deltas.{changed_count, fields_bits, words_delta, fiel
 use Rattle.q3_fields.specs.Laws.{NormIsNormal, NormalWordsAreNormal, WordsAreSpelled, UnchangedIsNormal, WordsReadAreSpelled, WordsSpelledAreRead}
 use Rattle.q3_fields.proofs.LastChanged.{last_changed-agrees, last_changed-le}
 use Rattle.q3_fields.proofs.NormalWords.{normal_words-twice, normal_words-fit, length-normal_words, normal_words-front}
-use Rattle.q3_fields.proofs.Results.{bits_ok, guard_ok, bits_were_put, behind_mark}
+use Rattle.q3_fields.proofs.Results.{bits_ok, guard_ok, bits_were_put, after_mark}
 use Rattle.q3_fields.proofs.Changed.{ChangedIsSpelled, ChangedWasSpelled, ChangedIsRead}
 use Rattle.q3_fields.proofs.FieldSpelled.{fronts, fields_are_spelled, fields_were_spelled, fields_are_normal, fields_are_read}
 
@@ -67,7 +67,7 @@ words_were_spelled put law state words table from to bits rest code is_table are
       record { count = spelled.long ∙ are.count; each = spelled.fits are.each },
       λ normal. fields_are_normal put law state words code count.0.0 table is_table.each from count.0.1 (to, rest) reads normal,
       eight ++ spelled.text,
-      behind_mark bits eight spelled.text count.0.1 rest first spelled.parts,
+      after_mark bits eight spelled.text count.0.1 rest first spelled.parts,
       record {
         count = count.0.0;
         fields = spelled.text;

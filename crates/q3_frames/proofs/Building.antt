@@ -35,9 +35,9 @@ pub record LieIn (ring new : RingState) (entities : List EntityState) (first : �
   pub there : entities_from new first (length entities) ≡ entities
   pub others : (from count : ℕ) → from + count ≤ ring.placed → new.placed ≤ from + length ring.recent → entities_from new from count ≡ entities_from ring from count
 
-placed_behind : OthersStay → PlacedIsThere → (ring : RingState) (entities : List EntityState) → length entities ≤ length ring.recent
+placed_later : OthersStay → PlacedIsThere → (ring : RingState) (entities : List EntityState) → length entities ≤ length ring.recent
     → LieIn ring (with_entities ring entities) entities ring.placed
-placed_behind stay there ring entities few = record {
+placed_later stay there ring entities few = record {
   room = room-stays ring entities few;
   grows = omega arith;
   few = omega arith;
@@ -61,7 +61,7 @@ pub lie_in : OthersStay → PlacedIsThere → (ring new : RingState) (entities :
 lie_in stay there ring new entities first few is = elim is [
   | inl behind ↦
       subst (λ (r : RingState). LieIn ring r entities first) (sym behind.0)
-      (subst (LieIn ring (with_entities ring entities) entities) (sym behind.1) (placed_behind stay there ring entities few))
+      (subst (LieIn ring (with_entities ring entities) entities) (sym behind.1) (placed_later stay there ring entities few))
   | inr before ↦ subst (λ (r : RingState). LieIn ring r entities first) (sym before.0) (placed_before ring entities first before.1)
 ]
 
@@ -84,7 +84,7 @@ left-stays ring new placed first entities kept lie is =
     ]
     ∙ ap (λ (k : ℕ). frame_remains k now (frame_in new kept)) (sym lie.room)
 
--- what is kept of a snapshot whose entities lie from one on, counted behind so many
+-- what is kept of a snapshot whose entities lie from one on, counted after so many
 abbrev pub next_kept : SnapHead → ℕ → ℕ → ℕ → Kept
 next_kept head first count placed = record { head = head; first = first; count = count; counted = placed }
 
@@ -117,7 +117,7 @@ all-alike {Z = Z} P f g h alike (places ∷ slots) holds =
     ∙ ap (λ (rest : List (List (Option Z))). each h places ∷ rest)
     (all-alike P f g h alike slots (All-tail (λ places. All (λ place. IfSome place P) places) places slots holds))
 
--- the slots behind a build
+-- the slots after a build
 slots-built : (ring new : RingState) (placed first : ℕ) (entities : List EntityState) (head : SnapHead) (slots : List (List (Option Kept))) (slot : ℕ)
     → LieIn ring new entities first → All (λ places. All (λ place. IfSome place (IsKept ring placed)) places) slots
     → map (each (left_in new (placed + length entities)))

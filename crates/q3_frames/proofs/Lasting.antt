@@ -133,10 +133,10 @@ last_built-push builds one slot number =
     let filtered : filter test (frames_from 0 (builds ++ one ∷ [])) ≡ filter test before ++ cond (test new) (new ∷ []) [] =
     ap (filter test) pushed ∙ filter-append test before (new ∷ []) in
     let pick : Bool → Option Frame = λ b. cond b (Some frame) (last_built builds slot number) in
-    let behind : Bool → Option Frame = λ b. last (filter test before ++ cond b (new ∷ []) []) in
+    let after : Bool → Option Frame = λ b. last (filter test before ++ cond b (new ∷ []) []) in
     ap last filtered ∙ elim (cases_Bool (test new)) [
-      | inl holds ↦ ap behind holds ∙ ap (option_map (λ (one : ℕ × Frame). one.1)) (last_or-push None (filter test before) new) ∙ sym (ap pick holds)
-      | inr fails ↦ ap behind fails ∙ ap last (append-nil (filter test before)) ∙ sym (ap pick fails)
+      | inl holds ↦ ap after holds ∙ ap (option_map (λ (one : ℕ × Frame). one.1)) (last_or-push None (filter test before) new) ∙ sym (ap pick holds)
+      | inr fails ↦ ap after fails ∙ ap last (append-nil (filter test before)) ∙ sym (ap pick fails)
     ]
 
 -- ---- and the frames

@@ -40,7 +40,7 @@ none_at {X = X} slots slot number =
 
 -- ---- a frame in its place
 
--- what is read behind a `set` was there before, and is the default at the place itself, or it was put there
+-- what is read after a `set` was there before, and is the default at the place itself, or it was put there
 set_read : {X : Type 0} (xs : List X) (i j : ℕ) (y d : X)
     → ((get_or (set xs i y) j d ≡ get_or xs j d) × (j ≡ i → get_or (set xs i y) j d ≡ d)) ⊎ ((j ≡ i) × (get_or (set xs i y) j d ≡ y))
 set_read xs i j y d = elim (cases_eq j i) [

@@ -4,7 +4,7 @@ use Rattle.std.specs.Option.{is_some}
 use Rattle.std.proofs.lemmas.Bool.{cases_Bool}
 use Rattle.q3_bits.specs.ResultBind.{◌>>=◌, bind_ok}
 use Rattle.q3_bits.specs.Words.{row_bits}
-use Rattle.q3_strings.specs.Rows.{WasField, row-none, row-behind}
+use Rattle.q3_strings.specs.Rows.{WasField, row-none, row-after}
 use Rattle.q3_entity.specs.Baselines.{Baselines, no_baselines}
 use Rattle.q3_entity.specs.Laws.{NoneAreBaselines}
 use Rattle.q3_config.specs.Strings.{Strings, no_strings, server_id}
@@ -42,7 +42,7 @@ gamestate_of_parts no_baselines_law profile bits command settings slot feed comm
     let first = row_bits words ((2, 8) ∷ (command.0, 32) ∷ []) in
     let last = (slot.0, 32) ∷ (feed.0, 32) ∷ [] in
     let ends : over words ++ settings.1 ≡ row_bits words ((8, 8) ∷ last) ++ feed.1 =
-    ap (λ (left : List Bool). over words ++ left) (slot_was.row ((feed.0, 32) ∷ []) feed.1 (feed_was.row [] feed.1 (row-none words feed.1))) ∙ sym (row-behind words 8 8 last feed.1) in
+    ap (λ (left : List Bool). over words ++ left) (slot_was.row ((feed.0, 32) ∷ []) feed.1 (feed_was.row [] feed.1 (row-none words feed.1))) ∙ sym (row-after words 8 8 last feed.1) in
     let kept = were.kept (none_are profile.entity no_baselines_law) in
     record {
       is = record {
@@ -71,7 +71,7 @@ gamestate_of_parts no_baselines_law profile bits command settings slot feed comm
       };
       parts =
           ap (λ (left : List Bool). row_bits words ((2, 8) ∷ []) ++ left) (command_was.row [] command.1 (row-none words command.1))
-          ∙ sym (row-behind words 2 8 ((command.0, 32) ∷ []) command.1)
+          ∙ sym (row-after words 2 8 ((command.0, 32) ∷ []) command.1)
           ∙ ap (λ (left : List Bool). first ++ left) were.parts
           ∙ ap (λ (left : List Bool). first ++ (were.text ++ left)) ends
           ∙ sym (append_assoc first were.text (row_bits words ((8, 8) ∷ last) ++ feed.1))

@@ -26,7 +26,7 @@ zeros_are_words table is zero_is =
 
 -- ---- turn by turn
 
--- behind an operation that was read a turn less is left
+-- after an operation that was read a turn less is left
 pub record TakesTurn (start now got : Reading) (operation turns : ℕ) : Type 0 where
   pub words : got.words ≡ start.words
   pub place : got.place + length got.left ≡ start.place + length start.left

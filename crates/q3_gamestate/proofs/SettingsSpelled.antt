@@ -10,7 +10,7 @@ use Rattle.q3_bits.specs.Laws.{ReadWasPut}
 use Rattle.q3_text.specs.Texts.{IsTextByte}
 use Rattle.q3_strings.specs.Reading.{bounded_string_at}
 use Rattle.q3_strings.specs.Spelling.{SpellsString}
-use Rattle.q3_strings.specs.Rows.{row-none, row-behind}
+use Rattle.q3_strings.specs.Rows.{row-none, row-after}
 use Rattle.q3_strings.specs.Laws.{StringReadIsSpelled}
 use Rattle.q3_fields.specs.Kinds.{IsTable, end_mark}
 use Rattle.q3_fields.specs.States.{AreWords}
@@ -37,7 +37,7 @@ use Rattle.q3_gamestate.proofs.Fields.{field_was}
 use Rattle.q3_gamestate.proofs.Settings.{zeros_are_words}
 use Rattle.q3_gamestate.proofs.Kept.{AreSettings, with_string_are, with_baseline_are}
 
--- the operation behind the settings
+-- the operation after the settings
 abbrev pub over : List (List Bool) → List Bool
 over words = row_bits words ((8, 8) ∷ [])
 
@@ -216,7 +216,7 @@ pub record ReadSettings (profile : Profile) (strings : Strings) (baselines : Bas
   pub kept : AreSettings profile.entity strings baselines → AreSettings profile.entity found.0.0 found.0.1
   pub parts : bits ≡ text ++ (over profile.code ++ found.1)
 
--- a config string, and those behind it
+-- a config string, and those after it
 config_first : (profile : Profile) (strings : Strings) (baselines : Baselines) (bits left : List Bool) (config : Strings × List Bool) (found : (Strings × Baselines) × List Bool)
     → bits ≡ row_bits profile.code ((3, 8) ∷ []) ++ left → ReadConfig profile.code strings left config → ReadSettings profile config.0 baselines config.1 found
     → ReadSettings profile strings baselines bits found
@@ -224,7 +224,7 @@ config_first profile strings baselines bits left config found is first others =
     let words = profile.code in
     let fields = (first.index, 16) ∷ [] in
     let text = row_bits words ((3, 8) ∷ fields) ++ first.string in
-    let behind = over words ++ found.1 in
+    let after = over words ++ found.1 in
     record {
       settings = ConfigString first.index first.text ∷ others.settings;
       text = text ++ others.text;
@@ -238,13 +238,13 @@ config_first profile strings baselines bits left config found is first others =
       parts =
           is
           ∙ ap (λ (left : List Bool). row_bits words ((3, 8) ∷ []) ++ left) first.parts
-          ∙ sym (row-behind words 3 8 fields (first.string ++ config.1))
+          ∙ sym (row-after words 3 8 fields (first.string ++ config.1))
           ∙ ap (λ (left : List Bool). row_bits words ((3, 8) ∷ fields) ++ (first.string ++ left)) others.parts
-          ∙ sym (append_assoc (row_bits words ((3, 8) ∷ fields)) first.string (others.text ++ behind))
-          ∙ sym (append_assoc text others.text behind);
+          ∙ sym (append_assoc (row_bits words ((3, 8) ∷ fields)) first.string (others.text ++ after))
+          ∙ sym (append_assoc text others.text after);
     }
 
--- a baseline, and those behind it
+-- a baseline, and those after it
 baseline_first : BaselineIsAdded → (profile : Profile) (strings : Strings) (baselines : Baselines) (bits left : List Bool) (baseline : Baselines × List Bool) (found : (Strings × Baselines) × List Bool)
     → bits ≡ row_bits profile.code ((4, 8) ∷ []) ++ left → ReadBaseline profile baselines left baseline → ReadSettings profile strings baseline.0 baseline.1 found
     → ReadSettings profile strings baselines bits found
@@ -252,7 +252,7 @@ baseline_first law profile strings baselines bits left baseline found is first o
     let words = profile.code in
     let operation = row_bits words ((4, 8) ∷ []) in
     let text = operation ++ first.text in
-    let behind = over words ++ found.1 in
+    let after = over words ++ found.1 in
     record {
       settings = Baseline first.state ∷ others.settings;
       text = text ++ others.text;
@@ -266,8 +266,8 @@ baseline_first law profile strings baselines bits left baseline found is first o
           is
           ∙ ap (λ (left : List Bool). operation ++ left) first.parts
           ∙ ap (λ (left : List Bool). operation ++ (first.text ++ left)) others.parts
-          ∙ sym (append_assoc operation first.text (others.text ++ behind))
-          ∙ sym (append_assoc text others.text behind);
+          ∙ sym (append_assoc operation first.text (others.text ++ after))
+          ∙ sym (append_assoc text others.text after);
     }
 
 pub settings_were : WasRead → (profile : Profile) → IsCodec profile → (turns : ℕ) (strings : Strings) (baselines : Baselines) (bits : List Bool) (found : (Strings × Baselines) × List Bool)

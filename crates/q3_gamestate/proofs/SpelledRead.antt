@@ -5,7 +5,7 @@ use Rattle.std.proofs.lemmas.Bool.Decides.{nat_tests}
 use Rattle.std.proofs.lemmas.List.{length-append}
 use Rattle.q3_bits.specs.Words.{IsCode, row_bits}
 use Rattle.q3_strings.specs.Spelling.{SpellsString}
-use Rattle.q3_strings.specs.Rows.{row-behind, row-first, row-last}
+use Rattle.q3_strings.specs.Rows.{row-after, row-first, row-last}
 use Rattle.q3_fields.specs.Kinds.{end_mark}
 use Rattle.q3_entity.specs.declared.state.EntityState.{EntityState}
 use Rattle.q3_entity.specs.Baselines.{Baselines, no_baselines, with_baseline}
@@ -57,40 +57,40 @@ settings_are laws profile codec [] turns strings baselines text rest s within en
     ap (λ (bits : List Bool). settings_at profile turns strings baselines bits) same ∙ settings_done profile strings baselines bits rest turns one.left read one.is
 settings_are laws profile codec (ConfigString index value ∷ settings) turns strings baselines text rest (first, others, whole, (string, inside, spelled, first_is), more) within enough =
     let words = profile.code in
-    let behind = others ++ (over words ++ rest) in
+    let after = others ++ (over words ++ rest) in
     let fields : List (ℕ × ℕ) = (index, 16) ∷ [] in
-    let left = row_bits words fields ++ (string ++ behind) in
-    let bits = row_bits words ((3, 8) ∷ fields) ++ (string ++ behind) in
+    let left = row_bits words fields ++ (string ++ after) in
+    let bits = row_bits words ((3, 8) ∷ fields) ++ (string ++ after) in
     let same : text ++ (over words ++ rest) ≡ bits = rw (whole, first_is) (simp append_assoc) in
-    let read = sym (row-first words codec.code laws.put 3 8 fields (string ++ behind) (omega arith)) in
+    let read = sym (row-first words codec.code laws.put 3 8 fields (string ++ after) (omega arith)) in
     let one = laws.turns.turn words bits left 3 turns codec.code read (omega (arith, enough, ap length same)) in
-    let config = sym (config_is laws words codec.code strings index value string behind inside spelled (string_short words longest_string value string spelled) within.0) in
+    let config = sym (config_is laws words codec.code strings index value string after inside spelled (string_short words longest_string value string spelled) within.0) in
     ap (λ (bits : List Bool). settings_at profile turns strings baselines bits) same
-    ∙ settings_config profile strings baselines bits left behind (with_string strings index value) turns one.left read one.is config
+    ∙ settings_config profile strings baselines bits left after (with_string strings index value) turns one.left read one.is config
     ∙ settings_are laws profile codec settings one.left (with_string strings index value) baselines others rest more within.1
-    (omega (arith, one.enough, length-append (row_bits words fields) (string ++ behind), length-append string behind))
+    (omega (arith, one.enough, length-append (row_bits words fields) (string ++ after), length-append string after))
 settings_are laws profile codec (Baseline state ∷ settings) turns strings baselines text rest (first, others, whole, (entry, inside, spelled, first_is), more) within enough =
     let words = profile.code in
-    let behind = others ++ (over words ++ rest) in
-    let left = entry ++ behind in
+    let after = others ++ (over words ++ rest) in
+    let left = entry ++ after in
     let bits = row_bits words ((4, 8) ∷ []) ++ left in
     let same : text ++ (over words ++ rest) ≡ bits = rw (whole, first_is) (simp append_assoc) in
     let read = sym (row-last words codec.code laws.put 4 8 left (omega arith)) in
     let one = laws.turns.turn words bits left 4 turns codec.code read (omega (arith, enough, ap length same)) in
-    let baseline = sym (baseline_is laws profile codec baselines state entry behind inside spelled) in
+    let baseline = sym (baseline_is laws profile codec baselines state entry after inside spelled) in
     ap (λ (bits : List Bool). settings_at profile turns strings baselines bits) same
-    ∙ settings_baseline profile strings baselines bits left behind (with_baseline baselines state) turns one.left read one.is baseline
-    ∙ settings_are laws profile codec settings one.left strings (with_baseline baselines state) others rest more within (omega (arith, one.enough, length-append entry behind))
+    ∙ settings_baseline profile strings baselines bits left after (with_baseline baselines state) turns one.left read one.is baseline
+    ∙ settings_are laws profile codec settings one.left strings (with_baseline baselines state) others rest more within (omega (arith, one.enough, length-append entry after))
 
 is_some_id : (id : Option ℕ) → IsSome id → is_some id ≡ true
 is_some_id (Some id) some = refl
 is_some_id None some = absurd cc
 
-gamestate_behind : IsRead → (profile : Profile) → IsCodec profile → (game : Gamestate) (text rest : List Bool) → (s : SpellsGamestate profile game text)
+gamestate_after : IsRead → (profile : Profile) → IsCodec profile → (game : Gamestate) (text rest : List Bool) → (s : SpellsGamestate profile game text)
     → gamestate_at profile (row_bits profile.code ((game.command, 32) ∷ []) ++ (s.text ++ (over profile.code ++ (row_bits profile.code ((game.slot, 32) ∷ (game.feed, 32) ∷ []) ++ rest))))
     ≡ Ok (game, rest)
 unfolding gamestate_at
-gamestate_behind laws profile codec game text rest s =
+gamestate_after laws profile codec game text rest s =
     let words = profile.code in
     let last = row_bits words ((game.slot, 32) ∷ (game.feed, 32) ∷ []) ++ rest in
     let left = s.text ++ (over words ++ last) in
@@ -114,10 +114,10 @@ gamestate_is_read laws profile game text rest codec s =
     let bits = command ++ s.text ++ last in
     let same : bits ++ rest ≡ command ++ (s.text ++ (over words ++ (row_bits words fields ++ rest))) =
     append_assoc (command ++ s.text) last rest ∙ append_assoc command s.text (last ++ rest)
-    ∙ ap (λ (left : List Bool). command ++ (s.text ++ left)) (row-behind words 8 8 fields rest) in
-    let one = row-behind words 2 8 ((game.command, 32) ∷ []) (s.text ++ last) in (
+    ∙ ap (λ (left : List Bool). command ++ (s.text ++ left)) (row-after words 8 8 fields rest) in
+    let one = row-after words 2 8 ((game.command, 32) ∷ []) (s.text ++ last) in (
       bits,
       s.whole ∙ append_assoc (row_bits words ((2, 8) ∷ (game.command, 32) ∷ [])) s.text last ∙ one
           ∙ ap (λ (left : List Bool). row_bits words ((2, 8) ∷ []) ++ left) (sym (append_assoc command s.text last)),
-      ap (λ (bits : List Bool). gamestate_at profile bits) same ∙ gamestate_behind laws profile codec game text rest s,
+      ap (λ (bits : List Bool). gamestate_at profile bits) same ∙ gamestate_after laws profile codec game text rest s,
     )

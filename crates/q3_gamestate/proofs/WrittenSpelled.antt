@@ -28,7 +28,7 @@ use Rattle.q3_gamestate.specs.Laws.{IsGamestate, WrittenIsSpelled}
 use Rattle.q3_gamestate.proofs.Below.{WasWritten}
 use Rattle.q3_gamestate.proofs.Kept.{text_bytes, sizes-none, size_is}
 
--- ---- settings, one behind the other
+-- ---- settings, one after the other
 
 spells_both : (words : List (List Bool)) (table : Layout) (first second : List Setting) (a b : List Bool) → SpellsSettings words table first a → SpellsSettings words table second b
     → SpellsSettings words table (first ++ second) (a ++ b)
@@ -51,7 +51,7 @@ within_both strings [] second a b = b
 within_both strings (ConfigString index text ∷ first) second a b = (a.0, within_both (with_string strings index text) first second a.1 b)
 within_both strings (Baseline state ∷ first) second a b = within_both strings first second a b
 
--- the texts of numbers, one behind the other
+-- the texts of numbers, one after the other
 numbered-first : (n k : ℕ) (text : ℕ → List Bool) → numbered (suc n) k text ≡ text k ++ numbered n (k + 1) text
 unfolding numbered
 numbered-first n k text = refl
@@ -105,7 +105,7 @@ strings_spelled law words table at k (text ∷ texts) are few is =
     one law words table k (byte ∷ text) texts rest is few others =
         (config_bits words k (byte ∷ text), rest, refl, (string_bits words (byte ∷ text), few, law words longest_string (byte ∷ text) is.0 is.1, refl), others)
 
--- the strings that are there, and none behind them
+-- the strings that are there, and none after them
 so_far : List (List ℕ) → ℕ → Strings
 so_far front n = record { texts = front ++ replicate n []; pending = None }
 
@@ -220,7 +220,7 @@ baselines_spelled laws profile codec at k (baseline ∷ baselines) is are =
 shift : (front : Baselines) (baseline : Option EntityState) (i : ℕ) → length front + suc i ≡ length (front ++ baseline ∷ []) + i
 shift front baseline i = omega (arith, length-append front (baseline ∷ []))
 
--- the baselines that are there, and none behind them
+-- the baselines that are there, and none after them
 baselines_made : (front baselines : Baselines) → ((i : ℕ) → i < length baselines → IfSome (get_or baselines i None) (λ state. state.number ≡ length front + i))
     → baselines_after (front ++ replicate (length baselines) None) (baseline_settings baselines) ≡ front ++ baselines
 unfolding baseline_settings
@@ -231,13 +231,13 @@ baselines_made front (baseline ∷ baselines) is =
     (λ i more. subst (λ (n : ℕ). IfSome (get_or baselines i None) (λ state. state.number ≡ n)) (shift front baseline i) (is (suc i) (omega (arith, more))))
     ∙ append_assoc front (baseline ∷ []) baselines
   where
-    one : (front : Baselines) (baseline : Option EntityState) (baselines behind : Baselines) → IfSome baseline (λ state. state.number ≡ length front + 0)
-        → baselines_after (front ++ None ∷ behind) (baseline_settings (baseline ∷ baselines)) ≡ baselines_after ((front ++ baseline ∷ []) ++ behind) (baseline_settings baselines)
-    one front None baselines behind is = ap (λ (l : Baselines). baselines_after l (baseline_settings baselines)) (sym (append_assoc front (None ∷ []) behind))
-    one front (Some state) baselines behind is =
+    one : (front : Baselines) (baseline : Option EntityState) (baselines after : Baselines) → IfSome baseline (λ state. state.number ≡ length front + 0)
+        → baselines_after (front ++ None ∷ after) (baseline_settings (baseline ∷ baselines)) ≡ baselines_after ((front ++ baseline ∷ []) ++ after) (baseline_settings baselines)
+    one front None baselines after is = ap (λ (l : Baselines). baselines_after l (baseline_settings baselines)) (sym (append_assoc front (None ∷ []) after))
+    one front (Some state) baselines after is =
         let here : state.number ≡ length front = omega (arith, is) in
         ap (λ (l : Baselines). baselines_after l (baseline_settings baselines))
-        (ap (λ (k : ℕ). set (front ++ None ∷ behind) k (Some state)) here ∙ set-append_seam front None behind (Some state) ∙ sym (append_assoc front (Some state ∷ []) behind))
+        (ap (λ (k : ℕ). set (front ++ None ∷ after) k (Some state)) here ∙ set-append_seam front None after (Some state) ∙ sym (append_assoc front (Some state ∷ []) after))
 
 -- ---- a gamestate
 

@@ -1,4 +1,4 @@
--- Why the making of an index ends early: what the counts of files tell, behind calls that left them.
+-- Why the making of an index ends early: what the counts of files tell, after calls that left them.
 use Rattle.std.proofs.Common.{◌≡◌, ℕ, ◌≤◌, Err, subst, ◌∙◌}
 use Rattle.q3_io.specs.Faults.{Rose}
 use Rattle.q3_demo.specs.declared.error.DemoError.{DemoError}

@@ -12,7 +12,7 @@ use Rattle.q3_index.specs.declared.error.SeekError.{SeekError}
 use Rattle.q3_index.specs.declared.error.SeekError.TheVariants.{ReadFault, NotIndex, NoMemory, PastEnd, Demo}
 use Rattle.q3_index.specs.declared.index.Checkpoint.{Checkpoint}
 use Rattle.q3_index.specs.Text.{spacing}
-use Rattle.q3_index.specs.Seeking.{start_at, seek_at, behind, bytes_between}
+use Rattle.q3_index.specs.Seeking.{start_at, seek_at, played_after, bytes_between}
 use Rattle.q3_index.specs.Running.{IndexState, Seeks, IsMade, PlaysSo}
 use Rattle.q3_index.specs.Laws.{SeekingIsPlaying, SeekingGoesOn}
 use Rattle.q3_index.specs.Steps.{play_one}
@@ -30,7 +30,7 @@ same_start e = cc
 not_both : {e : SeekError} {x : Played} → (let left : Result Played SeekError = Err e in left ≡ Ok x) → ⊥
 not_both e = absurd cc
 
--- a record stands in front of the place behind it
+-- a record stands in front of the place after it
 place_rises : (demo : List ℕ) (was : Played) (stepped : Stepped) → step demo was ≡ Ok (Some stepped) → was.at ≤ stepped.played.at
 place_rises demo was stepped is =
     let played = was_played demo was stepped is in
@@ -183,7 +183,7 @@ play_costs whole profile state demo number before mid now first same within asks
 
 -- ---- in an index that was made of the demo
 
--- no more than the records have behind the last 256th
+-- no more than the records have after the last 256th
 abbrev pub SeekIsCheap : Bool → Profile → IndexState → ℕ → Option Told → Option Told → Type 0
 SeekIsCheap whole profile state number before now =
     IsTrue whole → state.demo ≢ state.index → (told : Told) → before ≡ Some told → IsMade profile state (contents_at told state.demo) (contents_at told state.index)
@@ -198,8 +198,8 @@ pub made_is_cheap : SeekingGoesOn → (whole : Bool) (profile : Profile) (state 
 made_is_cheap goes whole profile state number before now costs = λ reads apart told is made some.
     let demo : List ℕ = contents_at told state.demo in
     let index : List ℕ = contents_at told state.index in
-    let first : Played = behind profile demo (spacing * (number / spacing)) in
-    let last : Played = behind profile demo number in
+    let first : Played = played_after profile demo (spacing * (number / spacing)) in
+    let last : Played = played_after profile demo number in
     let so = goes made.version profile demo index made.heads number made.tells made.codec made.ring made.mark made.long made.made made.opens some in
     let starts : start_at profile index state.checkpoints number ≡ Ok first = ap (λ (s : IndexState). start_at profile index s.checkpoints number) made.is ∙ so.0 in
     let ends : seek_at profile demo index state.records state.checkpoints number ≡ Ok last = ap (λ (s : IndexState). seek_at profile demo index s.records s.checkpoints number) made.is ∙ so.1 in

@@ -21,7 +21,7 @@ use Rattle.q3_index.proofs.Seeking.{told_later}
 
 -- ---- the next of all
 
--- behind the last record that may be played no more are
+-- after the last record that may be played no more are
 none_last : (now : Played) (found : Result Piece DemoError) (stepped : Stepped) → at_most_end now found ≡ Ok (Some stepped) → ⊥
 none_last now (Ok End) stepped is = cc
 none_last now (Ok (Message number size next)) stepped is = cc
@@ -60,7 +60,7 @@ pub bytes_there : (at : ℕ) (bytes : List ℕ) → drop at (bytes_at at bytes) 
 unfolding bytes_at
 bytes_there at bytes = drop_at (replicate at 0) bytes at (length-replicate at 0)
 
--- the next record was played so in every demo that has these bytes there, behind which no more than all are
+-- the next record was played so in every demo that has these bytes there, after which no more than all are
 abbrev pub PlaysAllSo : List ℕ → PlayerState → PlayerState → Result (Option Applied) DemoError → Type 0
 PlaysAllSo bytes was now result = (demo : List ℕ) → drop was.played.at demo ≡ bytes → PlaysOn (step_of_all demo was.played) was now result
 

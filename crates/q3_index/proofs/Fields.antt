@@ -4,7 +4,7 @@ use Rattle.std.specs.Prelude.{nat_lt, if◌then◌else◌}
 use Rattle.std.proofs.lemmas.Bool.{cond_both, ltb_from_iff}
 use Rattle.std.proofs.lemmas.List.{length-take, take-take, drop-take, drop-drop}
 use Rattle.q3_bits.specs.ResultBind.{◌>>=◌}
-use Rattle.q3_savestate.specs.Cursor.{Cursor, Field, behind, field_at}
+use Rattle.q3_savestate.specs.Cursor.{Cursor, Field, cursor_after, field_at}
 use Rattle.q3_index.specs.Steps.{from_place, value_of}
 
 -- ---- a front of bytes
@@ -60,7 +60,7 @@ then_value j part (Err at) f first next = rw first.same refl
 
 -- ---- places
 
--- what is behind what was read stands at this place
+-- what follows what was read stands at this place
 pub record LeadsTo {X : Type 0} (bytes : List ℕ) (at : ℕ) (r : Field X) : Type 0 where
   pub found : (x : X) (cursor : Cursor) → r ≡ Ok (x, cursor) → cursor ≡ from_place bytes at
 
@@ -75,10 +75,10 @@ pub field_leads : {X : Type 0} (bytes : List ℕ) (at count next : ℕ) → at +
 field_leads {X = X} bytes at count next is value rule =
     let left : List ℕ = drop at bytes in
     let none : LeadsTo {X = X} bytes next (Err at) = record { found = λ y cursor same. absurd cc } in
-    let there : behind count (from_place bytes at) ≡ from_place bytes next =
+    let there : cursor_after count (from_place bytes at) ≡ from_place bytes next =
     ap (λ (rest : List ℕ). record { at = at + count; bytes = rest }) (drop-drop count at bytes) ∙ ap (from_place bytes) is in
-    cond_both (nat_lt (length left) count) (Err at) (if rule (value (take count left)) then Ok (value (take count left), behind count (from_place bytes at)) else Err at) (LeadsTo bytes next) (λ short. none)
-    (λ long. cond_both (rule (value (take count left))) (Ok (value (take count left), behind count (from_place bytes at))) (Err at) (LeadsTo bytes next)
+    cond_both (nat_lt (length left) count) (Err at) (if rule (value (take count left)) then Ok (value (take count left), cursor_after count (from_place bytes at)) else Err at) (LeadsTo bytes next) (λ short. none)
+    (λ long. cond_both (rule (value (take count left))) (Ok (value (take count left), cursor_after count (from_place bytes at))) (Err at) (LeadsTo bytes next)
     (λ right. rw there (ok_leads bytes next (value (take count left)))) (λ wrong. none))
 
 pub then_leads : {X Y : Type 0} (bytes : List ℕ) (at next : ℕ) (r : Field X) (f : X × Cursor → Field Y) → LeadsTo bytes at r → ((x : X) → LeadsTo bytes next (f (x, from_place bytes at)))

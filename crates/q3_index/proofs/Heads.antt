@@ -5,13 +5,13 @@ use Rattle.std.proofs.lemmas.Bool.{cond_both, and_parts, leb-true}
 use Rattle.std.proofs.lemmas.List.{length-drop, drop-drop}
 use Rattle.byteorder.specs.Endian.{little_number}
 use Rattle.q3_bits.specs.ResultBind.{◌>>=◌, bind_ok, bind_is}
-use Rattle.q3_savestate.specs.Cursor.{Cursor, Field, behind, field_at, number_at}
+use Rattle.q3_savestate.specs.Cursor.{Cursor, Field, cursor_after, field_at, number_at}
 use Rattle.q3_index.specs.declared.index.Checkpoint.{Checkpoint}
 use Rattle.q3_index.specs.declared.opening.Head.{Head}
 use Rattle.q3_index.specs.declared.opening.Version.{Version}
 use Rattle.q3_index.specs.declared.opening.Version.TheVariants.{First, Second}
 use Rattle.q3_index.specs.Text.{spacing}
-use Rattle.q3_index.specs.Opening.{version_at, head_behind, head_at}
+use Rattle.q3_index.specs.Opening.{version_at, head_after, head_at}
 use Rattle.q3_index.specs.Steps.{from_place, value_of, head_size, numbers_at, checkpoint_at, read_to}
 use Rattle.q3_index.proofs.Fields.{IsFront, ok_front, field_front, then_front, front_value, then_value, LeadsTo, ok_leads, field_leads, then_leads, refused_on}
 
@@ -22,9 +22,9 @@ version_front : (at : ℕ) (bytes : List ℕ) → IsFront 25 (version_at (record
 unfolding version_at
 version_front at bytes = search (then_front {X = List ℕ} {Y = Version} 25, ok_front, field_front {X = List ℕ} 8 33 25 refl) depth 10
 
--- behind that, where a byte is left in the first version
-first_front : (at : ℕ) (bytes : List ℕ) → IsFront 1 (head_behind First (record { at = at; bytes = take 25 bytes })) (head_behind First (record { at = at; bytes = bytes }))
-unfolding head_behind
+-- after that, where a byte is left in the first version
+first_front : (at : ℕ) (bytes : List ℕ) → IsFront 1 (head_after First (record { at = at; bytes = take 25 bytes })) (head_after First (record { at = at; bytes = bytes }))
+unfolding head_after
 first_front at bytes =
     search (
       then_front {X = ℕ} {Y = Head} 17,
@@ -38,8 +38,8 @@ first_front at bytes =
       field_front {X = ℕ} 4 5 1 refl,
     ) depth 10
 
-second_front : (at : ℕ) (bytes : List ℕ) → IsFront 0 (head_behind Second (record { at = at; bytes = take 25 bytes })) (head_behind Second (record { at = at; bytes = bytes }))
-unfolding head_behind
+second_front : (at : ℕ) (bytes : List ℕ) → IsFront 0 (head_after Second (record { at = at; bytes = take 25 bytes })) (head_after Second (record { at = at; bytes = bytes }))
+unfolding head_after
 second_front at bytes =
     search (
       then_front {X = ℕ} {Y = Head} 17,
@@ -55,17 +55,17 @@ second_front at bytes =
       field_front {X = ℕ} 4 4 0 refl,
     ) depth 10
 
-behind_front : (version : Version) (at : ℕ) (bytes : List ℕ)
-    → value_of (head_behind version (record { at = at; bytes = take 25 bytes })) ≡ value_of (head_behind version (record { at = at; bytes = bytes }))
-behind_front First at bytes = front_value 1 (head_behind First (record { at = at; bytes = take 25 bytes })) (head_behind First (record { at = at; bytes = bytes })) (first_front at bytes)
-behind_front Second at bytes = front_value 0 (head_behind Second (record { at = at; bytes = take 25 bytes })) (head_behind Second (record { at = at; bytes = bytes })) (second_front at bytes)
+after_front : (version : Version) (at : ℕ) (bytes : List ℕ)
+    → value_of (head_after version (record { at = at; bytes = take 25 bytes })) ≡ value_of (head_after version (record { at = at; bytes = bytes }))
+after_front First at bytes = front_value 1 (head_after First (record { at = at; bytes = take 25 bytes })) (head_after First (record { at = at; bytes = bytes })) (first_front at bytes)
+after_front Second at bytes = front_value 0 (head_after Second (record { at = at; bytes = take 25 bytes })) (head_after Second (record { at = at; bytes = bytes })) (second_front at bytes)
 
 head_front : (at : ℕ) (bytes : List ℕ) → value_of (head_at (record { at = at; bytes = take 33 bytes })) ≡ value_of (head_at (record { at = at; bytes = bytes }))
 unfolding head_at
 head_front at bytes =
-    then_value 25 (version_at (record { at = at; bytes = take 33 bytes })) (version_at (record { at = at; bytes = bytes })) (λ version. head_behind version.0 version.1) (version_front at bytes) behind_front
+    then_value 25 (version_at (record { at = at; bytes = take 33 bytes })) (version_at (record { at = at; bytes = bytes })) (λ version. head_after version.0 version.1) (version_front at bytes) after_front
 
--- the checkpoints stand behind as many bytes as its version's head has
+-- the checkpoints stand after as many bytes as its version's head has
 record Follows (bytes : List ℕ) (r : Field Head) : Type 0 where
   found : (x : Head × Cursor) → r ≡ Ok x → x.1 ≡ from_place bytes (head_size x.0.version)
 
@@ -84,9 +84,9 @@ version_leads : (bytes : List ℕ) → LeadsTo bytes 8 (version_at (from_place b
 unfolding version_at
 version_leads bytes = search (then_leads {X = List ℕ} {Y = Version} bytes 8, ok_leads, field_leads {X = List ℕ} bytes 0 8 8 refl) depth 10
 
-behind_follows : (bytes : List ℕ) (version : Version) → Follows bytes (head_behind version (from_place bytes 8))
-unfolding head_behind
-behind_follows bytes First =
+after_follows : (bytes : List ℕ) (version : Version) → Follows bytes (head_after version (from_place bytes 8))
+unfolding head_after
+after_follows bytes First =
     search (
       then_follows {X = ℕ} bytes 16,
       then_follows {X = ℕ} bytes 24,
@@ -99,7 +99,7 @@ behind_follows bytes First =
       field_leads {X = ℕ} bytes 24 4 28 refl,
       field_leads {X = ℕ} bytes 28 4 32 refl,
     ) depth 10
-behind_follows bytes Second =
+after_follows bytes Second =
     search (
       then_follows {X = ℕ} bytes 16,
       then_follows {X = ℕ} bytes 24,
@@ -116,9 +116,9 @@ behind_follows bytes Second =
 
 head_follows : (bytes : List ℕ) → Follows bytes (head_at (from_place bytes 0))
 unfolding head_at
-head_follows bytes = then_follows bytes 8 (version_at (from_place bytes 0)) (λ version. head_behind version.0 version.1) (version_leads bytes) (behind_follows bytes)
+head_follows bytes = then_follows bytes 8 (version_at (from_place bytes 0)) (λ version. head_after version.0 version.1) (version_leads bytes) (after_follows bytes)
 
--- a head that was read, with what is behind it
+-- a head that was read, with what follows it
 follows_on : (bytes : List ℕ) (r : Field Head) (head : Head) → Follows bytes r → value_of r ≡ Ok head → r ≡ Ok (head, from_place bytes (head_size head.version))
 follows_on bytes (Ok x) head follows is =
     let one : x.0 ≡ head = cc in
@@ -141,7 +141,7 @@ head_refused bytes part place same is = refused_on (head_at (from_place bytes 0)
 -- a value that was read meets its rule
 field_rule : {X : Type 0} (count : ℕ) (value : List ℕ → X) (rule : X → Bool) (cursor : Cursor) (x : X × Cursor) → field_at count value rule cursor ≡ Ok x → rule x.0 ≡ true
 field_rule {X = X} count value rule cursor x =
-    let read : X × Cursor = (value (take count cursor.bytes), behind count cursor) in
+    let read : X × Cursor = (value (take count cursor.bytes), cursor_after count cursor) in
     cond_both (nat_lt (length cursor.bytes) count) (Err cursor.at) (if rule read.0 then Ok read else Err cursor.at) (λ (r : Field X). r ≡ Ok x → rule x.0 ≡ true) (λ short e. absurd cc)
     (λ long. cond_both (rule read.0) (Ok read) (Err cursor.at) (λ (r : Field X). r ≡ Ok x → rule x.0 ≡ true)
     (λ right e. let same : read ≡ x = cc in subst (λ (p : X × Cursor). rule p.0 ≡ true) same right) (λ wrong e. absurd cc))
@@ -170,7 +170,7 @@ last_counts version length mark width records cursor = record {
 }
 
 head_counts : (cursor : Cursor) → Counts (head_at cursor)
-unfolding head_at head_behind
+unfolding head_at head_after
 head_counts cursor = search (then_counts, last_counts) depth 10
 
 value_counts : (r : Field Head) (head : Head) → Counts r → Ok head ≡ value_of r → head.count ≡ head.records / spacing
@@ -212,7 +212,7 @@ field_in bytes count value rule cursor is = record {
       record { is = there ∙ ap (from_place bytes) (sym (ap (λ (c : Cursor). c.at) there)) };
 }
 
--- a checkpoint's state stands behind its numbers
+-- a checkpoint's state stands after its numbers
 record Stands (bytes : List ℕ) (r : Field Checkpoint) : Type 0 where
   found : (x : Checkpoint × Cursor) → r ≡ Ok x → x.1 ≡ from_place bytes x.0.state
 
@@ -250,7 +250,7 @@ numbers_found bytes part number least most at found same is =
     stands_on bytes (numbers_at number least most (from_place bytes at)) found (numbers_stand bytes number least most (from_place bytes at) (record { is = refl }))
     (numbers_value bytes part number least most at (Ok found) same is)
 
--- as many bytes as its state has are behind them
+-- as many bytes as its state has follow them
 with_state : Checkpoint × Cursor → Field Checkpoint
 with_state checkpoint = field_at checkpoint.0.length (λ (bytes : List ℕ). bytes) (λ bytes. true) checkpoint.1 >>= λ state. Ok (checkpoint.0, state.1)
 

@@ -14,7 +14,7 @@ use Rattle.q3_index.specs.declared.opening.Head.{Head}
 use Rattle.q3_index.specs.declared.opening.Version.{Version}
 use Rattle.q3_index.specs.declared.opening.Version.TheVariants.{First, Second}
 use Rattle.q3_index.specs.Text.{spacing, magic, width_bytes, Tells, head_bytes, state_of, checkpoint_bytes}
-use Rattle.q3_index.specs.Opening.{checkpoints_at, is_magic, version_at, head_behind, head_at, checkpoints_of, heads_at}
+use Rattle.q3_index.specs.Opening.{checkpoints_at, is_magic, version_at, head_after, head_at, checkpoints_of, heads_at}
 use Rattle.q3_index.specs.Steps.{head_size}
 use Rattle.q3_index.proofs.Points.{ArePoints}
 
@@ -30,7 +30,7 @@ places_of profile at (played ∷ others) =
 abbrev front_bytes : Profile → Played → List ℕ
 front_bytes profile played = little_bytes 4 played.records ++ (little_bytes 8 played.at ++ little_bytes 4 (length (state_of profile played)))
 
--- its bytes, and others behind them
+-- its bytes, and others after them
 split : (profile : Profile) (played : Played) (rest : List ℕ) → checkpoint_bytes profile played ++ rest ≡ front_bytes profile played ++ (state_of profile played ++ rest)
 split profile played rest = ap (λ state. front_bytes profile played ++ (state ++ rest)) (append-nil (state_of profile played))
 
@@ -50,9 +50,9 @@ one_back number least most place at end count state left rest others fits above 
     let later : List ℕ = little_bytes 4 (length state) ++ last in
     let Read : Type 0 = Result (List Checkpoint × Cursor) ℕ in
     let on : ℕ → List Checkpoint × Cursor → Read = λ at others. Ok (record { place = place; state = at; length = length state } ∷ others.0, others.1) in
-    let behind : ℕ → Read = λ at. checkpoints_at count (number + spacing) (place + 1) most (record { at = at + length state; bytes = left }) >>= on at in
-    let goes_on : behind (at + 4 + 8 + 4) ≡ Ok (record { place = place; state = at + 16; length = length state } ∷ others, record { at = end; bytes = rest }) =
-    sym (ap behind there) ∙ bind_is _ (on (at + 16)) (others, record { at = end; bytes = rest }) _ more refl in
+    let after : ℕ → Read = λ at. checkpoints_at count (number + spacing) (place + 1) most (record { at = at + length state; bytes = left }) >>= on at in
+    let goes_on : after (at + 4 + 8 + 4) ≡ Ok (record { place = place; state = at + 16; length = length state } ∷ others, record { at = end; bytes = rest }) =
+    sym (ap after there) ∙ bind_is _ (on (at + 16)) (others, record { at = end; bytes = rest }) _ more refl in
     bind_is _ _ (number, record { at = at + 4; bytes = little_bytes 8 place ++ later }) _ (number_back 4 number number number at (little_bytes 8 place ++ later) (omega arith) (omega arith) (omega arith))
     (bind_is _ _ (place, record { at = at + 4 + 8; bytes = later }) _ (number_back 8 least most place (at + 4) later (omega arith) above below)
     (bind_is _ _ (length state, record { at = at + 4 + 8 + 4; bytes = last }) _ (number_back 4 0 4294967295 (length state) (at + 4 + 8) last (omega arith) (omega arith) (omega arith))
@@ -89,12 +89,12 @@ unfolding version_at
 version_back First rest = bind_is _ _ (magic First, record { at = 8; bytes = rest }) _ (field_back 8 (λ found. found) is_magic (magic First) (magic First) rest 0 refl refl refl) refl
 version_back Second rest = bind_is _ _ (magic Second, record { at = 8; bytes = rest }) _ (field_back 8 (λ found. found) is_magic (magic Second) (magic Second) rest 0 refl refl refl) refl
 
--- and what is behind that
-behind_back : (version : Version) (length mark width records : ℕ) (text : List ℕ) → Tells version width → HasNumberBits width → length < 2 ^ 64 → mark < 2 ^ 64 → records < 2 ^ 32
-    → head_behind version (record { at = 8; bytes = little_bytes 8 length ++ (little_bytes 8 mark ++ (width_bytes version width ++ (little_bytes 4 records ++ (little_bytes 4 (records / spacing) ++ text)))) })
+-- and what follows that
+rest_back : (version : Version) (length mark width records : ℕ) (text : List ℕ) → Tells version width → HasNumberBits width → length < 2 ^ 64 → mark < 2 ^ 64 → records < 2 ^ 32
+    → head_after version (record { at = 8; bytes = little_bytes 8 length ++ (little_bytes 8 mark ++ (width_bytes version width ++ (little_bytes 4 records ++ (little_bytes 4 (records / spacing) ++ text)))) })
     ≡ Ok (record { version = version; length = length; mark = mark; width = width; records = records; count = records / spacing }, record { at = head_size version; bytes = text })
-unfolding head_behind
-behind_back First length mark width records text tells fits long marked few =
+unfolding head_after
+rest_back First length mark width records text tells fits long marked few =
     let count : ℕ = records / spacing in
     let fourth : List ℕ = little_bytes 4 count ++ text in
     let third : List ℕ = little_bytes 4 records ++ fourth in
@@ -104,7 +104,7 @@ behind_back First length mark width records text tells fits long marked few =
     (bind_is _ _ (records, record { at = 28; bytes = fourth }) _ (number_back 4 0 4294967295 records 24 fourth (omega arith) (omega arith) (omega arith))
     (bind_is _ _ (count, record { at = 32; bytes = text }) _ (number_back 4 count count count 28 text (omega arith) (omega arith) (omega arith))
     (ap (λ (width : ℕ). Ok (record { version = First; length = length; mark = mark; width = width; records = records; count = count }, record { at = 32; bytes = text })) (sym tells)))))
-behind_back Second length mark width records text tells fits long marked few =
+rest_back Second length mark width records text tells fits long marked few =
     let count : ℕ = records / spacing in
     let fifth : List ℕ = little_bytes 4 count ++ text in
     let fourth : List ℕ = little_bytes 4 records ++ fifth in
@@ -123,12 +123,12 @@ head_back : (version : Version) (length mark width records : ℕ) (text : List �
 unfolding head_at
 head_back First length mark width records text tells fits long marked few =
     let rest : List ℕ = little_bytes 8 length ++ (little_bytes 8 mark ++ (little_bytes 4 records ++ (little_bytes 4 (records / spacing) ++ text))) in
-    bind_is _ _ (First, record { at = 8; bytes = rest }) _ (version_back First rest) (behind_back First length mark width records text tells fits long marked few)
+    bind_is _ _ (First, record { at = 8; bytes = rest }) _ (version_back First rest) (rest_back First length mark width records text tells fits long marked few)
 head_back Second length mark width records text tells fits long marked few =
     let rest : List ℕ = little_bytes 8 length ++ (little_bytes 8 mark ++ (little_bytes 1 width ++ (little_bytes 4 records ++ (little_bytes 4 (records / spacing) ++ text)))) in
-    bind_is _ _ (Second, record { at = 8; bytes = rest }) _ (version_back Second rest) (behind_back Second length mark width records text tells fits long marked few)
+    bind_is _ _ (Second, record { at = 8; bytes = rest }) _ (version_back Second rest) (rest_back Second length mark width records text tells fits long marked few)
 
--- and behind it the heads of the checkpoints
+-- and after it the heads of the checkpoints
 pub heads_back : (version : Version) (length mark width records end : ℕ) (text : List ℕ) (checkpoints : List Checkpoint) → Tells version width → HasNumberBits width → length < 2 ^ 64 → mark < 2 ^ 64
     → records < 2 ^ 32 → checkpoints_at (records / spacing) spacing 0 length (record { at = head_size version; bytes = text }) ≡ Ok (checkpoints, record { at = end; bytes = [] })
     → heads_at (head_bytes version length mark width records ++ text) ≡ Ok (record { length = length; mark = mark; width = width; records = records; checkpoints = checkpoints })

@@ -31,66 +31,66 @@ before_others : {X Y Z W : Type 0} (r : Field X) (f : X × Cursor → Field Y) (
 before_others (Ok x) f g h whole same = same x
 before_others (Err at) f g h whole same = refl
 
--- those behind others
-abbrev behind_others : List Checkpoint → Field (List Checkpoint) → Field (List Checkpoint)
-behind_others front (Ok x) = Ok (front ++ x.0, x.1)
-behind_others front (Err at) = Err at
+-- those after others
+abbrev after_others : List Checkpoint → Field (List Checkpoint) → Field (List Checkpoint)
+after_others front (Ok x) = Ok (front ++ x.0, x.1)
+after_others front (Err at) = Err at
 
-others_behind : ℕ → ℕ → ℕ → Checkpoint × Cursor → Field (List Checkpoint)
-others_behind left number most found = checkpoints_at left (number + spacing) (found.0.place + 1) most found.1 >>= λ others. Ok (found.0 ∷ others.0, others.1)
+others_after : ℕ → ℕ → ℕ → Checkpoint × Cursor → Field (List Checkpoint)
+others_after left number most found = checkpoints_at left (number + spacing) (found.0.place + 1) most found.1 >>= λ others. Ok (found.0 ∷ others.0, others.1)
 
-one_then : (left number least most : ℕ) (cursor : Cursor) → checkpoints_at (suc left) number least most cursor ≡ (checkpoint_at number least most cursor >>= others_behind left number most)
-unfolding checkpoints_at checkpoint_at numbers_at others_behind
+one_then : (left number least most : ℕ) (cursor : Cursor) → checkpoints_at (suc left) number least most cursor ≡ (checkpoint_at number least most cursor >>= others_after left number most)
+unfolding checkpoints_at checkpoint_at numbers_at others_after
 one_then left number least most cursor =
     let ended : Checkpoint → Cursor → Field (List Checkpoint) =
     λ found next. checkpoints_at left (number + spacing) (found.place + 1) most next >>= λ others. Ok (found ∷ others.0, others.1) in
-    let behind_state : Checkpoint → Cursor → Field (List Checkpoint) = λ found next. field_at found.length (λ (bytes : List ℕ). bytes) (λ bytes. true) next >>= λ state. ended found state.1 in
+    let after_state : Checkpoint → Cursor → Field (List Checkpoint) = λ found next. field_at found.length (λ (bytes : List ℕ). bytes) (λ bytes. true) next >>= λ state. ended found state.1 in
     let with_state : Checkpoint × Cursor → Field Checkpoint = λ found. field_at found.0.length (λ (bytes : List ℕ). bytes) (λ bytes. true) found.1 >>= λ state. Ok (found.0, state.1) in
     let last : ℕ → ℕ × Cursor → Field Checkpoint = λ place length. Ok (record { place = place; state = length.1.at; length = length.0 }, length.1) in
-    let all_last : ℕ → ℕ × Cursor → Field (List Checkpoint) = λ place length. behind_state (record { place = place; state = length.1.at; length = length.0 }) length.1 in
+    let all_last : ℕ → ℕ × Cursor → Field (List Checkpoint) = λ place length. after_state (record { place = place; state = length.1.at; length = length.0 }) length.1 in
     let second : ℕ × Cursor → Field Checkpoint = λ place. number_at 4 0 4294967295 place.1 >>= last place.0 in
     let all_second : ℕ × Cursor → Field (List Checkpoint) = λ place. number_at 4 0 4294967295 place.1 >>= all_last place.0 in
     let first : ℕ × Cursor → Field Checkpoint = λ record_number. number_at 8 least most record_number.1 >>= second in
     let all_first : ℕ × Cursor → Field (List Checkpoint) = λ record_number. number_at 8 least most record_number.1 >>= all_second in
-    sym (before_others (number_at 4 number number cursor) first with_state (others_behind left number most) all_first
-    (λ record_number. before_others (number_at 8 least most record_number.1) second with_state (others_behind left number most) all_second
-    (λ place. before_others (number_at 4 0 4294967295 place.1) (last place.0) with_state (others_behind left number most) (all_last place.0)
+    sym (before_others (number_at 4 number number cursor) first with_state (others_after left number most) all_first
+    (λ record_number. before_others (number_at 8 least most record_number.1) second with_state (others_after left number most) all_second
+    (λ place. before_others (number_at 4 0 4294967295 place.1) (last place.0) with_state (others_after left number most) (all_last place.0)
     (λ length. bind_assoc (field_at length.0 (λ (bytes : List ℕ). bytes) (λ bytes. true) length.1) (λ state. Ok (record { place = place.0; state = length.1.at; length = length.0 }, state.1))
-    (others_behind left number most)))))
+    (others_after left number most)))))
 
-one_behind : (found : Checkpoint) (r : Field (List Checkpoint)) → (r >>= λ others. Ok (found ∷ others.0, others.1)) ≡ behind_others (found ∷ []) r
-one_behind found (Ok x) = refl
-one_behind found (Err at) = refl
+one_further : (found : Checkpoint) (r : Field (List Checkpoint)) → (r >>= λ others. Ok (found ∷ others.0, others.1)) ≡ after_others (found ∷ []) r
+one_further found (Ok x) = refl
+one_further found (Err at) = refl
 
-behind_both : (front : List Checkpoint) (found : Checkpoint) (r : Field (List Checkpoint)) → behind_others front (behind_others (found ∷ []) r) ≡ behind_others (front ++ found ∷ []) r
-behind_both front found (Ok x) = ap (λ (xs : List Checkpoint). Ok (xs, x.1)) (sym (append_assoc front (found ∷ []) x.0))
-behind_both front found (Err at) = refl
+both_after : (front : List Checkpoint) (found : Checkpoint) (r : Field (List Checkpoint)) → after_others front (after_others (found ∷ []) r) ≡ after_others (front ++ found ∷ []) r
+both_after front found (Ok x) = ap (λ (xs : List Checkpoint). Ok (xs, x.1)) (sym (append_assoc front (found ∷ []) x.0))
+both_after front found (Err at) = refl
 
-behind_none : (r : Field (List Checkpoint)) → behind_others [] r ≡ r
-behind_none (Ok x) = refl
-behind_none (Err at) = refl
+after_none : (r : Field (List Checkpoint)) → after_others [] r ≡ r
+after_none (Ok x) = refl
+after_none (Err at) = refl
 
 -- ---- as far as they were read
 
 -- so many were found, and the others are there where the bytes from this place on have them
 pub record FoundSo (bytes : List ℕ) (head : Head) (count : ℕ) (found : List Checkpoint) (least at : ℕ) : Type 0 where
   pub all : checkpoints_at head.count spacing 0 head.length (from_place bytes (head_size head.version))
-      ≡ behind_others found (checkpoints_at (head.count - count) ((count + 1) * spacing) least head.length (from_place bytes at))
+      ≡ after_others found (checkpoints_at (head.count - count) ((count + 1) * spacing) least head.length (from_place bytes at))
 
 pub found_none : (bytes : List ℕ) (head : Head) → FoundSo bytes head 0 [] 0 (head_size head.version)
 found_none bytes head =
     let same : head.count - 0 ≡ head.count = omega arith in
-    record { all = rw same (sym (behind_none (checkpoints_at head.count spacing 0 head.length (from_place bytes (head_size head.version))))) }
+    record { all = rw same (sym (after_none (checkpoints_at head.count spacing 0 head.length (from_place bytes (head_size head.version))))) }
 
 more_found : (bytes : List ℕ) (left number least most at : ℕ) (found : Checkpoint) → checkpoint_at number least most (from_place bytes at) ≡ Ok (read_to bytes found)
     → checkpoints_at (suc left) number least most (from_place bytes at)
-    ≡ behind_others (found ∷ []) (checkpoints_at left (number + spacing) (found.place + 1) most (from_place bytes (found.state + found.length)))
-unfolding others_behind
+    ≡ after_others (found ∷ []) (checkpoints_at left (number + spacing) (found.place + 1) most (from_place bytes (found.state + found.length)))
+unfolding others_after
 more_found bytes left number least most at found is =
     one_then left number least most (from_place bytes at)
-    ∙ bind_is (checkpoint_at number least most (from_place bytes at)) (others_behind left number most) (read_to bytes found)
-    (behind_others (found ∷ []) (checkpoints_at left (number + spacing) (found.place + 1) most (from_place bytes (found.state + found.length)))) is
-    (one_behind found (checkpoints_at left (number + spacing) (found.place + 1) most (from_place bytes (found.state + found.length))))
+    ∙ bind_is (checkpoint_at number least most (from_place bytes at)) (others_after left number most) (read_to bytes found)
+    (after_others (found ∷ []) (checkpoints_at left (number + spacing) (found.place + 1) most (from_place bytes (found.state + found.length)))) is
+    (one_further found (checkpoints_at left (number + spacing) (found.place + 1) most (from_place bytes (found.state + found.length))))
 
 pub found_more : (bytes : List ℕ) (head : Head) (count : ℕ) (found : List Checkpoint) (least at : ℕ) (one : Checkpoint) (number next : ℕ) → FoundSo bytes head count found least at → count < head.count
     → number ≡ (count + 1) * spacing → next ≡ one.place + 1 → checkpoint_at number least head.length (from_place bytes at) ≡ Ok (read_to bytes one)
@@ -99,15 +99,15 @@ found_more bytes head count found least at one number next so less number_is nex
     let left : ℕ = head.count - (count + 1) in
     let more : head.count - count ≡ suc left = omega arith in
     let last : ℕ = one.state + one.length in
-    let behind : (count + 1) * spacing + spacing ≡ (count + 1 + 1) * spacing = omega arith in
+    let after : (count + 1) * spacing + spacing ≡ (count + 1 + 1) * spacing = omega arith in
     let here : checkpoint_at ((count + 1) * spacing) least head.length (from_place bytes at) ≡ Ok (read_to bytes one) =
     ap (λ (n : ℕ). checkpoint_at n least head.length (from_place bytes at)) (sym number_is) ∙ is in
     record {
-      all = so.all ∙ ap (λ (n : ℕ). behind_others found (checkpoints_at n ((count + 1) * spacing) least head.length (from_place bytes at))) more
-          ∙ ap (behind_others found) (more_found bytes left ((count + 1) * spacing) least head.length at one here)
-          ∙ behind_both found one (checkpoints_at left ((count + 1) * spacing + spacing) (one.place + 1) head.length (from_place bytes last))
-          ∙ ap (λ (n : ℕ). behind_others (found ++ one ∷ []) (checkpoints_at left n (one.place + 1) head.length (from_place bytes last))) behind
-          ∙ ap (λ (n : ℕ). behind_others (found ++ one ∷ []) (checkpoints_at left ((count + 1 + 1) * spacing) n head.length (from_place bytes last))) (sym next_is);
+      all = so.all ∙ ap (λ (n : ℕ). after_others found (checkpoints_at n ((count + 1) * spacing) least head.length (from_place bytes at))) more
+          ∙ ap (after_others found) (more_found bytes left ((count + 1) * spacing) least head.length at one here)
+          ∙ both_after found one (checkpoints_at left ((count + 1) * spacing + spacing) (one.place + 1) head.length (from_place bytes last))
+          ∙ ap (λ (n : ℕ). after_others (found ++ one ∷ []) (checkpoints_at left n (one.place + 1) head.length (from_place bytes last))) after
+          ∙ ap (λ (n : ℕ). after_others (found ++ one ∷ []) (checkpoints_at left ((count + 1 + 1) * spacing) n head.length (from_place bytes last))) (sym next_is);
     }
 
 -- what follows them
@@ -127,9 +127,9 @@ found_wrong bytes head count found least at number place so less number_is is =
     let here : checkpoint_at ((count + 1) * spacing) least head.length (from_place bytes at) ≡ Err place =
     ap (λ (n : ℕ). checkpoint_at n least head.length (from_place bytes at)) (sym number_is) ∙ is in
     of_is head (from_place bytes (head_size head.version)) ∙ ap ended so.all
-    ∙ ap (λ (n : ℕ). ended (behind_others found (checkpoints_at n ((count + 1) * spacing) least head.length (from_place bytes at)))) more
-    ∙ ap (λ (r : Field (List Checkpoint)). ended (behind_others found r)) (one_then left ((count + 1) * spacing) least head.length (from_place bytes at))
-    ∙ ap (λ (r : Field Checkpoint). ended (behind_others found (r >>= others_behind left ((count + 1) * spacing) head.length))) here
+    ∙ ap (λ (n : ℕ). ended (after_others found (checkpoints_at n ((count + 1) * spacing) least head.length (from_place bytes at)))) more
+    ∙ ap (λ (r : Field (List Checkpoint)). ended (after_others found r)) (one_then left ((count + 1) * spacing) least head.length (from_place bytes at))
+    ∙ ap (λ (r : Field Checkpoint). ended (after_others found (r >>= others_after left ((count + 1) * spacing) head.length))) here
 
 -- all of them
 none_left : (number least most : ℕ) (cursor : Cursor) → checkpoints_at 0 number least most cursor ≡ Ok ([], cursor)
@@ -141,8 +141,8 @@ all_found : (bytes : List ℕ) (head : Head) (count : ℕ) (found : List Checkpo
 all_found bytes head count found least at so all =
     let none : head.count - count ≡ 0 = omega arith in
     of_is head (from_place bytes (head_size head.version)) ∙ ap ended so.all
-    ∙ ap (λ (n : ℕ). ended (behind_others found (checkpoints_at n ((count + 1) * spacing) least head.length (from_place bytes at)))) none
-    ∙ ap (λ (r : Field (List Checkpoint)). ended (behind_others found r)) (none_left ((count + 1) * spacing) least head.length (from_place bytes at))
+    ∙ ap (λ (n : ℕ). ended (after_others found (checkpoints_at n ((count + 1) * spacing) least head.length (from_place bytes at)))) none
+    ∙ ap (λ (r : Field (List Checkpoint)). ended (after_others found r)) (none_left ((count + 1) * spacing) least head.length (from_place bytes at))
     ∙ ap (λ (xs : List Checkpoint). ended (Ok (xs, from_place bytes at))) (append-nil found)
 
 pub found_all : (bytes : List ℕ) (head : Head) (count : ℕ) (found : List Checkpoint) (least at : ℕ) → FoundSo bytes head count found least at → head.count ≤ count → length bytes ≤ at
@@ -177,12 +177,12 @@ ReadsOne mid index end number least most at result =
     (told : Told) → mid ≡ Some told → end ≡ length (contents_at told index)
     → Reads (read_to (contents_at told index)) (checkpoint_at number least most (from_place (contents_at told index) at)) result
 
-pub reads_found : (before mid : Option Told) (index end : ℕ) (head : Head) (count : ℕ) (found : List Checkpoint) (least at : ℕ) (one : Checkpoint) (number : ℕ) (next : Option ℕ) (behind : ℕ) → OnlyAsks before mid
-    → AreFound before index end head count found least at → count < head.count → number ≡ (count + 1) * spacing → SomeIff next (one.place + 1 < 2 ^ 64) (one.place + 1) → one.place < 2 ^ 64 → behind ≡ one.state + one.length
-    → ReadsOne mid index end number least head.length at (Ok one) → AreFound before index end head (count + 1) (found ++ one ∷ []) (least_of next) behind
-reads_found before mid index end head count found least at one number next behind asks so less number_is some placed behind_is reads told is whole =
+pub reads_found : (before mid : Option Told) (index end : ℕ) (head : Head) (count : ℕ) (found : List Checkpoint) (least at : ℕ) (one : Checkpoint) (number : ℕ) (next : Option ℕ) (after : ℕ) → OnlyAsks before mid
+    → AreFound before index end head count found least at → count < head.count → number ≡ (count + 1) * spacing → SomeIff next (one.place + 1 < 2 ^ 64) (one.place + 1) → one.place < 2 ^ 64 → after ≡ one.state + one.length
+    → ReadsOne mid index end number least head.length at (Ok one) → AreFound before index end head (count + 1) (found ++ one ∷ []) (least_of next) after
+reads_found before mid index end head count found least at one number next after asks so less number_is some placed rest_is reads told is whole =
     let later = told_later before mid told asks is in
-    rw behind_is
+    rw rest_is
     (found_more (contents_at told index) head count found least at one number (least_of next) (so told is whole) less number_is (next_least one.place next some placed)
     (reads (record told { asked = later.0 }) later.1 whole))
 

@@ -28,7 +28,7 @@ heads_is : (bytes : List ℕ) → heads_at bytes ≡ (head_at (from_place bytes 
 unfolding heads_at with_checkpoints heads_of
 heads_is bytes = refl
 
--- the head is refused, or the checkpoints behind it are, or both are found
+-- the head is refused, or the checkpoints after it are, or both are found
 head_wrong : (bytes : List ℕ) (place : ℕ) → head_at (from_place bytes 0) ≡ Err place → heads_at bytes ≡ Err place
 head_wrong bytes place is = heads_is bytes ∙ ap (λ (r : Field Head). r >>= with_checkpoints) is
 
@@ -127,10 +127,10 @@ pub no_list : {Y : Type 0} (value : Y → List Checkpoint) (before mid now later
     → Measures mid now index (Ok end) → ReadsHead now index end (Ok head) → OnlyAsks now later → ReadsList value later index end head (Err e) → OpensAs before mark width demo index (Err e)
 no_list value before mid now later mark width demo index size end head e first second reads asks list told is =
     let here = sizes before mid now demo index size end first second told is in
-    let behind = told_later now later told asks here.same in
+    let after = told_later now later told asks here.same in
     let bytes : List ℕ = contents_at told index in
     opens_wrong value (checkpoints_of head (from_place bytes (head_size head.version))) demo index (length (contents_at told demo)) mark width bytes e
-    (λ place stops. list_wrong bytes head place (reads told here.same here.end_is) stops) (list (record told { asked = behind.0 }) behind.1 here.end_is)
+    (λ place stops. list_wrong bytes head place (reads told here.same here.end_is) stops) (list (record told { asked = after.0 }) after.1 here.end_is)
 
 -- both are read
 all_read : {Y : Type 0} (value : Y → List Checkpoint) (later : Option Told) (told now : Told) (index end : ℕ) (head : Head) (y : Y) → end ≡ length (contents_at told index)
@@ -152,8 +152,8 @@ are_matched : {Y : Type 0} (value : Y → List Checkpoint) (before mid now later
 are_matched value before mid now later mark width demo index size end head y first second reads asks list = record {
   is = λ told is.
       let here = sizes before mid now demo index size end first second told is in
-      let behind = told_later now later told asks here.same in
-      let heads = all_read value later told (record told { asked = behind.0 }) index end head y here.end_is refl behind.1 (reads told here.same here.end_is) list in
+      let after = told_later now later told asks here.same in
+      let heads = all_read value later told (record told { asked = after.0 }) index end head y here.end_is refl after.1 (reads told here.same here.end_is) list in
       rw (sym here.size_is) (open_as size mark width (contents_at told index) (heads_of head (value y)) heads);
 }
 

@@ -9,7 +9,7 @@ use Rattle.q3_fields.specs.declared.kind.Kind.{Kind}
 use Rattle.q3_fields.specs.Kinds.{Layout}
 use Rattle.q3_profile.specs.declared.profile.Profile.{Profile}
 use Rattle.q3_rings.specs.Rings.{HeldSnapshots}
-use Rattle.q3_savestate.specs.Cursor.{Cursor, Field, behind, field_at, number_at, end_at}
+use Rattle.q3_savestate.specs.Cursor.{Cursor, Field, cursor_after, field_at, number_at, end_at}
 use Rattle.q3_savestate.specs.Entities.{words_at, state_words_at, entity_at, entities_at, baselines_at}
 use Rattle.q3_savestate.specs.Texts.{strings_after, strings_at, some_pending_at, pending_at}
 use Rattle.q3_savestate.specs.Snapshots.{numbers_at, shorts_at, player_at, head_at, snapshot_at, snapshots_after, snapshots_at}
@@ -19,7 +19,7 @@ use Rattle.q3_savestate.specs.State.{start_at, flag_at, state_at}
 abbrev Ends : ℕ → Cursor → Type 0
 Ends end cursor = cursor.at + length cursor.bytes ≡ end
 
--- so do those behind what is read, and a place that is refused is within them
+-- so do those after what is read, and a place that is refused is within them
 record Stays {X : Type 0} (end : ℕ) (r : Field X) : Type 0 where
   found : (x : X × Cursor) → r ≡ Ok x → Ends end x.1
   refused : (at : ℕ) → r ≡ Err at → at ≤ end
@@ -38,11 +38,11 @@ err_stays end at within = record {
 
 field_stays : {X : Type 0} (end count : ℕ) (value : List ℕ → X) (rule : X → Bool) (cursor : Cursor) → Ends end cursor → Stays end (field_at count value rule cursor)
 field_stays {X = X} end count value rule cursor is =
-    let read : Field X = Ok (value (take count cursor.bytes), behind count cursor) in
+    let read : Field X = Ok (value (take count cursor.bytes), cursor_after count cursor) in
     let within : Stays {X = X} end (Err cursor.at) = err_stays end cursor.at (omega arith) in
     cond_both (nat_lt (length cursor.bytes) count) (Err cursor.at) (if rule (value (take count cursor.bytes)) then read else Err cursor.at) (Stays end) (λ short. within)
     (λ long. cond_both (rule (value (take count cursor.bytes))) read (Err cursor.at) (Stays end)
-    (λ right. ok_stays end (value (take count cursor.bytes)) (behind count cursor) (omega (arith, length-drop count cursor.bytes, ltb-false (length cursor.bytes) count long)))
+    (λ right. ok_stays end (value (take count cursor.bytes)) (cursor_after count cursor) (omega (arith, length-drop count cursor.bytes, ltb-false (length cursor.bytes) count long)))
     (λ wrong. within))
 
 then_stays : {X Y : Type 0} (end : ℕ) (r : Field X) (f : X × Cursor → Field Y) → Stays end r → ((x : X × Cursor) → Ends end x.1 → Stays end (f x)) → Stays end (r >>= f)
@@ -75,14 +75,14 @@ baselines_stay end table cursor is = search (then_stays, field_stays, ok_stays, 
 
 -- ---- strings
 
-strings_behind : (end count least : ℕ) (texts : List (List ℕ)) (cursor : Cursor) → Ends end cursor → Stays end (strings_after count least texts cursor)
+stays_strings : (end count least : ℕ) (texts : List (List ℕ)) (cursor : Cursor) → Ends end cursor → Stays end (strings_after count least texts cursor)
 unfolding strings_after
-strings_behind end zero least texts cursor is = ok_stays end texts cursor is
-strings_behind end (suc count) least texts cursor is = search (then_stays, field_stays, strings_behind end count) depth 10
+stays_strings end zero least texts cursor is = ok_stays end texts cursor is
+stays_strings end (suc count) least texts cursor is = search (then_stays, field_stays, stays_strings end count) depth 10
 
 strings_stay : (end : ℕ) (cursor : Cursor) → Ends end cursor → Stays end (strings_at cursor)
 unfolding strings_at
-strings_stay end cursor is = search (then_stays, field_stays, strings_behind)
+strings_stay end cursor is = search (then_stays, field_stays, stays_strings)
 
 some_stays : (end : ℕ) (cursor : Cursor) → Ends end cursor → Stays end (some_pending_at cursor)
 some_stays end cursor is = search (then_stays, field_stays, ok_stays) depth 10
@@ -116,15 +116,15 @@ snapshot_stays : (end : ℕ) (profile : Profile) (held : HeldSnapshots) (newest 
 unfolding snapshot_at
 snapshot_stays end profile held newest left most cursor is = search (then_stays, field_stays, ok_stays, head_stays, entities_stay) depth 10
 
-snapshots_behind : (end : ℕ) (profile : Profile) (newest left most : ℕ) (held : HeldSnapshots) (cursor : Cursor) → Ends end cursor
+stays_snapshots : (end : ℕ) (profile : Profile) (newest left most : ℕ) (held : HeldSnapshots) (cursor : Cursor) → Ends end cursor
     → Stays end (snapshots_after profile newest left most held cursor)
 unfolding snapshots_after
-snapshots_behind end profile newest zero most held cursor is = ok_stays end held cursor is
-snapshots_behind end profile newest (suc left) most held cursor is = search (then_stays, snapshot_stays, snapshots_behind end profile newest left)
+stays_snapshots end profile newest zero most held cursor is = ok_stays end held cursor is
+stays_snapshots end profile newest (suc left) most held cursor is = search (then_stays, snapshot_stays, stays_snapshots end profile newest left)
 
 snapshots_stay : (end : ℕ) (profile : Profile) (cursor : Cursor) → Ends end cursor → Stays end (snapshots_at profile cursor)
 unfolding snapshots_at
-snapshots_stay end profile cursor is = search (then_stays, field_stays, snapshots_behind)
+snapshots_stay end profile cursor is = search (then_stays, field_stays, stays_snapshots)
 
 -- ---- a state
 

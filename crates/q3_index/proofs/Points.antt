@@ -37,7 +37,7 @@ none_before (suc gap) demo played (stepped ∷ records) follow next short few =
     let one = counts demo played stepped follow.0 in
     passed records stepped (λ is. omega arith) ∙ none_before gap demo stepped.played records follow.1 (ap (λ n. (n + gap + 1) % 256) one ∙ omega arith) (omega arith) (omega arith)
 
--- and then it, and those behind it
+-- and then it, and those after it
 next_after : (gap : ℕ) (demo : List ℕ) (played : Played) (records : List Stepped) → Follow demo played records → (played.records + gap + 1) % 256 ≡ 0 → gap < 256 → gap < length records
     → checkpoints records ≡ last_of played (take (suc gap) records) ∷ checkpoints (drop (suc gap) records)
 unfolding last_of
@@ -61,7 +61,7 @@ pub length-points_of : (size left : ℕ) (played : Played) (records : List Stepp
 length-points_of size zero played records = refl
 length-points_of size (suc left) played records = ap suc (length-points_of size left (last_of played (take size records)) (drop size records))
 
--- each is behind so many records
+-- each stands after so many records
 pub point_at : (size left : ℕ) (played : Played) (records : List Stepped) (i : ℕ) → i < left
     → slice_get (points_of size left played records) i ≡ Some (last_of played (take (size * (i + 1)) records))
 point_at size zero played records i within = absurd (omega arith)
@@ -82,7 +82,7 @@ checkpoints_are stays within profile zero size demo played records wide follow s
 checkpoints_are stays within profile (suc left) size demo played records wide follow stands here few =
     let next : Played = last_of played (take size records) in
     let more = some_stand stays within profile demo played size records (omega arith) follow stands in
-    let behind = more.behind.records in
+    let after = more.after.records in
     let first : checkpoints records ≡ next ∷ checkpoints (drop size records) =
     subst (λ n. checkpoints records ≡ last_of played (take n records) ∷ checkpoints (drop n records)) (sym wide)
     (next_after 255 demo played records follow (omega arith) (omega arith) (omega arith)) in
@@ -91,7 +91,7 @@ checkpoints_are stays within profile (suc left) size demo played records wide fo
 
 -- ---- what an index says of them
 
--- one behind so many records, the place of the next of which is in a range
+-- one after so many records, the place of the next of which is in a range
 pub record IsPoint (profile : Profile) (number least most : ℕ) (played : Played) : Type 0 where
   pub records : played.records ≡ number
   pub fits : number < 2 ^ 32
@@ -99,12 +99,12 @@ pub record IsPoint (profile : Profile) (number least most : ℕ) (played : Playe
   pub below : played.at ≤ most
   pub short : length (state_of profile played) < 2 ^ 32
 
--- such ones, one behind the other
+-- such ones, one after the other
 abbrev pub ArePoints : Profile → ℕ → ℕ → ℕ → List Played → Type 0
 ArePoints profile number least most [] = Unit {0}
 ArePoints profile number least most (played ∷ others) = IsPoint profile number least most played × ArePoints profile (number + spacing) (played.at + 1) most others
 
--- what stands behind every 256th record is so
+-- what stands after every 256th record is so
 pub are_points : (stays : ApplyStays) (within : WithinStays) (profile : Profile) (left size least : ℕ) (demo : List ℕ) (played : Played) (records : List Stepped) → size ≡ spacing → Follow demo played records
     → Stands profile demo played → size * left ≤ length records → played.records + length records ≤ most_records → least ≤ played.at + 1
     → ArePoints profile (played.records + spacing) least (length demo) (points_of size left played records)
@@ -113,8 +113,8 @@ are_points stays within profile (suc left) size least demo played records wide f
     let next : Played = last_of played (take size records) in
     let grows : size * suc left ≡ size * left + size = mul-suc size left in
     let more = some_stand stays within profile demo played size records (omega arith) follow stands in
-    let behind = more.behind.records in
-    let place = more.behind.place in
+    let after = more.after.records in
+    let place = more.after.place in
     let there = more.stands.place in
     let number : next.records ≡ played.records + spacing = omega arith in
     let others = are_points stays within profile left size (next.at + 1) demo next (drop size records) wide more.follow more.stands

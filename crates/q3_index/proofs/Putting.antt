@@ -1,4 +1,4 @@
--- Bytes are put behind those of the index.
+-- Bytes are put after those of the index.
 use Rattle.std.proofs.Common.{◌≡◌, ◌≢◌, ℕ, ◌%◌, ◌<◌, List, [], ◌∷◌, ◌++◌, length, Option, Some, None, Result, Ok, Err, IsSome, unwrap_or, false, refl, sym, ap, ap₂, subst, ◌∙◌, append_assoc, inl, inr, arith}
 use Rattle.std.specs.Prelude.{if◌then◌else◌, slice_index_or}
 use Rattle.std.specs.Str.{bytes_eq}
@@ -58,7 +58,7 @@ some_is : {X : Type 0} (found : Option X) (default : X) → IsSome found → fou
 some_is None default some = absurd cc
 some_is (Some x) default some = refl
 
--- nothing is put behind them
+-- nothing is put after them
 pub none_put : (told : Told) (index : ℕ) → HasIndex told index → LeavesIndex told (Some told) index (contents_at told index)
 none_put told index has = record {
   files = sym (kept_name told.files (name_of told index) (contents_at told index) (some_is (contents_of told.files (name_of told index)) [] has));
@@ -68,7 +68,7 @@ none_put told index has = record {
 
 -- ---- once and again
 
--- what the index holds behind it
+-- what the index holds after it
 index_held : (told now : Told) (index : ℕ) (bytes : List ℕ) → Puts told now index bytes → contents_of now.files (name_of now index) ≡ Some bytes
 index_held told now index bytes puts =
     ap₂ (λ (files : List File) (numbers : List (List ℕ)). contents_of files (slice_index_or numbers index [])) puts.files puts.numbers ∙ same_name told.files (name_of told index) bytes
@@ -113,7 +113,7 @@ leaves_asked told (Some mid) now index bytes leaves asks =
 
 -- ---- in a row
 
--- of all bytes these are left to put behind those of the index
+-- of all bytes these are left to put after those of the index
 pub record HasPut (told : Told) (now : Option Told) (index : ℕ) (left all : List ℕ) : Type 0 where
   pub done : List ℕ
   pub joined : done ++ left ≡ all

@@ -33,12 +33,12 @@ first_more left demo was now is =
     let one : (step demo was >>= go_on was) ≡ Ok now = map_err_ok Demo (step demo was >>= go_on was) now is in
     first_then left demo was ∙ ap (λ (r : Result Played DemoError). r >>= play_first left demo) one
 
-fails_behind : (r : Result Played DemoError) (others : Played → Result Played DemoError) (e : SeekError) → fault_as Demo r ≡ Err e → fault_as Demo (r >>= others) ≡ Err e
-fails_behind (Ok x) others e is = absurd cc
-fails_behind (Err d) others e is = is
+fails_after : (r : Result Played DemoError) (others : Played → Result Played DemoError) (e : SeekError) → fault_as Demo r ≡ Err e → fault_as Demo (r >>= others) ≡ Err e
+fails_after (Ok x) others e is = absurd cc
+fails_after (Err d) others e is = is
 
 pub first_fails : (left : ℕ) (demo : List ℕ) (was : Played) (e : SeekError) → play_one demo was ≡ Err e → fault_as Demo (play_first (suc left) demo was) ≡ Err e
-first_fails left demo was e is = ap (λ (r : Result Played DemoError). fault_as Demo r) (first_then left demo was) ∙ fails_behind (step demo was >>= go_on was) (play_first left demo) e is
+first_fails left demo was e is = ap (λ (r : Result Played DemoError). fault_as Demo r) (first_then left demo was) ∙ fails_after (step demo was >>= go_on was) (play_first left demo) e is
 
 pub none_first : (demo : List ℕ) (was : Played) → play_first 0 demo was ≡ Ok was
 unfolding play_first

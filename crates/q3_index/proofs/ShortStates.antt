@@ -55,7 +55,7 @@ words_most kinds words few = omega (arith, all_most (little_bytes 4) 4 (take (le
 entity_most : (table : Layout) (entity : EntityState) → length table.kinds ≤ 64 → length (entity_bytes table entity) ≤ 258
 entity_most table entity few = omega (arith, words_most table.kinds entity.words few)
 
--- entities behind their number
+-- entities after their number
 entities_most : (table : Layout) (entities : List EntityState) → length table.kinds ≤ 64 → length (counted (entity_bytes table) entities) ≤ 2 + length entities * 258
 entities_most table entities few = omega (arith, all_most (entity_bytes table) 258 entities (λ entity. entity_most table entity few))
 
@@ -75,7 +75,7 @@ texts_most index ([] ∷ texts) = omega (arith, texts_most (index + 1) texts, su
 texts_most index ((byte ∷ text) ∷ texts) =
     omega (arith, texts_most (index + 1) texts, sum_by-cons size_of (byte ∷ text) texts, length-append (string_bytes (index, byte ∷ text)) (flat_map string_bytes (set_strings (index + 1) texts)))
 
--- all of them, behind their number
+-- all of them, after their number
 strings_most : (texts : List (List ℕ)) → length (strings_bytes texts) ≤ 2 + 3 * length texts + config_size texts
 unfolding config_size
 strings_most texts = omega (arith, texts_most 0 texts, sum-map size_of texts)

@@ -19,7 +19,7 @@ use Rattle.q3_index.specs.declared.error.SeekError.TheVariants as seeking
 use Rattle.q3_index.specs.declared.opening.Version.{Version}
 use Rattle.q3_index.specs.Text.{spacing, Tells, head_bytes, checkpoint_bytes, text_by, index_by, state_of}
 use Rattle.q3_index.specs.Opening.{Heads, checkpoints_at, heads_at, matching, open_at}
-use Rattle.q3_index.specs.Seeking.{restored, restored_if, start_at, seek_at, behind}
+use Rattle.q3_index.specs.Seeking.{restored, restored_if, start_at, seek_at, played_after}
 use Rattle.q3_index.specs.Steps.{head_size}
 use Rattle.q3_index.specs.Laws.{IndexOpens, SeekingIsPlaying, SeekingGoesOn}
 use Rattle.q3_index.proofs.Standing.{Stands, none_stands, follow_from, few_from, some_stand, play_more}
@@ -28,7 +28,7 @@ use Rattle.q3_index.proofs.HeadsBack.{places_of, checkpoints_back, length-head_b
 
 -- ---- opening
 
--- what stands behind every 256th record of a demo
+-- what stands after every 256th record of a demo
 abbrev points_in : Profile → List ℕ → List Played
 points_in profile demo = points_of spacing (length (records_of profile demo) / spacing) (unplayed profile) (records_of profile demo)
 
@@ -46,7 +46,7 @@ heads_of version profile demo = record {
 abbrev head_of : Version → Profile → List ℕ → List ℕ
 head_of version profile demo = head_bytes version (length demo) profile.mark profile.entity.number_bits (length (records_of profile demo))
 
--- the text of an index, as what stands behind every 256th record
+-- the text of an index, as what stands after every 256th record
 text_is : ApplyStays → WithinStays → (version : Version) (profile : Profile) (demo index : List ℕ) → IsCodec profile → 512 ≤ profile.parse_ring → index_by version profile demo ≡ Ok index
     → index ≡ head_of version profile demo ++ flat_map (checkpoint_bytes profile) (points_in profile demo)
 text_is stays within version profile demo index codec room is =
@@ -113,7 +113,7 @@ restores written profile demo index records checkpoint played stands count few p
 -- where to begin
 record Begins (version : Version) (profile : Profile) (demo index : List ℕ) (number : ℕ) : Type 0 where
   start : Played
-  there : start ≡ behind profile demo (spacing * (number / spacing))
+  there : start ≡ played_after profile demo (spacing * (number / spacing))
   begins : start_at profile index (heads_of version profile demo).checkpoints number ≡ Ok start
   goes_on : play_first number demo (unplayed profile) ≡ play_first (number - start.records) demo start
 
@@ -125,15 +125,15 @@ begins_new version profile demo index number few =
     let none : 0 ≡ spacing * (number / spacing) = omega arith in
     record {
       start = unplayed profile;
-      there = ap (behind profile demo) none;
+      there = ap (played_after profile demo) none;
       begins = rw (lt-ltb number spacing few) refl;
       goes_on = ap (λ n. play_first n demo (unplayed profile)) all;
     }
 
--- or behind a checkpoint
-begins_behind : FirstRecordsLeave → WrittenIsRead → ApplyStays → WithinStays → (version : Version) (profile : Profile) (demo index : List ℕ) (number : ℕ) → IsCodec profile → 512 ≤ profile.parse_ring
+-- or after a checkpoint
+begins_after : FirstRecordsLeave → WrittenIsRead → ApplyStays → WithinStays → (version : Version) (profile : Profile) (demo index : List ℕ) (number : ℕ) → IsCodec profile → 512 ≤ profile.parse_ring
     → index_by version profile demo ≡ Ok index → number ≤ length (records_of profile demo) → spacing ≤ number → Begins version profile demo index number
-begins_behind first written stays within version profile demo index number codec room is some above =
+begins_after first written stays within version profile demo index number codec room is some above =
     let records : List Stepped = records_of profile demo in
     let left : ℕ = length records / spacing in
     let i : ℕ = number / spacing - 1 in
@@ -141,7 +141,7 @@ begins_behind first written stays within version profile demo index number codec
     let start : Played = last_of (unplayed profile) (take count records) in
     let few : length records ≤ most_records = few_from most_records demo (unplayed profile) in
     let more = some_stand stays within profile demo (unplayed profile) count records (omega arith) (follow_from most_records demo (unplayed profile)) (none_stands stays within profile demo codec room) in
-    let further = more.behind.records in
+    let further = more.after.records in
     let point = point_at spacing left (unplayed profile) records i (omega arith) in
     let there = point_back profile (points_in profile demo) i (head_size version) (head_of version profile demo) index start
     (length-head_bytes version (length demo) profile.mark profile.entity.number_bits (length records)) (text_is stays within version profile demo index codec room is) point in
@@ -149,7 +149,7 @@ begins_behind first written stays within version profile demo index number codec
     let same : count ≡ spacing * (number / spacing) = omega arith in
     record {
       start = start;
-      there = ap (behind profile demo) same;
+      there = ap (played_after profile demo) same;
       begins = rw (le-ltb number spacing above) (ap (restored_if profile index (spacing * (number / spacing))) there.found ∙ restores_it);
       goes_on = play_more count (number - start.records) number demo (unplayed profile) start (omega arith) (first.first profile demo count (omega arith));
     }
@@ -159,7 +159,7 @@ begins : FirstRecordsLeave → WrittenIsRead → ApplyStays → WithinStays → 
     → index_by version profile demo ≡ Ok index → number ≤ length (records_of profile demo) → Begins version profile demo index number
 begins first written stays within version profile demo index number codec room is some = elim (cases_lt number spacing) [
   | inl few ↦ begins_new version profile demo index number few
-  | inr above ↦ begins_behind first written stays within version profile demo index number codec room is some above
+  | inr above ↦ begins_after first written stays within version profile demo index number codec room is some above
 ]
 
 -- what is sought
@@ -187,8 +187,8 @@ seeking_is_playing first written stays within version profile demo index heads n
 -- the law on where it begins
 pub seeking_goes_on : FirstRecordsLeave → WrittenIsRead → ApplyStays → WithinStays → SeekingGoesOn
 seeking_goes_on first written stays within version profile demo index heads number tells codec room mark long is opens some =
-    let start : Played = behind profile demo (spacing * (number / spacing)) in
-    let last : Played = behind profile demo number in
+    let start : Played = played_after profile demo (spacing * (number / spacing)) in
+    let last : Played = played_after profile demo number in
     let from = begins first written stays within version profile demo index number codec room is some in
     let same : heads_of version profile demo ≡ heads = let e = sym (opened stays within version profile demo index tells codec room mark long is) ∙ opens in cc in
     subst (λ (heads : Heads). (start_at profile index heads.checkpoints number ≡ Ok start) × (seek_at profile demo index heads.records heads.checkpoints number ≡ Ok last)) same (

@@ -1,4 +1,4 @@
--- How far a demo was played: what holds at every place of it, and what stands behind so many records more.
+-- How far a demo was played: what holds at every place of it, and what stands after so many records more.
 use Rattle.std.proofs.Common.{◌≡◌, ℕ, zero, suc, ◌+◌, ◌*◌, ◌≤◌, List, [], ◌∷◌, ◌++◌, length, take, drop, Option, Some, None, Result, Ok, Err, refl, ap, subst, ◌∙◌, arith}
 use Rattle.std.proofs.Math.Seq.{take-add}
 use Rattle.std.proofs.lemmas.Bool.{cond_both}
@@ -14,7 +14,7 @@ use Rattle.q3_svmsg.specs.declared.error.Illegible.{Illegible}
 use Rattle.q3_svmsg.specs.Reading.{server_message_in}
 use Rattle.q3_rings.specs.Rings.{held_snapshot}
 use Rattle.q3_clstate.specs.declared.applied.SnapOutcome.TheVariants.{Stale, Skipped as SkippedFor}
-use Rattle.q3_clstate.specs.State.{AppliedState, Application, context_of, passes, accepts, is_stale, skipped_for, apply_section, hearing, apply_read, apply_at, state_behind}
+use Rattle.q3_clstate.specs.State.{AppliedState, Application, context_of, passes, accepts, is_stale, skipped_for, apply_section, hearing, apply_read, apply_at, state_after_message}
 use Rattle.q3_clstate.specs.Standing.{IsApplied}
 use Rattle.q3_clstate.specs.Saving.{IsWithin}
 use Rattle.q3_clstate.specs.Laws.{ApplyStays, WithinStays}
@@ -26,7 +26,7 @@ use Rattle.q3_demo.proofs.Going.{was_played}
 
 -- ---- one record more
 
--- at a place: the state is well formed, within its limits, of this profile, and that behind the last number; and the place is within the demo
+-- at a place: the state is well formed, within its limits, of this profile, and that after the last number; and the place is within the demo
 pub record Stands (profile : Profile) (demo : List ℕ) (played : Played) : Type 0 where
   pub applied : IsApplied played.state
   pub within : IsWithin (most_entities * played.records) played.state
@@ -35,7 +35,7 @@ pub record Stands (profile : Profile) (demo : List ℕ) (played : Played) : Type
   pub place : played.at ≤ length demo
 
 -- so many records further
-pub record IsBehind (played : Played) (count : ℕ) (next : Played) : Type 0 where
+pub record IsAfter (played : Played) (count : ℕ) (next : Played) : Type 0 where
   pub records : next.records ≡ played.records + count
   pub place : played.at + count ≤ next.at
 
@@ -64,9 +64,9 @@ message_leaves state number message applied is =
     subst (λ (applied : Application). (applied.state.profile ≡ state.profile) × (applied.state.number ≡ number)) same
     (section_leaves (hearing state read.0.commands) number read.0.section)
 
--- so it stands behind one record more
+-- so it stands after one record more
 pub next_stands : ApplyStays → WithinStays → (profile : Profile) (demo : List ℕ) (played : Played) (stepped : Stepped) → step demo played ≡ Ok (Some stepped) → Stands profile demo played
-    → Stands profile demo stepped.played × IsBehind played 1 stepped.played
+    → Stands profile demo stepped.played × IsAfter played 1 stepped.played
 next_stands stays within profile demo played stepped is stands =
     let was = was_played demo played stepped is in
     let there = was_record (drop played.at demo) played.at played.last was.number was.size was.next was.found in
@@ -80,11 +80,11 @@ next_stands stays within profile demo played stepped is stands =
     let has = stands.place in
     let next_within : IsWithin (most_entities * (played.records + 1)) was.applied.state =
     subst (λ (most : ℕ). IsWithin most was.applied.state) grows
-    (subst (λ (r : Result Application Illegible). IsWithin (most_entities * played.records + most_entities) (state_behind played.state r)) applied
+    (subst (λ (r : Result Application Illegible). IsWithin (most_entities * played.records + most_entities) (state_after_message played.state r)) applied
     (within.apply played.state (most_entities * played.records) was.number message (omega arith) stands.applied stands.within)) in
-    subst (λ (s : Stepped). Stands profile demo s.played × IsBehind played 1 s.played) was.stepped_is (
+    subst (λ (s : Stepped). Stands profile demo s.played × IsAfter played 1 s.played) was.stepped_is (
       record {
-        applied = subst (λ (r : Result Application Illegible). IsApplied (state_behind played.state r)) applied (stays.apply played.state was.number message (omega arith) stands.applied);
+        applied = subst (λ (r : Result Application Illegible). IsApplied (state_after_message played.state r)) applied (stays.apply played.state was.number message (omega arith) stands.applied);
         within = next_within;
         by = leaves.0 ∙ stands.by;
         number = leaves.1;
@@ -102,7 +102,7 @@ Follow demo played (stepped ∷ records) = (step demo played ≡ Ok (Some steppe
 
 -- a step's record, and those that follow on it
 follow_step : (demo : List ℕ) (played : Played) (next : Result (Option Stepped) DemoError) (records : Played → List Stepped) → step demo played ≡ next
-    → ((behind : Played) → Follow demo behind (records behind)) → Follow demo played (next_records next records)
+    → ((after : Played) → Follow demo after (records after)) → Follow demo played (next_records next records)
 follow_step demo played (Ok None) records is follow = tt
 follow_step demo played (Ok (Some stepped)) records is follow = (is, follow stepped.played)
 follow_step demo played (Err e) records is follow = tt
@@ -114,7 +114,7 @@ follow_from zero demo played = tt
 follow_from (suc left) demo played = follow_step demo played (step demo played) (records_from left demo) refl (follow_from left demo)
 
 -- a step gives one record more at most
-few_step : (left : ℕ) (next : Result (Option Stepped) DemoError) (records : Played → List Stepped) → ((behind : Played) → length (records behind) ≤ left)
+few_step : (left : ℕ) (next : Result (Option Stepped) DemoError) (records : Played → List Stepped) → ((after : Played) → length (records after) ≤ left)
     → length (next_records next records) ≤ suc left
 few_step left (Ok None) records few = omega arith
 few_step left (Ok (Some stepped)) records few = let rest = few stepped.played in omega arith
@@ -126,38 +126,38 @@ unfolding records_from
 few_from zero demo played = omega arith
 few_from (suc left) demo played = few_step left (step demo played) (records_from left demo) (few_from left demo)
 
--- what stands behind so many of them
-pub record StandsBehind (profile : Profile) (demo : List ℕ) (played : Played) (count : ℕ) (next : Played) (rest : List Stepped) : Type 0 where
+-- what stands after so many of them
+pub record StandsAfter (profile : Profile) (demo : List ℕ) (played : Played) (count : ℕ) (next : Played) (rest : List Stepped) : Type 0 where
   pub stands : Stands profile demo next
-  pub behind : IsBehind played count next
+  pub after : IsAfter played count next
   pub follow : Follow demo next rest
 
--- behind so many it stands again
+-- after so many it stands again
 pub some_stand : ApplyStays → WithinStays → (profile : Profile) (demo : List ℕ) (played : Played) (count : ℕ) (records : List Stepped) → count ≤ length records
-    → Follow demo played records → Stands profile demo played → StandsBehind profile demo played count (last_of played (take count records)) (drop count records)
+    → Follow demo played records → Stands profile demo played → StandsAfter profile demo played count (last_of played (take count records)) (drop count records)
 unfolding last_of
 some_stand stays within profile demo played zero records some follow stands =
-    record { stands = stands; behind = record { records = omega arith; place = omega arith }; follow = follow }
+    record { stands = stands; after = record { records = omega arith; place = omega arith }; follow = follow }
 some_stand stays within profile demo played (suc count) [] some follow stands = absurd (omega arith)
 some_stand stays within profile demo played (suc count) (stepped ∷ records) some follow stands =
     let one = next_stands stays within profile demo played stepped follow.0 stands in
     let more = some_stand stays within profile demo stepped.played count records (omega arith) follow.1 one.0 in
     let first = one.1.records in
     let there = one.1.place in
-    let others = more.behind.records in
-    let place = more.behind.place in
-    record { stands = more.stands; behind = record { records = omega arith; place = omega arith }; follow = more.follow }
+    let others = more.after.records in
+    let place = more.after.place in
+    record { stands = more.stands; after = record { records = omega arith; place = omega arith }; follow = more.follow }
 
--- what records leave, and others behind them
-last_behind : (played : Played) (front rest : List Stepped) → last_of played (front ++ rest) ≡ last_of (last_of played front) rest
+-- what records leave, and others after them
+last_after : (played : Played) (front rest : List Stepped) → last_of played (front ++ rest) ≡ last_of (last_of played front) rest
 unfolding last_of
-last_behind played [] rest = refl
-last_behind played (stepped ∷ front) rest = last_behind stepped.played front rest
+last_after played [] rest = refl
+last_after played (stepped ∷ front) rest = last_after stepped.played front rest
 
 -- what so many of them leave, and so many more
 pub last_more : (played : Played) (count more : ℕ) (records : List Stepped)
     → last_of played (take (count + more) records) ≡ last_of (last_of played (take count records)) (take more (drop count records))
-last_more played count more records = ap (last_of played) (take-add count more records) ∙ last_behind played (take count records) (take more (drop count records))
+last_more played count more records = ap (last_of played) (take-add count more records) ∙ last_after played (take count records) (take more (drop count records))
 
 -- ---- so many at once
 

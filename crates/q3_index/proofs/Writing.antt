@@ -1,4 +1,4 @@
--- A demo is played again, and what every 256th of its records left is put behind the index.
+-- A demo is played again, and what every 256th of its records left is put after the index.
 use Rattle.std.proofs.Common.{◌≡◌, ◌≢◌, ℕ, suc, ◌+◌, ◌-◌, ◌*◌, ◌/◌, ◌%◌, ◌^◌, ◌<◌, ◌≤◌, Bool, true, false, List, [], ◌∷◌, ◌++◌, length, drop, Option, Some, None, Result, Ok, Err, refl, sym, ap, subst, ◌∙◌, inl, inr, arith}
 use Rattle.std.specs.Prelude.{All, IfSome, is_some}
 use Rattle.std.specs.List.{flat_map}
@@ -13,7 +13,7 @@ use Rattle.q3_svmsg.specs.declared.error.Illegible.{Illegible}
 use Rattle.q3_rings.specs.Rings.{HeldSnapshot}
 use Rattle.q3_savestate.specs.Lending.{HasAges}
 use Rattle.q3_clstate.specs.declared.applied.Applied.{Applied}
-use Rattle.q3_clstate.specs.State.{Application, apply_at, state_behind}
+use Rattle.q3_clstate.specs.State.{Application, apply_at, state_after_message}
 use Rattle.q3_clstate.specs.Standing.{IsApplied}
 use Rattle.q3_clstate.specs.Saving.{IsWithin}
 use Rattle.q3_clstate.specs.Laws.{WithinStays}
@@ -38,7 +38,7 @@ use Rattle.q3_index.proofs.Counting.{GoesSo, goes_first, goes_more, records_more
 
 -- ---- how old it is what a state holds
 
--- behind one record more it is older by as many entities as a snapshot may have
+-- after one record more it is older by as many entities as a snapshot may have
 pub record Rises (was now : Played) : Type 0 where
   pub records : now.records ≡ was.records + 1
   pub aged : IsAged now
@@ -55,7 +55,7 @@ next_rises within demo was stepped applied aged is =
     let grows : was.records * most_entities + most_entities ≡ (was.records + 1) * most_entities = omega arith in
     let next_aged : IsWithin ((was.records + 1) * most_entities) played.applied.state =
     subst (λ (most : ℕ). IsWithin most played.applied.state) grows
-    (subst (λ (r : Result Application Illegible). IsWithin (was.records * most_entities + most_entities) (state_behind was.state r)) applies
+    (subst (λ (r : Result Application Illegible). IsWithin (was.records * most_entities + most_entities) (state_after_message was.state r)) applies
     (within.apply was.state (was.records * most_entities) played.number message (omega arith) applied aged)) in
     subst (λ (s : Stepped). Rises was s.played) played.stepped_is (record { records = refl; aged = next_aged; by = leaves.0 })
 
@@ -85,7 +85,7 @@ has_ages played few aged =
 pub first_aged : WithinStays → (profile : Profile) → IsAged (unplayed profile)
 first_aged within profile = within.none profile
 
--- ---- what belongs behind a record
+-- ---- what belongs after a record
 
 bytes_kept : (profile : Profile) (next : Result (Option Stepped) DemoError) (now : Played) → Leads next now → now.records % spacing ≡ 0 → step_bytes profile next ≡ checkpoint_bytes profile now
 bytes_kept profile (Ok (Some stepped)) now leads is =
@@ -106,7 +106,7 @@ bytes_none profile (Err e) now leads other = absurd leads
 abbrev pub PlaysAs : Option Told → ℕ → Played → Played → Result Bool DemoError → Type 0
 PlaysAs before demo was now result = (told : Told) → before ≡ Some told → CountsNext (step (contents_at told demo) was) now result
 
--- and what belongs behind it was written
+-- and what belongs after it was written
 abbrev pub WritesAs : Option Told → Option Told → ℕ → ℕ → Profile → Played → Played → Result Bool DemoError → Type 0
 WritesAs before after demo index profile was now result =
     (told : Told) → before ≡ Some told → HasIndex told index → WritesNext profile told after index (step (contents_at told demo) was) now result
@@ -131,7 +131,7 @@ writes_wrong before after demo index profile was now e asks plays told is has =
     let next = step (contents_at told demo) was in
     next_fails profile told after index next now e (plays told is) (waits told before after index (step_bytes profile next) is has asks)
 
--- a checkpoint was put behind it
+-- a checkpoint was put after it
 abbrev pub PutsPoint : Option Told → Option Told → ℕ → Played → Result (Unit {0}) DemoError → Type 0
 PutsPoint mid after index now result = (told : Told) → mid ≡ Some told → HasIndex told index → Extends told after index (checkpoint_bytes now.state.profile now) result
 
@@ -194,7 +194,7 @@ points_left profile demo was stepped few is =
     let all : most_records - was.records ≡ suc left = omega arith in
     ap (checkpoints_bytes profile) (ap (λ n. records_from n demo was) all ∙ records_more left demo was stepped is) ∙ points_next profile stepped (left_of demo stepped.played) (step demo was) is
 
--- so far the checkpoints of the records that were played stand behind what was there before
+-- so far the checkpoints of the records that were played stand after what was there before
 pub record GoesWriting (told : Told) (mid : Option Told) (demo index : ℕ) (profile : Profile) (now : Played) : Type 0 where
   pub goes : GoesSo profile (contents_at told demo) now
   pub put : HasPut told mid index (checkpoints_bytes profile (left_of (contents_at told demo) now)) (checkpoints_bytes profile (records_of profile (contents_at told demo)))
@@ -265,7 +265,7 @@ never_ends told (Some mid) after demo index profile was now going few more apart
     let is = next.1 in
     cc
 
--- behind the last 256th record there is nothing left to write
+-- after the last 256th record there is nothing left to write
 pub writing_all : (told : Told) (after : Option Told) (demo index count : ℕ) (profile : Profile) (now : Played) → GoesWriting told after demo index profile now → now.records ≡ count * spacing
     → count ≡ length (records_of profile (contents_at told demo)) / spacing
     → LeavesIndex told after index (contents_at told index ++ checkpoints_bytes profile (records_of profile (contents_at told demo)))

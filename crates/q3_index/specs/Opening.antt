@@ -21,7 +21,7 @@ pub record Heads : Type 0 where
   pub records : ℕ
   pub checkpoints : List Checkpoint
 
--- so many checkpoints, the first of which stands behind so many records; the places of the next records rise, and are within the demo
+-- so many checkpoints, the first of which stands after so many records; the places of the next records rise, and are within the demo
 unfoldable pub checkpoints_at : ℕ → ℕ → ℕ → ℕ → Cursor → Field (List Checkpoint)
 checkpoints_at zero number least most cursor = Ok ([], cursor)
 checkpoints_at (suc left) number least most cursor = do
@@ -49,9 +49,9 @@ abbrev pub width_at : Version → Cursor → Field ℕ
 width_at First cursor = Ok (least_number_bits, cursor)
 width_at Second cursor = number_at 1 least_number_bits most_number_bits cursor
 
--- the head of an index of a version, behind what it begins with
-unfoldable pub head_behind : Version → Cursor → Field Head
-head_behind version cursor = do
+-- the head of an index of a version, after what it begins with
+unfoldable pub head_after : Version → Cursor → Field Head
+head_after version cursor = do
   length ← number_at 8 0 18446744073709551615 cursor
   mark ← number_at 8 0 18446744073709551615 length.1
   width ← width_at version mark.1
@@ -62,9 +62,9 @@ head_behind version cursor = do
 unfoldable pub head_at : Cursor → Field Head
 head_at cursor = do
   version ← version_at cursor
-  head_behind version.0 version.1
+  head_after version.0 version.1
 
--- the checkpoints behind a head, and nothing behind the last state
+-- the checkpoints that follow a head, and nothing after the last state
 unfoldable pub checkpoints_of : Head → Cursor → Result (List Checkpoint) ℕ
 checkpoints_of head cursor = do
   checkpoints ← checkpoints_at head.count spacing 0 head.length cursor

@@ -23,7 +23,7 @@ use Rattle.q3_index.specs.Seeking.{seek_at}
 
 -- ---- making
 
--- bytes were put behind those of the index, which had none; of every file else nothing changed but how much of it was asked for
+-- bytes were put after those of the index, which had none; of every file else nothing changed but how much of it was asked for
 pub record Puts (told now : Told) (index : ℕ) (bytes : List ℕ) : Type 0 where
   pub files : now.files ≡ with_contents told.files (name_of told index) bytes
   pub numbers : now.numbers ≡ told.numbers

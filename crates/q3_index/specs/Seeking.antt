@@ -1,4 +1,4 @@
--- Seeking: a checkpoint's state is restored, and the records behind it are played.
+-- Seeking: a checkpoint's state is restored, and the records after it are played.
 use Rattle.std.specs.Prelude.{ℕ, ◌+◌, ◌*◌, ◌-◌, ◌/◌, nat_lt, if◌then◌else◌, List, take, drop, slice_get, Option, Some, None, Result, Ok, Err}
 use Rattle.q3_bits.specs.ResultBind.{◌>>=◌, fault_as}
 use Rattle.q3_profile.specs.declared.profile.Profile.{Profile}
@@ -10,7 +10,7 @@ use Rattle.q3_index.specs.declared.error.SeekError.{SeekError}
 use Rattle.q3_index.specs.declared.error.SeekError.TheVariants.{NotIndex, PastEnd, Demo}
 use Rattle.q3_index.specs.Text.{spacing}
 
--- how far a demo was played at a checkpoint behind so many records, by the state that the index's bytes spell there
+-- how far a demo was played at a checkpoint after so many records, by the state that the index's bytes spell there
 abbrev pub restored : Profile → List ℕ → ℕ → Checkpoint → Result Played SeekError
 restored profile index records checkpoint = do
   saved ← fault_as (λ place. NotIndex (checkpoint.state + place)) (state_at profile (take checkpoint.length (drop checkpoint.state index)))
@@ -35,10 +35,10 @@ seek_at profile demo index records checkpoints number =
       start ← start_at profile index checkpoints number
       fault_as Demo (play_first (number - start.records) demo start))
 
--- how far a demo is played behind so many of its records
-abbrev pub behind : Profile → List ℕ → ℕ → Played
-behind profile demo count = last_of (unplayed profile) (take count (records_of profile demo))
+-- how far a demo is played after so many of its records
+abbrev pub played_after : Profile → List ℕ → ℕ → Played
+played_after profile demo count = last_of (unplayed profile) (take count (records_of profile demo))
 
--- how many bytes its records have from behind the first so many to behind so many, one behind the other
+-- how many bytes its records have, one after the other: those after the first so many, up to so many
 abbrev pub bytes_between : Profile → List ℕ → ℕ → ℕ → ℕ
-bytes_between profile demo first count = (behind profile demo count).at - (behind profile demo first).at
+bytes_between profile demo first count = (played_after profile demo count).at - (played_after profile demo first).at

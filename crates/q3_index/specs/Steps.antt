@@ -30,7 +30,7 @@ use Rattle.q3_index.specs.Running.{LeavesIndex}
 abbrev pub from_place : List ℕ → ℕ → Cursor
 from_place bytes at = record { at = at; bytes = drop at bytes }
 
--- what is read, and not what is behind it
+-- what is read, and not what follows it
 abbrev pub value_of : {X : Type 0} → Field X → Result X ℕ
 value_of (Ok x) = Ok x.0
 value_of (Err at) = Err at
@@ -40,7 +40,7 @@ abbrev pub head_size : Version → ℕ
 head_size First = 32
 head_size Second = 33
 
--- the head of a checkpoint that stands behind so many records, where the next one's place is within these
+-- the head of a checkpoint that stands after so many records, where the next one's place is within these
 unfoldable pub numbers_at : ℕ → ℕ → ℕ → Cursor → Field Checkpoint
 numbers_at number least most cursor = do
   record_number ← number_at 4 number number cursor
@@ -48,7 +48,7 @@ numbers_at number least most cursor = do
   length ← number_at 4 0 4294967295 place.1
   Ok (record { place = place.0; state = length.1.at; length = length.0 }, length.1)
 
--- and as many bytes as its state has behind it
+-- and after it as many bytes as its state has
 unfoldable pub checkpoint_at : ℕ → ℕ → ℕ → Cursor → Field Checkpoint
 checkpoint_at number least most cursor = do
   checkpoint ← numbers_at number least most cursor
@@ -69,7 +69,7 @@ Reads value whole (Err (opening.OtherDemo kept found)) = ⊥
 Reads value whole (Err (opening.OtherWidth kept found)) = ⊥
 Reads value whole (Err opening.NoMemory) = ⊤
 
--- a checkpoint was read, and what is behind its state
+-- a checkpoint was read, and what follows its state
 abbrev pub read_to : List ℕ → Checkpoint → Checkpoint × Cursor
 read_to bytes checkpoint = (checkpoint, from_place bytes (checkpoint.state + checkpoint.length))
 
@@ -119,11 +119,11 @@ IsOutside other = ⊥
 abbrev pub HasIndex : Told → ℕ → Type 0
 HasIndex told index = IsSome (contents_of told.files (name_of told index))
 
--- a front of bytes was put behind those of the index before something from outside ended it
+-- a front of bytes was put after those of the index before something from outside ended it
 abbrev pub BreaksOff : Told → Option Told → ℕ → List ℕ → DemoError → Type 0
 BreaksOff told now index bytes e = IsOutside e × (front : List ℕ) × (rest : List ℕ) × (front ++ rest ≡ bytes) × LeavesIndex told now index (contents_at told index ++ front)
 
--- bytes were put behind those of the index, or a front of them
+-- bytes were put after those of the index, or a front of them
 abbrev pub Extends : {X : Type 0} → Told → Option Told → ℕ → List ℕ → Result X DemoError → Type 0
 Extends told now index bytes (Ok x) = LeavesIndex told now index (contents_at told index ++ bytes)
 Extends told now index bytes (Err e) = BreaksOff told now index bytes e
@@ -150,17 +150,17 @@ CountsNext step now (Ok false) = step ≡ Ok None
 CountsNext step now (Err demo.ReadFault) = ⊤
 CountsNext step now (Err e) = step ≡ Err e
 
--- what is written behind a record that is played
+-- what is written after a record that is played
 abbrev pub step_bytes : Profile → Result (Option Stepped) DemoError → List ℕ
 step_bytes profile (Ok (Some stepped)) = if is_checkpoint stepped.played then checkpoint_bytes profile stepped.played else []
 step_bytes profile other = []
 
--- the next record was played, and what belongs behind it was written; or the demo ends there; or the record is refused, or a front was written
+-- the next record was played, and what belongs after it was written; or the demo ends there; or the record is refused, or a front was written
 abbrev pub WritesNext : Profile → Told → Option Told → ℕ → Result (Option Stepped) DemoError → Played → Result Bool DemoError → Type 0
 WritesNext profile told after index step now (Ok true) = Leads step now × LeavesIndex told after index (contents_at told index ++ step_bytes profile step)
 WritesNext profile told after index step now (Ok false) = step ≡ Ok None
 WritesNext profile told after index step now (Err e) = (step ≡ Err e) ⊎ BreaksOff told after index (step_bytes profile step) e
 
--- the checkpoints of records, one behind the other
+-- the checkpoints of records, one after the other
 abbrev pub checkpoints_bytes : Profile → List Stepped → List ℕ
 checkpoints_bytes profile records = flat_map (checkpoint_bytes profile) (checkpoints records)

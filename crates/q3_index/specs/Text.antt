@@ -37,7 +37,7 @@ abbrev pub head_bytes : Version → ℕ → ℕ → ℕ → ℕ → List ℕ
 head_bytes version length mark width records =
     concat (magic version ∷ little_bytes 8 length ∷ little_bytes 8 mark ∷ width_bytes version width ∷ little_bytes 4 records ∷ little_bytes 4 (records / spacing) ∷ [])
 
--- a checkpoint: how many records were played, the place of the next one, and what they left, behind its length
+-- a checkpoint: how many records were played, the place of the next one, and what they left, after its length
 abbrev pub state_of : Profile → Played → List ℕ
 state_of profile played = state_bytes profile (saved_in played.state)
 
@@ -45,7 +45,7 @@ abbrev pub checkpoint_bytes : Profile → Played → List ℕ
 checkpoint_bytes profile played =
     concat (little_bytes 4 played.records ∷ little_bytes 8 played.at ∷ little_bytes 4 (length (state_of profile played)) ∷ state_of profile played ∷ [])
 
--- one stands behind every 256th record
+-- one stands after every 256th record
 abbrev pub is_checkpoint : Played → Bool
 is_checkpoint played = played.records % spacing == 0
 

@@ -171,7 +171,7 @@ fn write_checkpoints<F: Files>(
     Ok(())
 }
 
-/// Plays the next record, if there is one, and writes a checkpoint behind every 256th. The bytes are a place for it.
+/// Plays the next record, if there is one, and writes a checkpoint after every 256th. The bytes are a place for it.
 fn write_next<F: Files>(
     player: &mut Player,
     files: &mut F,
@@ -231,7 +231,7 @@ fn stands(state: &ClState)
     let _newest = state.newest();
 }
 
-/// Writes a checkpoint: how many records, the place of the next one, and what they left, behind its length. The bytes are a place for it.
+/// Writes a checkpoint: how many records, the place of the next one, and what they left, after its length. The bytes are a place for it.
 fn write_checkpoint<F: Files>(
     player: &Player,
     files: &mut F,
@@ -277,7 +277,7 @@ fn write_numbers<F: Files>(
     append(files, index, &length.to_le_bytes()[..4])
 }
 
-/// Puts bytes behind those of the index.
+/// Puts bytes after those of the index.
 fn append<F: Files>(files: &mut F, index: usize, bytes: &[u8]) -> Result<(), DemoError>
     requires index { index < F.given files.old }
     ensures writes { (told : Told) → F.told files.old ≡ Some told

@@ -8,7 +8,7 @@ use q3_demo::DemoError;
 use std::alloc::{AllocError, AllocFailed};
 use thiserror::Error;
 
-/// Why an index isn't opened. A place is that of the first field of the index that is cut short or breaks a rule, or of the first byte behind
+/// Why an index isn't opened. A place is that of the first field of the index that is cut short or breaks a rule, or of the first byte after
 /// the last checkpoint.
 #[derive(Clone, Copy, Debug, PartialEq, Eq, Error)]
 pub enum IndexError {
@@ -36,7 +36,7 @@ pub enum SeekError {
     #[error("read fault")]
     ReadFault,
     /// The state of a checkpoint is none: the place in the index of its first field that is cut short or breaks a rule, or of the first byte
-    /// behind it.
+    /// after it.
     #[error("index: bad at {0}")]
     NotIndex(u64),
     /// Want of memory.

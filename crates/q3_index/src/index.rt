@@ -73,7 +73,7 @@ impl Index {
     /// records from there on are played. `Err` is `PastEnd` exactly where the index counts fewer, which is decided before anything is read;
     /// else `NotIndex` exactly where the state that is read is none; else `Demo` exactly where a record that is played is refused, or the demo
     /// ends before so many; it never carries a fault or want of memory. Of the demo no more bytes are asked for than the records have that are
-    /// played, where every read gives all that it is asked for. Of an index that was made of the demo they are those behind the last 256th
+    /// played, where every read gives all that it is asked for. Of an index that was made of the demo they are those after the last 256th
     /// record at or below so many.
     pub fn seek<F: Files>(
         &self,
@@ -174,7 +174,7 @@ impl Index {
     }
 }
 
-/// Where a checkpoint behind so many records leaves a demo.
+/// Where a checkpoint after so many records leaves a demo.
 fn restore<F: Files>(
     alloc: Global,
     profile: &Profile,
@@ -198,7 +198,7 @@ fn restore<F: Files>(
     ensures others { F.write_faults files.new ≡ F.write_faults files.old }
 {
     let state = read_state(alloc, profile, files, index, checkpoint)?;
-    Ok(Player::behind(alloc, state, records, checkpoint.place)?)
+    Ok(Player::from_state(alloc, state, records, checkpoint.place)?)
 }
 
 /// The state of a checkpoint.

@@ -23,7 +23,7 @@ pub fn seeking_is_playing()
     states::within_stays();
 }
 
-/// It begins behind the last 256th record at or below so many, so only the records from there on are played.
+/// It begins after the last 256th record at or below so many, so only the records from there on are played.
 pub fn seeking_goes_on()
     ensures { SeekingGoesOn }
 {

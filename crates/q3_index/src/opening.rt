@@ -5,7 +5,7 @@ ghost use Rattle.q3_io.specs.Told.{Told, contents_at};
 ghost use Rattle.q3_savestate.specs.Cursor.{found, number_at};
 ghost use Rattle.q3_demo.specs.Running.{OnlyAsks, AsksOf};
 ghost use Rattle.q3_index.specs.Text.{spacing};
-ghost use Rattle.q3_index.specs.Opening.{version_at, width_at, head_behind, head_at, checkpoints_of, open_at};
+ghost use Rattle.q3_index.specs.Opening.{version_at, width_at, head_after, head_at, checkpoints_of, open_at};
 ghost use Rattle.q3_index.specs.Running.{Opens, OpenCause, AsksNothing};
 ghost use Rattle.q3_index.specs.Steps.{ArePlaced, IsPlaced, Reads, from_place, value_of, head_size, numbers_at, checkpoint_at, least_of, read_to};
 
@@ -69,7 +69,7 @@ pub(crate) struct Head {
 
 /// Opens the index of a demo: both are numbers of files. The demo is asked for its length alone. `Err` is `NotIndex` exactly where the heads
 /// aren't those of an index, with the place of the first field that is cut short or breaks a rule, of a state that goes beyond the file, or of
-/// the first byte behind the last checkpoint; else `OtherDemo` exactly where the demo has another length or the profile another mark; else
+/// the first byte after the last checkpoint; else `OtherDemo` exactly where the demo has another length or the profile another mark; else
 /// `OtherWidth` exactly where an entity's number has another number of bits by the profile.
 pub fn open_index<F: Files>(
     alloc: Global,
@@ -166,10 +166,10 @@ fn take_version(cursor: &mut Cursor) -> Result<Version, usize>
     Err(place)
 }
 
-/// The head behind that.
-#[tactic(auto, unfolding(crate::specs::Opening::head_behind))]
+/// The head after that.
+#[tactic(auto, unfolding(crate::specs::Opening::head_after))]
 fn take_head(version: Version, cursor: &mut Cursor) -> Result<Head, usize>
-    ensures { found result cursor.new ≡ head_behind version cursor.old }
+    ensures { found result cursor.new ≡ head_after version cursor.old }
 {
     let length = cursor.wide(0, u64::MAX)?;
     let mark = cursor.wide(0, u64::MAX)?;
@@ -196,7 +196,7 @@ fn take_width(version: Version, cursor: &mut Cursor) -> Result<u8, usize>
     }
 }
 
-/// Reads the heads of the checkpoints of an index of so many bytes, behind the last of which nothing stands.
+/// Reads the heads of the checkpoints of an index of so many bytes, after the last of which nothing stands.
 fn read_checkpoints<F: Files>(
     alloc: Global,
     files: &mut F,
@@ -231,8 +231,8 @@ fn read_checkpoints<F: Files>(
     Ok(checkpoints)
 }
 
-/// Reads the head of the checkpoint at a place, which stands behind so many records. The place of the next record is within bounds, where
-/// the least may be beyond all places. The file has as many bytes behind it as its state.
+/// Reads the head of the checkpoint at a place, which stands after so many records. The place of the next record is within bounds, where
+/// the least may be beyond all places. The file has as many bytes after it as its state.
 fn read_checkpoint<F: Files>(
     files: &mut F,
     index: usize,

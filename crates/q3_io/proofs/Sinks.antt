@@ -4,7 +4,7 @@ use Rattle.std.proofs.lemmas.List.{append-nil, take_more, take-append-drop}
 use Rattle.std.proofs.lemmas.List.Concat.{flat_map-append}
 use Rattle.std.specs.List.{flat_map}
 use Rattle.q3_io.specs.Written.{Written, Wrote}
-use Rattle.q3_io.specs.Line.{held_behind}
+use Rattle.q3_io.specs.Line.{held_after}
 
 some_is : (x y : Written) → Some x ≡ Some y → x ≡ y
 some_is x y e = cc
@@ -13,7 +13,7 @@ some_is x y e = cc
 pub nothing : {written : Option Written} → Wrote written written [] true
 nothing = record { untold = λ e. e; told = λ had e. ([], had.waits, sym (append-nil had.waits), e ∙ rw append-nil refl) }
 
--- a text behind a text
+-- a text after a text
 pub follow : {old mid new : Option Written} {front rest whole : List ℕ} {all : Bool}
     → Wrote old mid front true → Wrote mid new rest all → whole ≡ front ++ rest → Wrote old new whole all
 follow {front} {rest} first second is = record {
@@ -37,10 +37,10 @@ ends_early {front} rest wrote is = record {
       (was.0, was.1 ++ rest, sym (append_assoc was.0 was.1 rest) ∙ (ap (λ (z : List ℕ). z ++ rest) was.2 ∙ (append_assoc had.waits front rest ∙ ap (λ (z : List ℕ). had.waits ++ z) (sym is))), was.3);
 }
 
--- the bytes that were held, and a text, went through the sink behind
-behind : (old new : Option Written) (held text : List ℕ) (all : Bool) → Wrote old new (held ++ text) all → Wrote (held_behind old held) (held_behind new []) text all
-behind None new held text all wrote = rw (wrote.untold refl) (record { untold = λ e. refl; told = λ had e. absurd cc })
-behind (Some w) new held text all wrote =
+-- the bytes that were held, and a text, went through the sink below
+through_held : (old new : Option Written) (held text : List ℕ) (all : Bool) → Wrote old new (held ++ text) all → Wrote (held_after old held) (held_after new []) text all
+through_held None new held text all wrote = rw (wrote.untold refl) (record { untold = λ e. refl; told = λ had e. absurd cc })
+through_held (Some w) new held text all wrote =
     let was = wrote.told w refl in
     rw (was.3, append-nil) (record {
       untold = λ e. absurd cc;
@@ -49,16 +49,16 @@ behind (Some w) new held text all wrote =
           (was.0, was.1, rw (← same) (was.2 ∙ sym (append_assoc w.waits held text)), rw (← same) refl);
     })
 
--- the bytes that were held, or a front of them, went through the sink behind, and no text was taken
-pub held_lost : (old new : Option Written) (held text : List ℕ) → Wrote old new held false → Wrote (held_behind old held) (held_behind new []) text false
-held_lost old new held text wrote = behind old new held text false (ends_early text wrote refl)
+-- the bytes that were held, or a front of them, went through the sink below, and no text was taken
+pub held_lost : (old new : Option Written) (held text : List ℕ) → Wrote old new held false → Wrote (held_after old held) (held_after new []) text false
+held_lost old new held text wrote = through_held old new held text false (ends_early text wrote refl)
 
--- the bytes that were held, and then a text, went through the sink behind
-pub held_passed : (old mid new : Option Written) (held text : List ℕ) (all : Bool) → Wrote old mid held true → Wrote mid new text all → Wrote (held_behind old held) (held_behind new []) text all
-held_passed old mid new held text all first second = behind old new held text all (follow first second refl)
+-- the bytes that were held, and then a text, went through the sink below
+pub held_passed : (old mid new : Option Written) (held text : List ℕ) (all : Bool) → Wrote old mid held true → Wrote mid new text all → Wrote (held_after old held) (held_after new []) text all
+held_passed old mid new held text all first second = through_held old new held text all (follow first second refl)
 
--- the bytes that were held went through the sink behind, and a text stands in their place
-pub held_next : (old new : Option Written) (held text : List ℕ) → Wrote old new held true → Wrote (held_behind old held) (held_behind new text) text true
+-- the bytes that were held went through the sink below, and a text stands in their place
+pub held_next : (old new : Option Written) (held text : List ℕ) → Wrote old new held true → Wrote (held_after old held) (held_after new text) text true
 held_next None new held text wrote = rw (wrote.untold refl) (record { untold = λ e. refl; told = λ had e. absurd cc })
 held_next (Some w) new held text wrote =
     let was = wrote.told w refl in
@@ -76,7 +76,7 @@ before_and_there text items k none within =
     ap (flat_map text) (take_more items k none within)
     ∙ (flat_map-append text (take k items) (get_or items k none ∷ []) ∙ ap (λ t. flat_map text (take k items) ++ t) (append-nil (text (get_or items k none))))
 
--- behind the texts before an index the one there
+-- after the texts before an index comes the one there
 pub each_follows : {X : Type 0} (text : X → List ℕ) (items : List X) (k : ℕ) (none : X) {old mid new : Option Written} → k < length items
     → Wrote old mid (flat_map text (take k items)) true → Wrote mid new (text (get_or items k none)) true → Wrote old new (flat_map text (take (k + 1) items)) true
 each_follows text items k none within first second = follow first second (before_and_there text items k none within)

@@ -29,13 +29,13 @@ words_text-more letter words index within =
     ap (words_text letter 0) (take_more words index 0 within) ∙ (words_text-push letter 0 (take index words) (get_or words index 0)
     ∙ ap (λ i. words_text letter 0 (take index words) ++ word_text letter i (get_or words index 0)) (omega (arith, length-take-le index words (omega arith))))
 
--- the words behind an index
-abbrev pub words_behind : List ℕ → List ℕ → ℕ → List ℕ
-words_behind letter words index = words_text letter (0 + length (take (index + 1) words)) (drop (index + 1) words)
+-- the words after an index
+abbrev pub words_after : List ℕ → List ℕ → ℕ → List ℕ
+words_after letter words index = words_text letter (0 + length (take (index + 1) words)) (drop (index + 1) words)
 
 -- the words before an index, the word there, and the others
 pub words_text-split : (letter words : List ℕ) (index : ℕ) → index < length words
-    → words_text letter 0 words ≡ (words_text letter 0 (take index words) ++ word_text letter index (get_or words index 0)) ++ words_behind letter words index
+    → words_text letter 0 words ≡ (words_text letter 0 (take index words) ++ word_text letter index (get_or words index 0)) ++ words_after letter words index
 words_text-split letter words index within =
     ap (words_text letter 0) (sym (take-append-drop (index + 1) words))
-    ∙ (words_text-append letter 0 (take (index + 1) words) (drop (index + 1) words) ∙ ap (λ t. t ++ words_behind letter words index) (words_text-more letter words index within))
+    ∙ (words_text-append letter 0 (take (index + 1) words) (drop (index + 1) words) ∙ ap (λ t. t ++ words_after letter words index) (words_text-more letter words index within))

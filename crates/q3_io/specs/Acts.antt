@@ -34,4 +34,4 @@ ActsOn None now acts result = now ≡ None
 ActsOn (Some told) now acts (Ok x) = now ≡ Some (after_acts told acts)
 ActsOn (Some told) now acts (Err e) =
     (first : List FileAct) × (act : FileAct) × (rest : List FileAct) × (acts ≡ first ++ act ∷ rest)
-    × (behind : Told) × (now ≡ Some behind) × BreaksOff (after_acts told first) act behind
+    × (after : Told) × (now ≡ Some after) × BreaksOff (after_acts told first) act after

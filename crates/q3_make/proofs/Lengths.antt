@@ -19,7 +19,7 @@ ten n small = length-decimal-le 10 n (omega arith) (omega arith) (omega arith)
 pub three : (n : ℕ) → n < 1000 → length (decimal n) ≤ 3
 three n small = length-decimal-le 3 n (omega arith) (omega arith) (omega arith)
 
--- a text and a newline behind it
+-- a text and a newline after it
 pub with_newline : (text : List ℕ) → length text ≤ 999 → length (text ++ codes "\n") ≤ 1000
 with_newline text short = rw (length-append text (codes "\n")) (omega arith)
 
@@ -68,7 +68,7 @@ quoted_short word n text short small few =
 
 -- ---- words
 
--- words of at most ten bytes, each behind a space
+-- words of at most ten bytes, each after a space
 pub spaced_short : (words : List (List ℕ)) → All (λ word. length word ≤ 10) words → length (spaced words) ≤ 11 * length words
 spaced_short [] each = omega arith
 spaced_short (word ∷ words) each =

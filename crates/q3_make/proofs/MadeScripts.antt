@@ -119,7 +119,7 @@ opening_length = refl
 regroup : (old a b c d e f : List Event) → (((((old ++ a) ++ b) ++ c) ++ d) ++ e) ++ f ≡ old ++ (((((a ++ b) ++ c) ++ d) ++ e) ++ f)
 regroup old a b c d e f = simp append_assoc
 
--- the opening, put behind others part by part
+-- the opening, put after others part by part
 pub opening_put : (old : List Event)
     → (((((old ++ map joins (range_with_len 0 4)) ++ (Map 1 4242 ∷ [])) ++ map (λ n. Baseline (entity_with n 1 n)) (range_with_len 1 40)) ++ map (λ n. Entity (entity_with n 1 n)) (range_with_len 1 40))
     ++ (Time 1000 ∷ [])) ++ flat_map (λ c. first_turns c (4 * c)) (range_with_len 0 4) ≡ old ++ opening
@@ -216,7 +216,7 @@ generated_is_made number seed few =
     (All-append IsGood opening drawn opening_good (drawn_are_good number 1 (made_in opening) (generator_of seed) (omega arith) (omega arith) (omega arith)))
     (closing_good (made_in front) (omega arith)))
 
--- the opening, the drawn lines and the closing behind one another
+-- the opening, the drawn lines and the closing one after another
 pub whole_is : (number seed : ℕ) → opening ++ rest_of number (record { drawn = 0; made = 16; generator = generator_of seed }) ≡ generated number seed
 unfolding generated rest_of
 whole_is number seed =
@@ -232,7 +232,7 @@ opening_each = All-weaker IsGood IsReplayEvent (λ event is. is.of_replay) openi
 pub closing_each : (made : ℕ) → made ≤ 65100 → All IsReplayEvent (closing made)
 closing_each made room = All-weaker IsGood IsReplayEvent (λ event is. is.of_replay) (closing made) (closing_good made room)
 
--- the three parts, put behind one another
+-- the three parts, put one after another
 pub parts_are : (number seed : ℕ) (start now : DrawnState) (made : ℕ) (first second all : List Event) → first ≡ opening → second ++ rest_of 0 now ≡ first ++ rest_of number start
     → made ≡ now.made → all ≡ second ++ closing made → ((number : ℕ) → opening ++ rest_of number start ≡ generated number seed) → all ≡ generated number seed
 parts_are number seed start now made first second all begins goes makes ends whole =

@@ -229,7 +229,7 @@ client_prints c challenge qport dup text word small small' small'' small''' same
 
 -- ---- events
 
--- a number behind a word
+-- a number after a word
 number_row : (n : ℕ) → n < 2 ^ 64 → AreLineWords (decimal n ∷ [])
 number_row n small = (decimal_word n small, tt)
 
@@ -339,7 +339,7 @@ is_read (End ms) = first_other (event_text (End ms)) _ _ refl refl
 
 -- ---- lines
 
--- the first line, and those behind it
+-- the first line, and those after it
 lines_are : (event : Event) (events : List Event) → IsPrinted event → lines_of (script_text (event ∷ events)) ≡ event_text event ∷ lines_of (script_text events)
 lines_are event events printed =
     ap lines_of (append_assoc (event_text event) (codes "\n") (script_text events))

@@ -29,7 +29,7 @@ some_more f a k j old now lines e so_far is =
     let last : f j ++ [] ≡ f j = append-nil (f j) in
     rw (so_far, is, range_more a k j e, flat_map-append f (range_with_len a k) (j ∷ []), last) (append_assoc old (flat_map f (range_with_len a k)) (f j))
 
--- the datagrams of a line, and of those behind it
+-- the datagrams of a line, and of those after it
 pub made_more : (event : Event) (events : List Event) → made_in (event ∷ events) ≡ made_by event + made_in events
 made_more event events =
     let one : 0 + made_by event ≡ made_by event = omega arith in
@@ -37,7 +37,7 @@ made_more event events =
 
 -- ---- what is left of a script
 
--- a drawn line, and what is left behind it
+-- a drawn line, and what is left after it
 pub rest_next : (left : ℕ) (state : DrawnState) (event : Event) (drawn made : ℕ) (generator : Lcg) → (event, generator) ≡ drawn_line (state.drawn + 1) state.made state.generator
     → drawn ≡ state.drawn + 1 → made ≡ state.made + made_by event → rest_of (left + 1) state ≡ event ∷ rest_of left (record { drawn = drawn; made = made; generator = generator })
 unfolding drawn_from rest_of

@@ -108,11 +108,11 @@ put_before entity d (first ∷ others) (suc i) lt below above =
     put_below entity first others (below 0 d (omega arith))
     ∙ ap (λ (rest : List EntityState). first ∷ rest) (put_before entity d others i (omega arith) (below_tail entity.number i first others below) above)
 
-pub put_behind : (entity : EntityState) (entities : List EntityState) → Below entity.number (length entities) entities → with_entity entity entities ≡ entities ++ entity ∷ []
-put_behind entity [] below = none_is entity
-put_behind entity (first ∷ others) below =
+pub put_after : (entity : EntityState) (entities : List EntityState) → Below entity.number (length entities) entities → with_entity entity entities ≡ entities ++ entity ∷ []
+put_after entity [] below = none_is entity
+put_after entity (first ∷ others) below =
     put_below entity first others (below 0 first (omega arith))
-    ∙ ap (λ (rest : List EntityState). first ∷ rest) (put_behind entity others (below_tail entity.number (length others) first others below))
+    ∙ ap (λ (rest : List EntityState). first ∷ rest) (put_after entity others (below_tail entity.number (length others) first others below))
 
 -- the numbers still rise
 pub put_rises : (limit least : ℕ) (entity : EntityState) (entities : List EntityState) → least ≤ entity.number → entity.number < limit
@@ -237,7 +237,7 @@ pub parted : (limit least number : ℕ) (entities : List EntityState) → RiseFr
 parted limit least number entities rise =
     IsPartitionedBy-ltb (λ (entity : EntityState). entity.number) entities number (λ i j d le lt. rise_in_order limit least entities i j d rise le lt)
 
--- and the place behind them is the first of a number from there on
+-- and the place after them is the first of a number from there on
 pub point_is_first : (number : ℕ) (entities : List EntityState) (i : ℕ) → i ≤ length entities
     → IsPartitionPoint (λ entity. below_number number entity ≡ true) (λ entity. below_number number entity ≡ false) entities i
     → position_or_len (from_number number) entities ≡ i
@@ -286,7 +286,7 @@ At entities place there = there ≡ get_or entities place there
 pub push_is : (limit : ℕ) (entity : EntityState) (entities : List EntityState) (answer : Option ℕ) → RiseFrom limit 0 entities → entity.number < limit
     → Looks entity.number entities answer None → (with_entity entity entities ≡ entities ++ entity ∷ []) × (length entities < limit)
 push_is limit entity entities answer rise lt looks =
-    let is = put_behind entity entities (none_from entity.number entities (looked entity.number entities answer None looks)) in
+    let is = put_after entity entities (none_from entity.number entities (looked entity.number entities answer None looks)) in
     let more = rise_few limit 0 (with_entity entity entities) (omega arith) (put_rises limit 0 entity entities (omega arith) lt rise) in
     (is, omega (arith, more, ap (λ (es : List EntityState). length es) is, length_push entities entity))
 

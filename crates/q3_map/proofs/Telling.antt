@@ -33,11 +33,11 @@ glyph_some digit = either (ltb digit 10)
     either true = omega arith
     either false = omega arith
 
-digits_some : (count n : ℕ) (behind : List ℕ) → All AboveZero behind → All AboveZero (digits_onto count 10 false n behind)
-digits_some zero n behind some = some
-digits_some (suc count) n behind some =
-    let more : All AboveZero (digit_glyph false (n % 10) ∷ behind) = All-cons AboveZero (digit_glyph false (n % 10)) behind (glyph_some (n % 10)) some in
-    either (eqb (n / 10) 0) _ _ more (digits_some count (n / 10) (digit_glyph false (n % 10) ∷ behind) more)
+digits_some : (count n : ℕ) (after : List ℕ) → All AboveZero after → All AboveZero (digits_onto count 10 false n after)
+digits_some zero n after some = some
+digits_some (suc count) n after some =
+    let more : All AboveZero (digit_glyph false (n % 10) ∷ after) = All-cons AboveZero (digit_glyph false (n % 10)) after (glyph_some (n % 10)) some in
+    either (eqb (n / 10) 0) _ _ more (digits_some count (n / 10) (digit_glyph false (n % 10) ∷ after) more)
   where
     either : (last : Bool) (xs ys : List ℕ) → All AboveZero xs → All AboveZero ys → All AboveZero (cond last xs ys)
     either true xs ys first other = first

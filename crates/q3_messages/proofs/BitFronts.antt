@@ -21,10 +21,10 @@ shorter : (k m : ℕ) (xs ys : List Bool) → k ≤ m → take m xs ≡ take m y
 shorter k m xs ys few same = sym (front_of_front k m xs few) ∙ (ap (λ (l : List Bool). take k l) same ∙ front_of_front k m ys few)
 
 -- and so do bits that follow the same ones
-behind_same : (k more : ℕ) (first xs ys : List Bool) → k ≤ length first + more → take more xs ≡ take more ys → take k (first ++ xs) ≡ take k (first ++ ys)
-behind_same k more [] xs ys few same = shorter k more xs ys (omega (arith, few)) same
-behind_same zero more (bit ∷ first) xs ys few same = refl
-behind_same (suc k) more (bit ∷ first) xs ys few same = ap (λ (l : List Bool). bit ∷ l) (behind_same k more first xs ys (omega (arith, few)) same)
+after_same : (k more : ℕ) (first xs ys : List Bool) → k ≤ length first + more → take more xs ≡ take more ys → take k (first ++ xs) ≡ take k (first ++ ys)
+after_same k more [] xs ys few same = shorter k more xs ys (omega (arith, few)) same
+after_same zero more (bit ∷ first) xs ys few same = refl
+after_same (suc k) more (bit ∷ first) xs ys few same = ap (λ (l : List Bool). bit ∷ l) (after_same k more first xs ys (omega (arith, few)) same)
 
 -- a byte has eight bits
 eight : (byte : ℕ) → length (low_bits 8 byte) ≡ 8
@@ -38,7 +38,7 @@ bits_of_front zero bytes = refl
 bits_of_front (suc n) [] = refl
 bits_of_front (suc n) (byte ∷ bytes) =
     let long = eight byte in
-    behind_same (8 * suc n) (8 * n) (low_bits 8 byte) (bits_of bytes) (bits_of (take n bytes)) (omega (arith, long)) (bits_of_front n bytes)
+    after_same (8 * suc n) (8 * n) (low_bits 8 byte) (bits_of bytes) (bits_of (take n bytes)) (omega (arith, long)) (bits_of_front n bytes)
 
 -- where bytes share their first ones, what begins the bits of the one and takes no more than those begins the bits of the other
 pub begins_both : (n : ℕ) (row rest : List Bool) (bytes others : List ℕ) → length row ≤ 8 * n → take n others ≡ take n bytes → bits_of bytes ≡ row ++ rest

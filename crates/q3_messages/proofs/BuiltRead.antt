@@ -55,7 +55,7 @@ long_is_read put words code ack rest fits = (
 abbrev cleared_at : ClientState → ℕ → ℕ → List ℕ → List ℕ
 cleared_at client n ack bytes = cleared client.state.profile.protocol client.challenge n (text_at client.issued ack) bytes
 
--- what is received behind what is read of the leading long, behind the acknowledgement, and behind what is read of the rest
+-- what is received after what is read of the leading long, after the acknowledgement, and after what is read of the rest
 abbrev with_application : ClientState → ℕ → List ℕ → Result Application Illegible → Result Reception Illegible
 with_application client ack plain applied =
     applied >>= λ application. Ok (record { message = plain; issued = (acknowledge_at client.issued ack).window; application = application })

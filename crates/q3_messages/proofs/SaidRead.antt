@@ -58,7 +58,7 @@ longs_are_read put words code id acknowledged command rest fits fits' fits'' = (
 
 -- ---- a message that was begun
 
--- what came, behind what is read of the leading longs, behind the acknowledgement, and by a text
+-- what came, after what is read of the leading longs, after the acknowledgement, and by a text
 abbrev by_heads : Profile → MapState → SlotState → List ℕ → Result Heads ReadError → Result Came ClientIllegible
 by_heads profile map slot bytes found = fault_as Bits found >>= λ heads.
     ack_taken heads.command (acknowledge_at slot.issued heads.command).answer >>= λ taken.

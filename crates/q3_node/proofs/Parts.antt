@@ -14,8 +14,8 @@ use Rattle.q3_script.specs.declared.event.Event.{Event}
 use Rattle.q3_node.specs.declared.error.NodeError.{NodeError}
 use Rattle.q3_node.specs.declared.error.NodeError.TheVariants.{NoMemory, WireFault, WriteFault, FileFault, Turns}
 use Rattle.q3_node.specs.declared.turns.Course.{Course}
-use Rattle.q3_node.specs.Node.{Rules, Turn, Turned, uses_wire, receive_room, cut_to_room, time_behind, is_end, start_at, made_with, due, line_turn, receive_turn, turn_of, answer_text, text_of, acts_of}
-use Rattle.q3_node.specs.Running.{at_bound, Effects, all_acts, DoesActs, DoesArrival, Leaves, wire_behind, sent_on, DoesLine, Finds, DoesTurn, TakesTurn, node_of}
+use Rattle.q3_node.specs.Node.{Rules, Turn, Turned, uses_wire, receive_room, cut_to_room, time_after, is_end, start_at, made_with, due, line_turn, receive_turn, turn_of, answer_text, text_of, acts_of}
+use Rattle.q3_node.specs.Running.{at_bound, Effects, all_acts, DoesActs, DoesArrival, Leaves, wire_after, sent_on, DoesLine, Finds, DoesTurn, TakesTurn, node_of}
 
 -- ---- files
 
@@ -29,7 +29,7 @@ nothing_done (Some told) = refl
 one_acts : (now : Turn) → acts_of (now ∷ []) ≡ now.acts
 one_acts now = append-nil now.acts
 
--- acts were done, and only the sink may have failed behind them
+-- acts were done, and only the sink may have failed after them
 pub acts_told : {T : Type 0} (told now : Option Told) (acts : List FileAct) (result : Result T NodeError) → ActsOn told now acts all_acts → IfErr result (λ e. e ≡ WriteFault) → DoesActs told now acts result
 acts_told told now acts (Ok x) done only = done
 acts_told told now acts (Err e) done only = rw only done
@@ -45,7 +45,7 @@ one_text : (now : Turn) → text_of (now ∷ []) ≡ answer_text now.answer
 one_text now = append-nil (answer_text now.answer)
 
 -- of a turn that doesn't receive
-wire_line : (told : Option Traffic) (now : Turn) (sends : Option Parcel) → now.received ≡ false → now.sends ≡ sends → sent_on told sends ≡ wire_behind told (now ∷ [])
+wire_line : (told : Option Traffic) (now : Turn) (sends : Option Parcel) → now.received ≡ false → now.sends ≡ sends → sent_on told sends ≡ wire_after told (now ∷ [])
 wire_line None now None not_received is = refl
 wire_line None now (Some parcel) not_received is = refl
 wire_line (Some traffic) now None not_received is = rw (not_received, is) (ap (λ (sent : List Parcel). Some (record traffic { sent = sent })) (sym (append-nil traffic.sent)))
@@ -61,7 +61,7 @@ line_leaves now all before after not_received printed sent done = record {
 }
 
 -- of one that does
-wire_receive : (told : Option Traffic) (now : Turn) → now.received ≡ true → now.sends ≡ None → option_map after_receive told ≡ wire_behind told (now ∷ [])
+wire_receive : (told : Option Traffic) (now : Turn) → now.received ≡ true → now.sends ≡ None → option_map after_receive told ≡ wire_after told (now ∷ [])
 wire_receive None now received nothing = refl
 wire_receive (Some traffic) now received nothing = rw (received, nothing) (ap (λ (sent : List Parcel). Some (record traffic { arrivals = drop 1 traffic.arrivals; sent = sent })) (sym (append-nil traffic.sent)))
 
@@ -80,9 +80,9 @@ same_effects before after written wire files = rw (written, wire, files) refl
 
 -- ---- a line
 
--- the course behind a line
+-- the course after a line
 abbrev pub gone_on : Course → Event → Bool → Course
-gone_on course event made = record course { next = course.next + 1; time = time_behind course.time event; made = if made then course.made + 1 else course.made }
+gone_on course event made = record course { next = course.next + 1; time = time_after course.time event; made = if made then course.made + 1 else course.made }
 
 made_same : (before : ℕ) (sends : Option Parcel) (made : Bool) → made ≡ is_some sends → (if made then before + 1 else before) ≡ made_with before sends
 made_same before None made is = rw is refl

@@ -9,15 +9,15 @@ use Rattle.q3_io.specs.Traffic.{Parcel, next_of}
 use Rattle.q3_script.specs.declared.event.Event.{Event}
 use Rattle.q3_script.specs.declared.event.Event.TheVariants.{Client, Port, Map, Entity, Remove, Baseline, Player, Area, Time, Config, Say, TypeText, Move, Serve, Send, Deliver, RecordTo, Stop, Show, Bytes, Toclient, Toserver, At, End}
 use Rattle.q3_script.specs.Grammar.{TimesRise, EndsLast}
-use Rattle.q3_node.specs.Node.{Rules, Node, Turn, Turned, due_at, time_behind, is_end, start_at, due, line_turn, receive_turn, turn_of, turn_at, turns_of, arrivals_after, did_end}
-use Rattle.q3_node.specs.Running.{readings_behind}
+use Rattle.q3_node.specs.Node.{Rules, Node, Turn, Turned, due_at, time_after, is_end, start_at, due, line_turn, receive_turn, turn_of, turn_at, turns_of, arrivals_after, did_end}
+use Rattle.q3_node.specs.Running.{readings_later}
 use Rattle.q3_node.specs.Laws.{end_time, lines_done, EndIsDone}
 
 -- ---- lines and their times
 
 -- a line that says no time
 pub record Plain (event : Event) : Type 0 where
-  pub behind : (time : ℕ) → time_behind time event ≡ time
+  pub after : (time : ℕ) → time_after time event ≡ time
   pub due : (time : ℕ) → due_at time event ≡ time
   pub ends : is_end event ≡ false
   pub rise : (least : ℕ) (events : List Event) → TimesRise least (event ∷ events) → TimesRise least events
@@ -26,28 +26,28 @@ pub record Plain (event : Event) : Type 0 where
 
 line_sort : (event : Event) → (((ms : ℕ) × (event ≡ End ms)) ⊎ ((ms : ℕ) × (event ≡ At ms))) ⊎ Plain event
 unfolding end_time
-line_sort (Client c challenge qport dup address) = inr (record { behind = λ t. refl; due = λ t. refl; ends = refl; rise = λ l es is. is; last = λ es is. is; time = λ es. refl })
-line_sort (Port c port) = inr (record { behind = λ t. refl; due = λ t. refl; ends = refl; rise = λ l es is. is; last = λ es is. is; time = λ es. refl })
-line_sort (Map id feed) = inr (record { behind = λ t. refl; due = λ t. refl; ends = refl; rise = λ l es is. is; last = λ es is. is; time = λ es. refl })
-line_sort (Entity state) = inr (record { behind = λ t. refl; due = λ t. refl; ends = refl; rise = λ l es is. is; last = λ es is. is; time = λ es. refl })
-line_sort (Remove number) = inr (record { behind = λ t. refl; due = λ t. refl; ends = refl; rise = λ l es is. is; last = λ es is. is; time = λ es. refl })
-line_sort (Baseline state) = inr (record { behind = λ t. refl; due = λ t. refl; ends = refl; rise = λ l es is. is; last = λ es is. is; time = λ es. refl })
-line_sort (Player c player) = inr (record { behind = λ t. refl; due = λ t. refl; ends = refl; rise = λ l es is. is; last = λ es is. is; time = λ es. refl })
-line_sort (Area c area) = inr (record { behind = λ t. refl; due = λ t. refl; ends = refl; rise = λ l es is. is; last = λ es is. is; time = λ es. refl })
-line_sort (Time time) = inr (record { behind = λ t. refl; due = λ t. refl; ends = refl; rise = λ l es is. is; last = λ es is. is; time = λ es. refl })
-line_sort (Config index text) = inr (record { behind = λ t. refl; due = λ t. refl; ends = refl; rise = λ l es is. is; last = λ es is. is; time = λ es. refl })
-line_sort (Say c text) = inr (record { behind = λ t. refl; due = λ t. refl; ends = refl; rise = λ l es is. is; last = λ es is. is; time = λ es. refl })
-line_sort (TypeText c text) = inr (record { behind = λ t. refl; due = λ t. refl; ends = refl; rise = λ l es is. is; last = λ es is. is; time = λ es. refl })
-line_sort (Move c one) = inr (record { behind = λ t. refl; due = λ t. refl; ends = refl; rise = λ l es is. is; last = λ es is. is; time = λ es. refl })
-line_sort (Serve c) = inr (record { behind = λ t. refl; due = λ t. refl; ends = refl; rise = λ l es is. is; last = λ es is. is; time = λ es. refl })
-line_sort (Send c) = inr (record { behind = λ t. refl; due = λ t. refl; ends = refl; rise = λ l es is. is; last = λ es is. is; time = λ es. refl })
-line_sort (Deliver datagram) = inr (record { behind = λ t. refl; due = λ t. refl; ends = refl; rise = λ l es is. is; last = λ es is. is; time = λ es. refl })
-line_sort (RecordTo c name) = inr (record { behind = λ t. refl; due = λ t. refl; ends = refl; rise = λ l es is. is; last = λ es is. is; time = λ es. refl })
-line_sort (Stop c) = inr (record { behind = λ t. refl; due = λ t. refl; ends = refl; rise = λ l es is. is; last = λ es is. is; time = λ es. refl })
-line_sort (Show c) = inr (record { behind = λ t. refl; due = λ t. refl; ends = refl; rise = λ l es is. is; last = λ es is. is; time = λ es. refl })
-line_sort (Bytes datagram) = inr (record { behind = λ t. refl; due = λ t. refl; ends = refl; rise = λ l es is. is; last = λ es is. is; time = λ es. refl })
-line_sort (Toclient c bytes) = inr (record { behind = λ t. refl; due = λ t. refl; ends = refl; rise = λ l es is. is; last = λ es is. is; time = λ es. refl })
-line_sort (Toserver c bytes) = inr (record { behind = λ t. refl; due = λ t. refl; ends = refl; rise = λ l es is. is; last = λ es is. is; time = λ es. refl })
+line_sort (Client c challenge qport dup address) = inr (record { after = λ t. refl; due = λ t. refl; ends = refl; rise = λ l es is. is; last = λ es is. is; time = λ es. refl })
+line_sort (Port c port) = inr (record { after = λ t. refl; due = λ t. refl; ends = refl; rise = λ l es is. is; last = λ es is. is; time = λ es. refl })
+line_sort (Map id feed) = inr (record { after = λ t. refl; due = λ t. refl; ends = refl; rise = λ l es is. is; last = λ es is. is; time = λ es. refl })
+line_sort (Entity state) = inr (record { after = λ t. refl; due = λ t. refl; ends = refl; rise = λ l es is. is; last = λ es is. is; time = λ es. refl })
+line_sort (Remove number) = inr (record { after = λ t. refl; due = λ t. refl; ends = refl; rise = λ l es is. is; last = λ es is. is; time = λ es. refl })
+line_sort (Baseline state) = inr (record { after = λ t. refl; due = λ t. refl; ends = refl; rise = λ l es is. is; last = λ es is. is; time = λ es. refl })
+line_sort (Player c player) = inr (record { after = λ t. refl; due = λ t. refl; ends = refl; rise = λ l es is. is; last = λ es is. is; time = λ es. refl })
+line_sort (Area c area) = inr (record { after = λ t. refl; due = λ t. refl; ends = refl; rise = λ l es is. is; last = λ es is. is; time = λ es. refl })
+line_sort (Time time) = inr (record { after = λ t. refl; due = λ t. refl; ends = refl; rise = λ l es is. is; last = λ es is. is; time = λ es. refl })
+line_sort (Config index text) = inr (record { after = λ t. refl; due = λ t. refl; ends = refl; rise = λ l es is. is; last = λ es is. is; time = λ es. refl })
+line_sort (Say c text) = inr (record { after = λ t. refl; due = λ t. refl; ends = refl; rise = λ l es is. is; last = λ es is. is; time = λ es. refl })
+line_sort (TypeText c text) = inr (record { after = λ t. refl; due = λ t. refl; ends = refl; rise = λ l es is. is; last = λ es is. is; time = λ es. refl })
+line_sort (Move c one) = inr (record { after = λ t. refl; due = λ t. refl; ends = refl; rise = λ l es is. is; last = λ es is. is; time = λ es. refl })
+line_sort (Serve c) = inr (record { after = λ t. refl; due = λ t. refl; ends = refl; rise = λ l es is. is; last = λ es is. is; time = λ es. refl })
+line_sort (Send c) = inr (record { after = λ t. refl; due = λ t. refl; ends = refl; rise = λ l es is. is; last = λ es is. is; time = λ es. refl })
+line_sort (Deliver datagram) = inr (record { after = λ t. refl; due = λ t. refl; ends = refl; rise = λ l es is. is; last = λ es is. is; time = λ es. refl })
+line_sort (RecordTo c name) = inr (record { after = λ t. refl; due = λ t. refl; ends = refl; rise = λ l es is. is; last = λ es is. is; time = λ es. refl })
+line_sort (Stop c) = inr (record { after = λ t. refl; due = λ t. refl; ends = refl; rise = λ l es is. is; last = λ es is. is; time = λ es. refl })
+line_sort (Show c) = inr (record { after = λ t. refl; due = λ t. refl; ends = refl; rise = λ l es is. is; last = λ es is. is; time = λ es. refl })
+line_sort (Bytes datagram) = inr (record { after = λ t. refl; due = λ t. refl; ends = refl; rise = λ l es is. is; last = λ es is. is; time = λ es. refl })
+line_sort (Toclient c bytes) = inr (record { after = λ t. refl; due = λ t. refl; ends = refl; rise = λ l es is. is; last = λ es is. is; time = λ es. refl })
+line_sort (Toserver c bytes) = inr (record { after = λ t. refl; due = λ t. refl; ends = refl; rise = λ l es is. is; last = λ es is. is; time = λ es. refl })
 line_sort (At ms) = inl (inr (ms, refl))
 line_sort (End ms) = inl (inl (ms, refl))
 
@@ -95,14 +95,14 @@ due_by_end time event events rise last =
       | inr plain ↦ rw (plain.due time) (times_least time (event ∷ events) rise last)
     ]
 
--- behind a line that isn't `end`
-pub record Behind (before : ℕ) (event : Event) (events : List Event) : Type 0 where
-  pub rise : TimesRise (time_behind before event) events
+-- after a line that isn't `end`
+pub record AfterLine (before : ℕ) (event : Event) (events : List Event) : Type 0 where
+  pub rise : TimesRise (time_after before event) events
   pub last : EndsLast events
   pub time : end_time (event ∷ events) ≡ end_time events
 
-behind_line : (time : ℕ) (event : Event) (events : List Event) → is_end event ≡ false → TimesRise time (event ∷ events) → EndsLast (event ∷ events) → Behind time event events
-behind_line time event events goes rise last =
+after_line : (time : ℕ) (event : Event) (events : List Event) → is_end event ≡ false → TimesRise time (event ∷ events) → EndsLast (event ∷ events) → AfterLine time event events
+after_line time event events goes rise last =
     elim (line_sort event) [
       | inl says ↦ elim says [
         | inl end ↦ (
@@ -112,15 +112,15 @@ behind_line time event events goes rise last =
         | inr at ↦ (
             let rises = subst (λ (e : Event). TimesRise time (e ∷ events)) at.1 rise in
             let ends = subst (λ (e : Event). EndsLast (e ∷ events)) at.1 last in
-            subst (λ (e : Event). Behind time e events) (sym at.1) (record { rise = rises.1; last = ends; time = at_time at.0 events })
+            subst (λ (e : Event). AfterLine time e events) (sym at.1) (record { rise = rises.1; last = ends; time = at_time at.0 events })
             )
       ]
-      | inr plain ↦ record { rise = rw (plain.behind time) (plain.rise time events rise); last = plain.last events last; time = plain.time events }
+      | inr plain ↦ record { rise = rw (plain.after time) (plain.rise time events rise); last = plain.last events last; time = plain.time events }
     ]
 
 -- ---- one turn
 
--- a turn that didn't do `end`: the lines behind it still rise up to the same `end`; it did a line, or the next isn't due yet
+-- a turn that didn't do `end`: the lines after it still rise up to the same `end`; it did a line, or the next isn't due yet
 pub record Passed {S : Type 0} (left : List Event) (start ms : ℕ) (now : Turned S) : Type 0 where
   pub starts : now.node.start ≡ Some start
   pub rise : TimesRise now.node.time now.node.left
@@ -132,13 +132,13 @@ pub record Passed {S : Type 0} (left : List Event) (start ms : ℕ) (now : Turne
 line_passed : {S : Type 0} (rules : Rules S) (node : Node S) (start ms : ℕ) (event : Event) (events : List Event) → node.start ≡ Some start → node.left ≡ event ∷ events
     → is_end event ≡ false → TimesRise node.time (event ∷ events) → EndsLast (event ∷ events) → Passed (event ∷ events) start ms (line_turn rules node event)
 line_passed rules node start ms event events starts left goes rise last =
-    let behind = behind_line node.time event events goes rise last in
+    let after = after_line node.time event events goes rise last in
     let rest : drop 1 node.left ≡ events = ap (λ (l : List Event). drop 1 l) left in
     record {
       starts = starts;
-      rise = rw rest behind.rise;
-      last = rw rest behind.last;
-      time = rw rest (sym behind.time);
+      rise = rw rest after.rise;
+      last = rw rest after.last;
+      time = rw rest (sym after.time);
       count = rw rest (omega arith);
       waits = λ is. absurd cc;
     }
@@ -190,19 +190,19 @@ none_done : (count : ℕ) → lines_done (take count []) ≡ 0
 none_done zero = refl
 none_done (suc count) = refl
 
-all_done : {S : Type 0} (rules : Rules S) (count : ℕ) (node : Node S) (readings : List ℕ) (arrivals : List (Option Parcel)) (behind start : ℕ)
+all_done : {S : Type 0} (rules : Rules S) (count : ℕ) (node : Node S) (readings : List ℕ) (arrivals : List (Option Parcel)) (after start : ℕ)
     → start_at node.start (reading_of readings) ≡ start → TimesRise node.time node.left → EndsLast node.left → DontFall start readings
-    → end_time node.left ≤ reading_of (readings_behind behind readings) - start
-    → length node.left ≤ (count - behind) + lines_done (take behind (turns_of count rules node readings arrivals))
+    → end_time node.left ≤ reading_of (readings_later after readings) - start
+    → length node.left ≤ (count - after) + lines_done (take after (turns_of count rules node readings arrivals))
     → did_end (turns_of count rules node readings arrivals) ≡ true
-unfolding turns_of readings_behind
-all_done rules zero node readings arrivals behind start starts rise last fall reaches room =
-    no_line node.left last (let none = none_done behind in omega (arith, none, room))
+unfolding turns_of readings_later
+all_done rules zero node readings arrivals after start starts rise last fall reaches room =
+    no_line node.left last (let none = none_done after in omega (arith, none, room))
   where
     no_line : {A : Type 0} (left : List Event) → EndsLast left → length left ≤ 0 → A
     no_line [] last few = absurd last
     no_line (event ∷ events) last few = absurd (omega (arith, few))
-all_done {S} rules (suc count) node readings arrivals behind start starts rise last fall reaches room =
+all_done {S} rules (suc count) node readings arrivals after start starts rise last fall reaches room =
     let now : Turned S = turn_at rules node (reading_of readings) (next_of arrivals) in
     elim (cases_Bool now.turn.ended) [
       | inl ends ↦ rw ends refl
@@ -212,21 +212,21 @@ all_done {S} rules (suc count) node readings arrivals behind start starts rise l
           let passed = subst (λ (t : Turned S). Passed node.left start (reading_of readings - start) t) (sym same)
           (turn_passed rules begun start (reading_of readings - start) node.left (next_of arrivals) refl refl rise last (subst (λ (t : Turned S). t.turn.ended ≡ false) same goes)) in
           let arrive = arrivals_after now.turn arrivals in
-          let again = λ (b : ℕ) (reaches : end_time now.node.left ≤ reading_of (readings_behind b (readings_after readings)) - start)
+          let again = λ (b : ℕ) (reaches : end_time now.node.left ≤ reading_of (readings_later b (readings_after readings)) - start)
           (room : length now.node.left ≤ (count - b) + lines_done (take b (turns_of count rules now.node (readings_after readings) arrive))).
           all_done rules count now.node (readings_after readings) arrive b start (rw passed.starts refl) passed.rise passed.last (fall_after start readings fall) reaches room in
-          let others : did_end (turns_of count rules now.node (readings_after readings) arrive) ≡ true = on behind now arrive again passed (rw goes at room) reaches in
+          let others : did_end (turns_of count rules now.node (readings_after readings) arrive) ≡ true = on after now arrive again passed (rw goes at room) reaches in
           rw goes others
           )
     ]
   where
-    on : (behind : ℕ) (now : Turned S) (arrive : List (Option Parcel))
-        → ((b : ℕ) → end_time now.node.left ≤ reading_of (readings_behind b (readings_after readings)) - start
+    on : (after : ℕ) (now : Turned S) (arrive : List (Option Parcel))
+        → ((b : ℕ) → end_time now.node.left ≤ reading_of (readings_later b (readings_after readings)) - start
         → length now.node.left ≤ (count - b) + lines_done (take b (turns_of count rules now.node (readings_after readings) arrive))
         → did_end (turns_of count rules now.node (readings_after readings) arrive) ≡ true)
         → Passed node.left start (reading_of readings - start) now
-        → length node.left ≤ (suc count - behind) + lines_done (take behind (now.turn ∷ turns_of count rules now.node (readings_after readings) arrive))
-        → end_time node.left ≤ reading_of (readings_behind behind readings) - start
+        → length node.left ≤ (suc count - after) + lines_done (take after (now.turn ∷ turns_of count rules now.node (readings_after readings) arrive))
+        → end_time node.left ≤ reading_of (readings_later after readings) - start
         → did_end (turns_of count rules now.node (readings_after readings) arrive) ≡ true
     on zero now arrive again passed room reaches =
         elim (cases_Bool now.turn.received) [
@@ -251,6 +251,6 @@ all_done {S} rules (suc count) node readings arrivals behind start starts rise l
 
 pub end_is_done : {S : Type 0} (rules : Rules S) → EndIsDone rules
 end_is_done rules = record {
-  done = λ count node readings arrivals behind rise last fall reaches room.
-      all_done rules count node readings arrivals behind (start_at node.start (reading_of readings)) refl rise last fall reaches room;
+  done = λ count node readings arrivals after rise last fall reaches room.
+      all_done rules count node readings arrivals after (start_at node.start (reading_of readings)) refl rise last fall reaches room;
 }

@@ -17,7 +17,7 @@ use Rattle.q3_script.specs.declared.event.Event.{Event}
 use Rattle.q3_node.specs.declared.error.NodeError.{NodeError}
 use Rattle.q3_node.specs.declared.error.NodeError.TheVariants.{NoMemory, WireFault, WriteFault, FileFault, Turns}
 use Rattle.q3_node.specs.Node.{Rules, Node, Turn, Turned, cut_to_room, due, start_at, turn_of, turn_at, most_turns, turns_of, arrivals_after, did_end, answer_text, parcels_of, acts_of, want_memory}
-use Rattle.q3_node.specs.Running.{ToArrive, ToRead, Effects, all_acts, wire_behind, traffic_behind, Leaves, readings_behind, clock_behind, Ran, EndsIn, RanNode, RanBound, StaysFlushed, Finds, TakesTurn}
+use Rattle.q3_node.specs.Running.{ToArrive, ToRead, Effects, all_acts, wire_after, traffic_after, Leaves, readings_later, clock_after, Ran, EndsIn, RanNode, RanBound, StaysFlushed, Finds, TakesTurn}
 use Rattle.q3_node.proofs.Parts.{nothing_done}
 
 -- ---- what is still to come, before a turn
@@ -49,30 +49,30 @@ some_read None = (0 ∷ [], omega arith)
 some_read (Some told) = (told, refl)
 
 -- one reading more was taken
-one_behind : (readings : List ℕ) (count : ℕ) → readings_after (readings_behind count readings) ≡ readings_behind (suc count) readings
-unfolding readings_behind
-one_behind readings zero = refl
-one_behind readings (suc count) = one_behind (readings_after readings) count
+one_further : (readings : List ℕ) (count : ℕ) → readings_after (readings_later count readings) ≡ readings_later (suc count) readings
+unfolding readings_later
+one_further readings zero = refl
+one_further readings (suc count) = one_further (readings_after readings) count
 
 plus_one : (n : ℕ) → suc n ≡ n + 1
 plus_one n = omega arith
 
-next_clock : (started clock new : Option (List ℕ)) (count reading : ℕ) → clock ≡ clock_behind started count → Reads clock new reading → new ≡ clock_behind started (count + 1)
+next_clock : (started clock new : Option (List ℕ)) (count reading : ℕ) → clock ≡ clock_after started count → Reads clock new reading → new ≡ clock_after started (count + 1)
 next_clock None clock new count reading same read = subst (λ (c : Option (List ℕ)). Reads c new reading) same read
 next_clock (Some readings) clock new count reading same read =
     let is = subst (λ (c : Option (List ℕ)). Reads c new reading) same read in
-    is.1 ∙ ap (λ (rs : List ℕ). Some rs) (one_behind readings count ∙ ap (λ (n : ℕ). readings_behind n readings) (plus_one count))
+    is.1 ∙ ap (λ (rs : List ℕ). Some rs) (one_further readings count ∙ ap (λ (n : ℕ). readings_later n readings) (plus_one count))
 
-clock_none : (started : Option (List ℕ)) → started ≡ clock_behind started 0
-unfolding readings_behind
+clock_none : (started : Option (List ℕ)) → started ≡ clock_after started 0
+unfolding readings_later
 clock_none None = refl
 clock_none (Some readings) = refl
 
--- behind one turn more
-turn_clock : (started clock new : Option (List ℕ)) (turns : List Turn) (turn : Turn) (reading : ℕ) → clock ≡ clock_behind started (length turns) → Reads clock new reading
-    → new ≡ clock_behind started (length (turns ++ (turn ∷ [])))
+-- after one turn more
+turn_clock : (started clock new : Option (List ℕ)) (turns : List Turn) (turn : Turn) (reading : ℕ) → clock ≡ clock_after started (length turns) → Reads clock new reading
+    → new ≡ clock_after started (length (turns ++ (turn ∷ [])))
 turn_clock started clock new turns turn reading same read =
-    next_clock started clock new (length turns) reading same read ∙ ap (λ (n : ℕ). clock_behind started n) (sym (length-append turns (turn ∷ [])))
+    next_clock started clock new (length turns) reading same read ∙ ap (λ (n : ℕ). clock_after started n) (sym (length-append turns (turn ∷ [])))
 
 -- arrivals that a turn leaves so
 pub record BackArrive (are : Option Traffic) (now : Turn) (found : Option Parcel) (arrivals : List (Option Parcel)) : Type 0 where
@@ -86,11 +86,11 @@ untold_arrive now found arrivals true e = record { all = found ∷ arrivals; to_
 untold_arrive now found arrivals false e = record { all = arrivals; to_arrive = tt; first = λ is. absurd cc; others = rw e refl }
 
 told_arrive : (now : Turn) (traffic : Traffic) (arrivals : List (Option Parcel)) (received : Bool) → now.received ≡ received
-    → arrivals ≡ (traffic_behind traffic (now ∷ [])).arrivals → arrivals_after now traffic.arrivals ≡ arrivals
+    → arrivals ≡ (traffic_after traffic (now ∷ [])).arrivals → arrivals_after now traffic.arrivals ≡ arrivals
 told_arrive now traffic arrivals true e to = rw (to, e) refl
 told_arrive now traffic arrivals false e to = rw (to, e) refl
 
-back_arrive : (now : Turn) (are new : Option Traffic) (found : Option Parcel) (arrivals : List (Option Parcel)) → new ≡ wire_behind are (now ∷ [])
+back_arrive : (now : Turn) (are new : Option Traffic) (found : Option Parcel) (arrivals : List (Option Parcel)) → new ≡ wire_after are (now ∷ [])
     → Finds now are found → ToArrive new arrivals → BackArrive are now found arrivals
 back_arrive now None new found arrivals same finds to = untold_arrive now found arrivals now.received refl
 back_arrive now (Some traffic) new found arrivals same finds to = record {
@@ -117,20 +117,20 @@ to_find (Some traffic) found now finds = record { all = traffic.arrivals; to_arr
 
 -- ---- what turns leave
 
-wire_none : (told : Option Traffic) → told ≡ wire_behind told []
+wire_none : (told : Option Traffic) → told ≡ wire_after told []
 wire_none None = refl
 wire_none (Some traffic) = ap (λ (sent : List Parcel). Some (record traffic { sent = sent })) (sym (append-nil traffic.sent))
 
-behind_both : (traffic : Traffic) (turns more : List Turn) → traffic_behind (traffic_behind traffic turns) more ≡ traffic_behind traffic (turns ++ more)
-behind_both traffic turns more =
+both_after : (traffic : Traffic) (turns more : List Turn) → traffic_after (traffic_after traffic turns) more ≡ traffic_after traffic (turns ++ more)
+both_after traffic turns more =
     ap₂ (λ (arrivals : List (Option Parcel)) (sent : List Parcel). record traffic { arrivals = arrivals; sent = sent })
     (drop-drop (count_by (λ (t : Turn). t.received) more) (count_by (λ (t : Turn). t.received) turns) traffic.arrivals
     ∙ ap (λ (n : ℕ). drop n traffic.arrivals) (sym (sum_by-append (λ (t : Turn). cond t.received 1 0) turns more)))
     (append_assoc traffic.sent (parcels_of turns) (parcels_of more) ∙ ap (λ (sent : List Parcel). traffic.sent ++ sent) (sym (flat_map-append (λ (t : Turn). option_to_list t.sends) turns more)))
 
-wire_both : (told : Option Traffic) (turns more : List Turn) → wire_behind (wire_behind told turns) more ≡ wire_behind told (turns ++ more)
+wire_both : (told : Option Traffic) (turns more : List Turn) → wire_after (wire_after told turns) more ≡ wire_after told (turns ++ more)
 wire_both None turns more = refl
-wire_both (Some traffic) turns more = ap Some (behind_both traffic turns more)
+wire_both (Some traffic) turns more = ap Some (both_after traffic turns more)
 
 -- one after the other
 acts_over : (told : Told) (first second : List FileAct) → after_acts told (first ++ second) ≡ after_acts (after_acts told first) second
@@ -149,7 +149,7 @@ leaves_none law before = record { printed = law.none; wire = wire_none before.wi
 leaves_both : (law : TextsFollow) (turns more : List Turn) (all : Bool) (before mid after : Effects) → Leaves turns true before mid → Leaves more all mid after → Leaves (turns ++ more) all before after
 leaves_both law turns more all before mid after first behind = record {
   printed = law.more first.printed behind.printed (flat_map-append (λ (t : Turn). answer_text t.answer) turns more);
-  wire = behind.wire ∙ ap (λ (w : Option Traffic). wire_behind w more) first.wire ∙ wire_both before.wire turns more;
+  wire = behind.wire ∙ ap (λ (w : Option Traffic). wire_after w more) first.wire ∙ wire_both before.wire turns more;
   files = rw (flat_map-append (λ (t : Turn). t.acts) turns more) (acts_both before.files mid.files after.files (acts_of turns) (acts_of more) first.files behind.files);
 }
 
@@ -167,7 +167,7 @@ same_turn : {S : Type 0} (rules : Rules S) (node : Node S) (reading : ℕ) (foun
 same_turn rules node reading found other same =
     same_turn_of rules (record node { start = Some (start_at node.start reading) }) (due node.time (reading - start_at node.start reading) node.left) found other same
 
--- the turns from here on: this one, and those behind it
+-- the turns from here on: this one, and those after it
 first_turn : {S : Type 0} (count : ℕ) (rules : Rules S) (node : Node S) (readings : List ℕ) (arrivals : List (Option Parcel)) (reading : ℕ) (found : Option Parcel)
     → reading_of readings ≡ reading → ((turn_at rules node reading found).turn.received ≡ true → next_of arrivals ≡ found)
     → turns_of (suc count) rules node readings arrivals
@@ -192,7 +192,7 @@ pub record Going {S : Type 0} (rules : Rules S) (count : ℕ) (first now : Node 
   pub turns : List Turn
   pub leaves : Leaves turns true before after
   pub unended : did_end turns ≡ false
-  pub read : clock ≡ clock_behind started (length turns)
+  pub read : clock ≡ clock_after started (length turns)
   pub whole : (readings : List ℕ) (arrivals : List (Option Parcel)) → ToRead clock readings → ToArrive after.wire arrivals
       → Whole rules count first now started before.wire turns (turns_of count rules now readings arrivals)
 
@@ -208,7 +208,7 @@ begins {S} law rules node clock before = record {
 -- one more turn, which isn't the last
 goes_whole : {S : Type 0} (rules : Rules S) (count : ℕ) (first now : Node S) (started clock new : Option (List ℕ)) (before mid : Effects) (are : Option Traffic)
     → (going : Going rules (suc count) first now started clock before mid) → (reading : ℕ) (found : Option Parcel) → Reads clock new reading
-    → are ≡ wire_behind mid.wire ((turn_at rules now reading found).turn ∷ []) → Finds (turn_at rules now reading found).turn mid.wire found
+    → are ≡ wire_after mid.wire ((turn_at rules now reading found).turn ∷ []) → Finds (turn_at rules now reading found).turn mid.wire found
     → (readings : List ℕ) (arrivals : List (Option Parcel)) → ToRead new readings → ToArrive are arrivals
     → Whole rules count first now started before.wire (going.turns ++ ((turn_at rules now reading found).turn ∷ []))
     (if (turn_at rules now reading found).turn.ended then [] else turns_of count rules (turn_at rules now reading found).node readings arrivals)
@@ -394,7 +394,7 @@ none_wants {S} rules none (suc count) node readings arrivals =
     behind rest true others = refl
     behind rest false others = others
 
--- so it doesn't run out of it behind its address
+-- so it doesn't run out of it after its address
 pub keeps_memory : {S : Type 0} (rules : Rules S) → ((end : S) (event : Event) (number : ℕ) → (rules.line end event number).memory ≡ false)
     → (bound : Bool) (node : Node S) (at : Address) (clock now : Option (List ℕ)) (before after : Effects) → RanBound bound rules node at clock now before after (Err NoMemory) → bound ≡ false
 keeps_memory rules none false node at clock now before after ran = refl

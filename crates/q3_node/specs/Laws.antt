@@ -7,7 +7,7 @@ use Rattle.q3_script.specs.declared.event.Event.{Event}
 use Rattle.q3_script.specs.declared.event.Event.TheVariants.{End}
 use Rattle.q3_script.specs.Grammar.{TimesRise, EndsLast}
 use Rattle.q3_node.specs.Node.{Rules, Node, Turn, start_at, turns_of, did_end, acts_of, want_memory}
-use Rattle.q3_node.specs.Running.{readings_behind}
+use Rattle.q3_node.specs.Running.{readings_later}
 
 -- the time of `end`, which is the last line
 unfoldable pub end_time : List Event → ℕ
@@ -15,20 +15,20 @@ end_time [] = 0
 end_time (End ms ∷ events) = ms
 end_time (event ∷ events) = end_time events
 
--- the reading behind so many others, in milliseconds since the node's first
+-- the reading after so many others, in milliseconds since the node's first
 abbrev pub clock_at : {S : Type 0} → Node S → List ℕ → ℕ → ℕ
-clock_at node readings count = reading_of (readings_behind count readings) - start_at node.start (reading_of readings)
+clock_at node readings count = reading_of (readings_later count readings) - start_at node.start (reading_of readings)
 
 -- how many of these turns did a line
 abbrev pub lines_done : List Turn → ℕ
 lines_done turns = count_by (λ (turn : Turn). not turn.received) turns
 
--- where the clock never goes back, and reaches the time of `end` behind some turns while a turn is left for each line that is left then,
+-- where the clock never goes back, and reaches the time of `end` after some turns while a turn is left for each line that is left then,
 -- `end` is done in one of the turns
 pub record EndIsDone {S : Type 0} (rules : Rules S) : Type 0 where
-  pub done : (count : ℕ) (node : Node S) (readings : List ℕ) (arrivals : List (Option Parcel)) (behind : ℕ) → TimesRise node.time node.left → EndsLast node.left
-      → DontFall (start_at node.start (reading_of readings)) readings → end_time node.left ≤ clock_at node readings behind
-      → length node.left ≤ (count - behind) + lines_done (take behind (turns_of count rules node readings arrivals))
+  pub done : (count : ℕ) (node : Node S) (readings : List ℕ) (arrivals : List (Option Parcel)) (after : ℕ) → TimesRise node.time node.left → EndsLast node.left
+      → DontFall (start_at node.start (reading_of readings)) readings → end_time node.left ≤ clock_at node readings after
+      → length node.left ≤ (count - after) + lines_done (take after (turns_of count rules node readings arrivals))
       → did_end (turns_of count rules node readings arrivals) ≡ true
 
 -- none of its turns does anything to files, or wants memory

@@ -12,7 +12,7 @@ use Rattle.q3_report.specs.Answers.{Answered}
 use Rattle.q3_report.specs.AnswerLines.{lines_of}
 use Rattle.q3_io.specs.Acts.{FileAct}
 
--- what an end does at a line: the end behind it, its answer, if it gives one, the datagram that it sends, if it makes one, and what it does
+-- what an end does at a line: the end after it, its answer, if it gives one, the datagram that it sends, if it makes one, and what it does
 -- to files; and whether it wants memory
 pub record LineDone (S : Type 0) : Type 0 where
   pub end : S
@@ -62,7 +62,7 @@ pub record Turn : Type 0 where
 abbrev pub uses_wire : Turn → Bool
 uses_wire turn = turn.received || is_some turn.sends
 
--- with the node behind it
+-- with the node after it
 pub record Turned (S : Type 0) : Type 0 where
   pub node : Node S
   pub turn : Turn
@@ -74,10 +74,10 @@ abbrev pub due_at : ℕ → Event → ℕ
 due_at time (End ms) = ms
 due_at time other = time
 
--- the time behind a line
-abbrev pub time_behind : ℕ → Event → ℕ
-time_behind time (At ms) = ms
-time_behind time other = time
+-- the time after a line
+abbrev pub time_after : ℕ → Event → ℕ
+time_after time (At ms) = ms
+time_after time other = time
 
 abbrev pub is_end : Event → Bool
 is_end (End ms) = true
@@ -112,7 +112,7 @@ abbrev pub line_turn : {S : Type 0} → Rules S → Node S → Event → Turned 
 line_turn rules node event =
     let done = rules.line node.end event (node.made + 1) in
     record {
-      node = record node { end = done.end; left = drop 1 node.left; time = time_behind node.time event; made = made_with node.made done.sends };
+      node = record node { end = done.end; left = drop 1 node.left; time = time_after node.time event; made = made_with node.made done.sends };
       turn = record { answer = done.answer; sends = done.sends; acts = done.acts; memory = done.memory; received = false; ended = is_end event };
     }
 
@@ -148,7 +148,7 @@ turn_at rules node reading found =
 abbrev pub most_turns : ℕ
 most_turns = 10000000
 
--- what is still to arrive behind a turn
+-- what is still to arrive after a turn
 abbrev pub arrivals_after : Turn → List (Option Parcel) → List (Option Parcel)
 arrivals_after turn arrivals = if turn.received then drop 1 arrivals else arrivals
 

@@ -39,15 +39,15 @@ pub record Effects : Type 0 where
 abbrev pub effects : Option Written → Option Traffic → Option Told → Effects
 effects written wire files = record { written = written; wire = wire; files = files }
 
--- what is told of a wire behind turns
-abbrev pub traffic_behind : Traffic → List Turn → Traffic
-traffic_behind traffic turns = record traffic {
+-- what is told of a wire after turns
+abbrev pub traffic_after : Traffic → List Turn → Traffic
+traffic_after traffic turns = record traffic {
   arrivals = drop (count_by (λ (turn : Turn). turn.received) turns) traffic.arrivals;
   sent = traffic.sent ++ parcels_of turns;
 }
 
-abbrev pub wire_behind : Option Traffic → List Turn → Option Traffic
-wire_behind told turns = option_map (λ traffic. traffic_behind traffic turns) told
+abbrev pub wire_after : Option Traffic → List Turn → Option Traffic
+wire_after told turns = option_map (λ traffic. traffic_after traffic turns) told
 
 -- acts that failed, or that were all done
 abbrev pub failed_act : Result (Unit {0}) Failed
@@ -59,22 +59,22 @@ all_acts = Ok tt
 -- the text of turns was printed, or a front of it; what they send was sent, and what they do to files was done
 pub record Leaves (turns : List Turn) (all : Bool) (before after : Effects) : Type 0 where
   pub printed : Wrote before.written after.written (text_of turns) all
-  pub wire : after.wire ≡ wire_behind before.wire turns
+  pub wire : after.wire ≡ wire_after before.wire turns
   pub files : ActsOn before.files after.files (acts_of turns) all_acts
 
 -- readings of which so many were taken
-unfoldable pub readings_behind : ℕ → List ℕ → List ℕ
-readings_behind zero readings = readings
-readings_behind (suc count) readings = readings_behind count (readings_after readings)
+unfoldable pub readings_later : ℕ → List ℕ → List ℕ
+readings_later zero readings = readings
+readings_later (suc count) readings = readings_later count (readings_after readings)
 
 -- what is told of a clock then
-abbrev pub clock_behind : Option (List ℕ) → ℕ → Option (List ℕ)
-clock_behind told count = option_map (λ readings. readings_behind count readings) told
+abbrev pub clock_after : Option (List ℕ) → ℕ → Option (List ℕ)
+clock_after told count = option_map (λ readings. readings_later count readings) told
 
 -- all of these turns passed: each took one reading
 pub record Passes (turns : List Turn) (clock now : Option (List ℕ)) (before after : Effects) : Type 0 where
   pub leaves : Leaves turns true before after
-  pub read : now ≡ clock_behind clock (length turns)
+  pub read : now ≡ clock_after clock (length turns)
 
 -- what a turn left in which a node ended early: memory ran out in one that wants some, or the wire failed in one that uses it, and it did
 -- nothing; or the sink took a front of its lines, and the rest was done; or one of its acts failed, those before it were done, and nothing was
@@ -84,10 +84,10 @@ StopsBy NoMemory turn before after = (turn.memory ≡ true) × (after ≡ before
 StopsBy WireFault turn before after = (uses_wire turn ≡ true) × (after ≡ before)
 StopsBy WriteFault turn before after = Leaves (turn ∷ []) false before after
 StopsBy FileFault turn before after =
-    (turn.acts ≢ []) × (after.written ≡ before.written) × (after.wire ≡ wire_behind before.wire (turn ∷ [])) × ActsOn before.files after.files turn.acts failed_act
+    (turn.acts ≢ []) × (after.written ≡ before.written) × (after.wire ≡ wire_after before.wire (turn ∷ [])) × ActsOn before.files after.files turn.acts failed_act
 StopsBy Turns turn before after = ⊥
 
--- the first of these turns passed, their lines were handed on, and in the one behind them the node ended early
+-- the first of these turns passed, their lines were handed on, and in the one after them the node ended early
 pub record EndsIn (turns : List Turn) (e : NodeError) (clock now : Option (List ℕ)) (before after : Effects) : Type 0 where
   pub first : List Turn
   pub last : Turn
@@ -97,9 +97,9 @@ pub record EndsIn (turns : List Turn) (e : NodeError) (clock now : Option (List 
   pub passed : Leaves first true before mid
   pub flushed : NothingWaits before.written → NothingWaits mid.written
   pub stops : StopsBy e last mid after
-  pub read : now ≡ clock_behind clock (length first + 1)
+  pub read : now ≡ clock_after clock (length first + 1)
 
--- a node with these turns did `end` in the last of them; or had as many as may be, and in none did `end`; or the outside ended it behind
+-- a node with these turns did `end` in the last of them; or had as many as may be, and in none did `end`; or the outside ended it after
 -- the first of them
 abbrev pub Ran : List Turn → Option (List ℕ) → Option (List ℕ) → Effects → Effects → Result (Unit {0}) NodeError → Type 0
 Ran turns clock now before after (Ok x) = (did_end turns ≡ true) × Passes turns clock now before after
@@ -209,7 +209,7 @@ pub record TakesTurn {S : Type 0} (rules : Rules S) (old new : Node S) (clock cl
 abbrev pub node_of : {S : Type 0} → S → List Event → Course → Node S
 node_of end events course = record { end = end; left = drop course.next events; time = course.time; start = course.start; made = course.made }
 
--- the next line is one of the lines, or behind the last; and no line made more than one datagram
+-- the next line is one of the lines, or past the last; and no line made more than one datagram
 pub record IsOn (events : List Event) (course : Course) : Type 0 where
   pub next : course.next ≤ length events
   pub made : course.made ≤ course.next

@@ -7,7 +7,7 @@ ghost use Rattle.q3_script.specs.declared.event.Event.{Event as EventValue};
 ghost use Rattle.q3_script.specs.Grammar.{IsInRange};
 ghost use Rattle.q3_script.specs.Script.{most_events};
 ghost use Rattle.q3_node.specs.declared.turns.Course.{Course as CourseValue};
-ghost use Rattle.q3_node.specs.Node.{receive_room, due_at, time_behind, is_end, start_at, due, line_turn, receive_turn, new_node};
+ghost use Rattle.q3_node.specs.Node.{receive_room, due_at, time_after, is_end, start_at, due, line_turn, receive_turn, new_node};
 ghost use Rattle.q3_ends.specs.Recording.{HasFile};
 ghost use Rattle.q3_node.specs.Running.{effects, DoesTurn, TakesTurn, RanNode, StaysFlushed, node_of, IsOn, WireCause, WriteCause, FileCause};
 
@@ -78,12 +78,12 @@ impl Course {
         requires few { (self.old.next < most_events) × (self.old.made < most_events) }
         ensures { self.new ≡ record self.old {
           next = self.old.next + 1;
-          time = time_behind self.old.time event.now;
+          time = time_after self.old.time event.now;
           made = if made then self.old.made + 1 else self.old.made;
         } }
     {
         self.next += 1;
-        self.time = time_behind(self.time, event);
+        self.time = time_after(self.time, event);
         if made {
             self.made += 1;
         }
@@ -101,8 +101,8 @@ fn due_at(time: u32, event: &Event) -> u32
 }
 
 /// The time after a line.
-fn time_behind(time: u32, event: &Event) -> u32
-    ensures { result ≡ time_behind time event.now }
+fn time_after(time: u32, event: &Event) -> u32
+    ensures { result ≡ time_after time event.now }
 {
     match event {
         Event::At { ms } => *ms,

@@ -2,7 +2,7 @@
 use Rattle.std.proofs.Common.{◌≡◌, ◌==◌, ◌%◌, ◌/◌, ℕ, Bool, if◌then◌else◌, List, [], ◌∷◌, length, map, Ok, refl, sym, ◌∙◌, arith}
 use Rattle.std.proofs.lemmas.List.{length-map}
 use Rattle.std.specs.Int.{w32, cast_unsigned}
-use Rattle.q3_bits.specs.ResultBind.{◌>>=◌, left_of, bind_alike, bind_behind, if_alike, map_err_alike}
+use Rattle.q3_bits.specs.ResultBind.{◌>>=◌, left_of, bind_alike, bind_after, if_alike, map_err_alike}
 use Rattle.q3_bits.specs.Words.{field_at}
 use Rattle.q3_fields.specs.declared.kind.Kind.{Kind}
 use Rattle.q3_fields.specs.declared.delta.StateKind.TheVariants.{Player}
@@ -42,9 +42,9 @@ array_alike : (words : List (List Bool)) (kind : Kind) (from other : List ℕ) (
 unfolding array_at
 array_alike words kind from other bits long =
     let mask_at = λ (mark : ℕ × List Bool). if mark.0 == 0 then Ok (0, mark.1) else field_at words 16 mark.1 in
-    bind_behind (field_at words 1 bits) (λ mark. mask_at mark >>= λ mask. values_at words kind mask.0 from mask.1) (λ mark. mask_at mark >>= λ mask. values_at words kind mask.0 other mask.1)
+    bind_after (field_at words 1 bits) (λ mark. mask_at mark >>= λ mask. values_at words kind mask.0 from mask.1) (λ mark. mask_at mark >>= λ mask. values_at words kind mask.0 other mask.1)
     (λ mark.
-    bind_behind (mask_at mark) (λ mask. values_at words kind mask.0 from mask.1) (λ mask. values_at words kind mask.0 other mask.1)
+    bind_after (mask_at mark) (λ mask. values_at words kind mask.0 from mask.1) (λ mask. values_at words kind mask.0 other mask.1)
     (λ mask. places_alike words kind mask.0 from other mask.1 long))
 
 -- arrays of the same lengths
@@ -75,7 +75,7 @@ marked_alike : (words : List (List Bool)) (from other : PlayerState) (bits : Lis
     → left_of (marked_arrays_at words from bits) ≡ left_of (marked_arrays_at words other bits)
 unfolding marked_arrays_at all_arrays_at
 marked_alike words from other bits long =
-    bind_behind (field_at words 1 bits) (λ mark. if mark.0 == 0 then Ok (from, mark.1) else all_arrays_at words from mark.1)
+    bind_after (field_at words 1 bits) (λ mark. if mark.0 == 0 then Ok (from, mark.1) else all_arrays_at words from mark.1)
     (λ mark. if mark.0 == 0 then Ok (other, mark.1) else all_arrays_at words other mark.1)
     (λ mark.
     if_alike (mark.0 == 0) (Ok (from, mark.1)) (all_arrays_at words from mark.1) (Ok (other, mark.1)) (all_arrays_at words other mark.1) refl

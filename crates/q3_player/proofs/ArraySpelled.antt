@@ -25,7 +25,7 @@ use Rattle.q3_player.proofs.PlacesRead.{places_after_none}
 
 -- ---- places that are read
 
--- the places behind the first
+-- the places after the first
 abbrev others_at : List (List Bool) → Kind → ℕ → List ℕ → ℕ × List Bool → Result (List ℕ × List Bool) ReadError
 others_at words kind mask from first = values_at words kind mask from first.1 >>= λ others. Ok (first.0 ∷ others.0, others.1)
 
@@ -168,7 +168,7 @@ pub record ReadArray (words : List (List Bool)) (kind : Kind) (from : List ℕ) 
   pub kept : All (IsKept kind) found.0
   pub long : length found.0 ≡ 16
 
--- the mask behind a mark
+-- the mask after a mark
 abbrev mask_at : List (List Bool) → ℕ × List Bool → Result (ℕ × List Bool) ReadError
 mask_at words mark = cond (eqb mark.0 0) (Ok (0, mark.1)) (field_at words 16 mark.1)
 

@@ -45,10 +45,10 @@ rises-up most least (change ∷ others) rises = (omega (arith, rises.0), omega (
 pub rises-down : (most least : ℕ) (changed : List Change) → AreRising (suc most) (least + 1) changed → (lower : List Change) × (changed ≡ up lower) × AreRising most least lower
 rises-down most least [] rises = ([], refl, tt)
 rises-down most least (change ∷ others) rises =
-    let behind = rises-down most change.0 others rises.2 in
+    let after = rises-down most change.0 others rises.2 in
     let place : change.0 ≡ change.0 - 1 + 1 = omega (arith, rises.0) in
     let first : change ≡ (change.0 - 1 + 1, change.1) = ap (λ (n : ℕ). (n, change.1)) place in
-    ((change.0 - 1, change.1) ∷ behind.0, rw (behind.1, ← first) refl, (omega (arith, rises.0), omega (arith, rises.0, rises.1), subst (λ (n : ℕ). AreRising most n behind.0) place behind.2))
+    ((change.0 - 1, change.1) ∷ after.0, rw (after.1, ← first) refl, (omega (arith, rises.0), omega (arith, rises.0, rises.1), subst (λ (n : ℕ). AreRising most n after.0) place after.2))
 
 -- places below one more than most: the others are one higher than places below most, with or without the place 0
 pub record Splits (most : ℕ) (changed : List Change) : Type 0 where
@@ -58,8 +58,8 @@ pub record Splits (most : ℕ) (changed : List Change) : Type 0 where
 
 splits-at : (most place value : ℕ) (others : List Change) → AreRising (suc most) 0 ((place, value) ∷ others) → Splits most ((place, value) ∷ others)
 splits-at most zero value others rises =
-    let behind = rises-down most 0 others rises.2 in
-    record { lower = behind.0; rises = behind.2; is = inr (value, ap (λ (xs : List Change). (0, value) ∷ xs) behind.1) }
+    let after = rises-down most 0 others rises.2 in
+    record { lower = after.0; rises = after.2; is = inr (value, ap (λ (xs : List Change). (0, value) ∷ xs) after.1) }
 splits-at most (suc place) value others rises =
     let whole = rises-down most 0 ((suc place, value) ∷ others) (omega arith, rises.1, rises.2) in
     record { lower = whole.0; rises = whole.2; is = inl whole.1 }

@@ -115,9 +115,9 @@ record ReadArrays (words : List (List Bool)) (kinds : List Kind) (from : List (L
   spells : SpellsArrays words kinds from found.0 text
   are : AreArrays kinds found.0
 
--- how they go on behind the first
-abbrev others_behind : List (List Bool) → List Kind → List (List ℕ) → List ℕ × List Bool → Result (List (List ℕ) × List Bool) ReadError
-others_behind words kinds from first = arrays_at words kinds from first.1 >>= λ others. Ok (first.0 ∷ others.0, others.1)
+-- how they go on after the first
+abbrev others_after : List (List Bool) → List Kind → List (List ℕ) → List ℕ × List Bool → Result (List (List ℕ) × List Bool) ReadError
+others_after words kinds from first = arrays_at words kinds from first.1 >>= λ others. Ok (first.0 ∷ others.0, others.1)
 
 -- were spelled so
 arrays_were_spelled : ReadWasPut → PlayerReadIsSpelled → (words : List (List Bool)) → IsCode words → (kinds : List Kind) (from : List (List ℕ)) (bits : List Bool) (found : List (List ℕ) × List Bool)
@@ -129,7 +129,7 @@ arrays_were_spelled put law words code [] [] bits found are e =
 arrays_were_spelled put law words code [] (x ∷ from) bits found are e = absurd are
 arrays_were_spelled put law words code (kind ∷ kinds) [] bits found are e = absurd are
 arrays_were_spelled put law words code (kind ∷ kinds) (x ∷ from) bits found are e =
-    let first = bind_ok (array_at words kind x bits) (others_behind words kinds from) found e in
+    let first = bind_ok (array_at words kind x bits) (others_after words kinds from) found e in
     let others = bind_ok (arrays_at words kinds from first.0.1) (λ others. Ok (first.0.0 ∷ others.0, others.1)) found first.2 in
     let parts = answer_parts (first.0.0 ∷ others.0.0) found.0 others.0.1 found.1 others.2 in
     let here = array_was_spelled put law words code kind are.0 x bits first.0 are.1 are.2 first.1 in
@@ -203,15 +203,15 @@ delta_is_spelled spelled law words table from to code is_table state normal stat
   whole = refl;
 }
 
--- the answer behind the words
+-- the answer after the words
 abbrev at_words : List (List Bool) → PlayerState → List ℕ × List Bool → Result (PlayerState × List Bool) DeltaError
 at_words words from fields = bits_read (marked_arrays_at words (record from { words = fields.0 }) fields.1)
 
--- how the arrays go on behind their mark
-abbrev behind_mark : List (List Bool) → PlayerState → ℕ × List Bool → Result (PlayerState × List Bool) ReadError
-behind_mark words over mark = cond (eqb mark.0 0) (Ok (over, mark.1)) (all_arrays_at words over mark.1)
+-- how the arrays go on after their mark
+abbrev after_mark : List (List Bool) → PlayerState → ℕ × List Bool → Result (PlayerState × List Bool) ReadError
+after_mark words over mark = cond (eqb mark.0 0) (Ok (over, mark.1)) (all_arrays_at words over mark.1)
 
--- a mark of the arrays that is read, and what is behind it
+-- a mark of the arrays that is read, and what follows it
 record ReadMarked (words : List (List Bool)) (over : PlayerState) (bits : List Bool) (to : PlayerState) (rest : List Bool) : Type 0 where
   text : List Bool
   parts : bits ≡ text ++ rest
@@ -224,7 +224,7 @@ marked_was_spelled : ReadWasPut → PlayerReadIsSpelled → (words : List (List 
     → IsState over → marked_arrays_at words over bits ≡ Ok (to, rest) → ReadMarked words over bits to rest
 unfolding marked_arrays_at all_arrays_at
 marked_was_spelled put law words code over bits to rest state e =
-    let mark = bind_ok (field_at words 1 bits) (behind_mark words over) (to, rest) e in
+    let mark = bind_ok (field_at words 1 bits) (after_mark words over) (to, rest) e in
     let bit = bits_were_put put words code 1 bits mark.0 mark.1 in
     elim (cases_Bool (eqb mark.0.0 0)) [
       | inl none ↦
@@ -267,7 +267,7 @@ marked_is_read put law words code over to text rest state state' same (inr (arra
       arrays_are_read put law words code array_kinds (arrays_of over) (arrays_of to) arrays rest (are_arrays over state) spelled,
     ) (ap (λ (p : PlayerState). Ok (p, rest)) (over-arrays over to state' same))
 
--- a text behind another, and what is behind both
+-- a text after another, and what follows both
 in_two : (bits one two left rest : List Bool) → bits ≡ one ++ left → left ≡ two ++ rest → bits ≡ (one ++ two) ++ rest
 in_two bits one two left rest whole part = whole ∙ ap (λ (ys : List Bool). one ++ ys) part ∙ sym (append_assoc one two rest)
 

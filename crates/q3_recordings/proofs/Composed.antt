@@ -39,10 +39,10 @@ records_from stage (noted ∷ others) = records_of_noting stage noted ++ records
 
 -- ---- the bytes of a message's records
 
-pub none_behind : (messages : List Noted) → records_from Ended messages ≡ []
+pub none_ended : (messages : List Noted) → records_from Ended messages ≡ []
 unfolding records_from
-none_behind [] = refl
-none_behind (noted ∷ others) = none_behind others
+none_ended [] = refl
+none_ended (noted ∷ others) = none_ended others
 
 -- with what the others add, a message adds the bytes of its records
 abbrev Adds : Stage → Noting → List Record → Type 0
@@ -51,8 +51,8 @@ Adds stage now records =
 
 ends_adds : (others : List Noted) → end_bytes ++ (bytes_of (records_from Ended others) ++ []) ≡ bytes_of (records_from Ended others) ++ end_bytes
 ends_adds others =
-    ap (λ (records : List Record). end_bytes ++ (bytes_of records ++ [])) (none_behind others) ∙ append-nil end_bytes
-    ∙ ap (λ (records : List Record). bytes_of records ++ end_bytes) (sym (none_behind others))
+    ap (λ (records : List Record). end_bytes ++ (bytes_of records ++ [])) (none_ended others) ∙ append-nil end_bytes
+    ∙ ap (λ (records : List Record). bytes_of records ++ end_bytes) (sym (none_ended others))
 
 one_adds : (number : ℕ) (message bytes : List ℕ) → record_bytes number message ++ (bytes ++ end_bytes) ≡ (record_bytes number message ++ bytes) ++ end_bytes
 one_adds number message bytes = sym (append_assoc (record_bytes number message) bytes end_bytes)
@@ -60,10 +60,10 @@ one_adds number message bytes = sym (append_assoc (record_bytes number message) 
 begins_adds : (number : ℕ) (message : List ℕ) (game : Option (List ℕ)) → Adds Waits (begins number message game) (begins_with number message game)
 begins_adds number message None others = ends_adds others
 begins_adds number message (Some game) others =
-    let behind : List ℕ = bytes_of (records_from (Runs number) others) in
-    append_assoc (record_bytes (number - 1) game) (record_bytes number message) (behind ++ end_bytes)
-    ∙ ap (λ (bytes : List ℕ). record_bytes (number - 1) game ++ bytes) (one_adds number message behind)
-    ∙ one_adds (number - 1) game (record_bytes number message ++ behind)
+    let after : List ℕ = bytes_of (records_from (Runs number) others) in
+    append_assoc (record_bytes (number - 1) game) (record_bytes number message) (after ++ end_bytes)
+    ∙ ap (λ (bytes : List ℕ). record_bytes (number - 1) game ++ bytes) (one_adds number message after)
+    ∙ one_adds (number - 1) game (record_bytes number message ++ after)
 
 goes_adds : (first number : ℕ) (message : List ℕ)
     → Adds (Runs first) (goes_on first number message) (record { number = number; message = message } ∷ [])

@@ -57,7 +57,7 @@ composed_short are_bytes bits bytes e =
 abbrev value_of : Result (Message × List Bool) Illegible → Result Message Illegible
 value_of read = read >>= λ one. Ok one.0
 
--- what is read of bits, whatever is behind them, is read of their bytes
+-- what is read of bits, whatever follows them, is read of their bytes
 pub bytes_read : MessageHoldsBits → (profile : Profile) (context : Context) (number : ℕ) (bits : List Bool) (bytes : List ℕ) (message : Message) → composed bits ≡ Some bytes
     → ((rest : List Bool) → server_message_at profile context number (bits ++ rest) ≡ Ok (message, rest))
     → server_message_in profile context number (bits_of bytes) ≡ Ok message

@@ -100,10 +100,10 @@ rest_keeps profile context number operation message bits read =
 abbrev front_with : ℕ → Row × List Bool → Result Front OperationError
 front_with ack row = Ok (record { ack = ack; commands = row.0.commands })
 
-abbrev front_behind : List (List Bool) → ℕ × List Bool → Result Front OperationError
-front_behind words ack = row_at words 5 (length ack.1) [] ack.1 >>= front_with ack.0
+abbrev front_after : List (List Bool) → ℕ × List Bool → Result Front OperationError
+front_after words ack = row_at words 5 (length ack.1) [] ack.1 >>= front_with ack.0
 
--- the row of commands behind the leading long, and what the message keeps of both
+-- the row of commands after the leading long, and what the message keeps of both
 record ReadRow (profile : Profile) (ack : ℕ) (bits : List Bool) (message : Message) : Type 0 where
   row : Row × List Bool
   by : row_at profile.code 5 (length bits) [] bits ≡ Ok row
@@ -135,7 +135,7 @@ front_kept ack commands message keeps =
     ∙ ap (λ (cs : List Command). fronted_as (record { ack = message.ack; commands = cs })) (sym keeps.commands_are)
 
 front_read : (profile : Profile) (context : Context) (number : ℕ) (bits : List Bool) (read : Message × List Bool) → server_message_at profile context number bits ≡ Ok read
-    → (fault_as operations.Bits (field_at profile.code 32 bits) >>= front_behind profile.code) ≡ Ok (front_of read.0)
+    → (fault_as operations.Bits (field_at profile.code 32 bits) >>= front_after profile.code) ≡ Ok (front_of read.0)
 unfolding server_message_at
 front_read profile context number bits read e =
     let found = bind_ok (field_read profile.code 32 bits)
@@ -143,7 +143,7 @@ front_read profile context number bits read e =
     let ack = found.0 in
     let field = map_err_ok Bits (field_at profile.code 32 bits) ack found.1 in
     let row = row_read profile context number ack.0 ack.1 read found.2 in
-    ap (λ (r : Result (ℕ × List Bool) ReadError). fault_as operations.Bits r >>= front_behind profile.code) field
+    ap (λ (r : Result (ℕ × List Bool) ReadError). fault_as operations.Bits r >>= front_after profile.code) field
     ∙ (ap (λ (r : Result (Row × List Bool) OperationError). r >>= front_with ack.0) row.by
     ∙ front_kept ack.0 row.row.0.commands read.0 row.keeps)
 
@@ -195,9 +195,9 @@ read_does state number message applied read e by =
     (sym (ap (λ (r : Result Message Illegible). r >>= (λ (m : Message). applied_as (apply_read state number m))) by) ∙ e)
 
 -- what is left of a message that was read
-behind_read : (profile : Profile) (context : Context) (number : ℕ) (bits : List Bool) (read : Message) → server_message_in profile context number bits ≡ Ok read
+rest_read : (profile : Profile) (context : Context) (number : ℕ) (bits : List Bool) (read : Message) → server_message_in profile context number bits ≡ Ok read
     → (rest : List Bool) × (server_message_at profile context number bits ≡ Ok (read, rest))
-behind_read profile context number bits read e =
+rest_read profile context number bits read e =
     let found = bind_ok (server_message_at profile context number bits) (λ (one : Message × List Bool). message_as one.0) read e in
     let same = same_message found.0.0 read found.2 in
     (found.0.1, subst (λ (m : Message). server_message_at profile context number bits ≡ Ok (m, found.0.1)) same found.1)
@@ -222,9 +222,9 @@ module _ (spelled : ReadIsSpelled) (accepted : AcceptedIsHeld) (contexts : Appli
       let profile = before.profile in
       let context = context_of before.held before.baselines in
       let number = noted.applied.answer.number in
-      let behind = behind_read profile context number (bits_of noted.message) read by in
+      let after = rest_read profile context number (bits_of noted.message) read by in
       let below = is.number in
-      let fits = (spelled profile context number read (bits_of noted.message) behind.0 is.stands.profile (contexts before is.stands) behind.1).0 (omega (arith, below)) in
+      let fits = (spelled profile context number read (bits_of noted.message) after.0 is.stands.profile (contexts before is.stands) after.1).0 (omega (arith, below)) in
       let as_snap = subst (λ (s : Told). IsReadTold profile context s) section fits.section in
       let of_number : snapshot.head.number ≡ number = subst (λ (s : Told). told.HasNumber number s) section fits.number_is in
       let does = read_does before number noted.message noted.applied read is.applies by in
@@ -243,7 +243,7 @@ module _ (spelled : ReadIsSpelled) (accepted : AcceptedIsHeld) (contexts : Appli
       ∙ ap (λ (r : Result Snapshot NoBase). result_ok r) held) in
       let front : front_at noted.applied.state.profile.code noted.message ≡ Ok (front_of read) =
       ap (λ (p : Profile). front_at p.code noted.message) accepts.profile_is
-      ∙ front_is profile context number noted.message (read, behind.0) behind.1 in
+      ∙ front_is profile context number noted.message (read, after.0) after.1 in
       record {
         profile_is = accepts.profile_is;
         baselines_are = accepts.baselines_are;

@@ -28,7 +28,7 @@ pub record Record : Type 0 where
 abbrev pub bytes_of : List Record → List ℕ
 bytes_of records = flat_map (λ (r : Record). record_bytes r.number r.message) records
 
--- what these records do from a state on, behind a record of this number
+-- what these records do from a state on, after a record of this number
 abbrev pub Does : AppliedState → ℕ → List Record → List Application → Type 0
 Does state last [] [] = Unit {0}
 Does state last (r ∷ records) (a ∷ applied) =
@@ -52,7 +52,7 @@ head_of number message rest below short = record {
 long_record : (number : ℕ) (message : List ℕ) → length (record_bytes number message) ≡ head_bytes + length message
 long_record number message = omega arith
 
--- a record stands behind what was played, and the others behind it
+-- a record follows what was played, and the others follow it
 record Next (demo : List ℕ) (played : Played) (r : Record) (rest : List ℕ) : Type 0 where
   next : ℕ
   found : next_piece demo played ≡ Ok (piece.Message r.number (length r.message) next)
@@ -126,7 +126,7 @@ goes_on left demo rest played r a others n applies gives =
       state = ap (λ (s : Result (Option Stepped) DemoError). (last_of played (next_records s (records_from left demo))).state) stepped ∙ gives.state;
     }
 
--- what may stand behind the last record: the end, or nothing yet
+-- what may stand after the last record: the end, or nothing yet
 abbrev pub IsTail : List ℕ → Type 0
 IsTail tail = (at last : ℕ) → piece_of tail at last ≡ Ok piece.End
 

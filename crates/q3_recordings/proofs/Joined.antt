@@ -1,4 +1,4 @@
--- What a client's node applies behind the turn that begins its recording may be noted.
+-- What a client's node applies after the turn that begins its recording may be noted.
 use Rattle.std.proofs.Common.{◌≡◌, ℕ, zero, suc, ◌+◌, ◌-◌, ◌<◌, ◌≤◌, Bool, true, false, List, [], ◌++◌, length, Option, Some, None, Result, Ok, Err, refl, sym, ap, subst, arith}
 use Rattle.std.specs.Prelude.{◌&&◌, if◌then◌else◌}
 use Rattle.std.specs.Result.{is_ok}
@@ -76,7 +76,7 @@ turns profile laws node None (Some parcel) =
 abbrev started : Node ClientEnd → ℕ → Node ClientEnd
 started node reading = record node { start = Some (start_at node.start reading) }
 
--- ---- behind the turn that begins it
+-- ---- after the turn that begins it
 
 are_noted : Laws → (profile : Profile) → IsChecked profile → (count : ℕ) (node : Node ClientEnd) (readings : List ℕ) (arrivals : List (Option Parcel)) → IsSound profile node.end.client
     → 0 < node.end.client.state.number → AreNotedFrom node.end.client.state (applied_in count node readings arrivals)
@@ -126,7 +126,7 @@ begins_so : Laws → (profile : Profile) → IsChecked profile → (count : ℕ)
     → 0 < node.end.client.state.number → NotedSo profile (applied_in count node readings arrivals)
 begins_so laws profile checked count node readings arrivals sound begun =
     let from = are_noted laws profile checked count node readings arrivals sound begun in
-    record { are = from.are; by = are_by profile node.end.client.state (applied_in count node readings arrivals) sound.by from.behind }
+    record { are = from.are; by = are_by profile node.end.client.state (applied_in count node readings arrivals) sound.by from.after }
 
 -- where the line begins it the client takes nothing in that turn
 begins_nothing : (name : List ℕ) (end : ClientEnd) (line : Option Event) (found : Option Parcel) → begins_it name end line ≡ true → bytes_in end line found ≡ None
@@ -173,17 +173,17 @@ all_written name (suc count) node readings arrivals demo left =
     let now = turn_at client_rules node reading (next_of arrivals) in
     let later = readings_after readings in
     let more = arrivals_after now.turn arrivals in
-    written_behind (begins_it name node.end (line_at node reading)) now.turn.ended (has_end count now.node later more) (applied_in count now.node later more)
+    written_after (begins_it name node.end (line_at node reading)) now.turn.ended (has_end count now.node later more) (applied_in count now.node later more)
     (left_in name count now.node later more) (noted_in name count now.node later more) (λ left. all_written name count now.node later more demo left) left
   where
     some : {one two : List ℕ} → Some one ≡ Some two → two ≡ one
     some e = cc
 
-    written_behind : (begins ended over : Bool) (applied : List Noted) (behind : Option (List ℕ)) (noted : List Noted) → (behind ≡ Some demo → IsWritten demo noted)
+    written_after : (begins ended over : Bool) (applied : List Noted) (behind : Option (List ℕ)) (noted : List Noted) → (behind ≡ Some demo → IsWritten demo noted)
         → (if begins then Some (written_of over applied) else if ended then None else behind) ≡ Some demo → IsWritten demo (if begins then applied else if ended then [] else noted)
-    written_behind true ended over applied behind noted rest e = record { over = over; is = some e }
-    written_behind false true over applied behind noted rest e = absurd cc
-    written_behind false false over applied behind noted rest e = rest e
+    written_after true ended over applied behind noted rest e = record { over = over; is = some e }
+    written_after false true over applied behind noted rest e = absurd cc
+    written_after false false over applied behind noted rest e = rest e
 
 plays_so : Laws → RecordingPlays → JoinPlays
 plays_so laws plays profile count c challenge qport dup server events readings arrivals name demo checked left told short few =

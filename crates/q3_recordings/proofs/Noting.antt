@@ -17,7 +17,7 @@ use Rattle.q3_ends.specs.Recording.{RecordingState, RecordingStep, begin_at, beg
 use Rattle.q3_world.specs.StandsFor.{IsChecked}
 use Rattle.q3_schedules.specs.Recorded.{noted_of}
 use Rattle.q3_recordings.specs.Plays.{IsNoted, Follows, AreNoted, AreBy}
-use Rattle.q3_recordings.proofs.Recorded.{Behind}
+use Rattle.q3_recordings.proofs.Recorded.{GoOnFrom}
 use Rattle.q3_recordings.proofs.Sound.{IsSound, new_sound, typed_keeps, moved_keeps, emitted_keeps, taken_sound, taken_notes}
 use Rattle.q3_recordings.proofs.AtPlace.{ClientLaws, Becomes}
 
@@ -46,27 +46,27 @@ client_laws laws profile is = record {
 -- ---- messages that go on from what a client has
 
 -- these go on from what a client has
-behind_same : (old new : AppliedState) (messages : List Noted) → new ≡ old → Behind new messages → Behind old messages
-behind_same old new [] same behind = tt
-behind_same old new (noted ∷ others) same behind = behind ∙ same
+after_same : (old new : AppliedState) (messages : List Noted) → new ≡ old → GoOnFrom new messages → GoOnFrom old messages
+after_same old new [] same after = tt
+after_same old new (noted ∷ others) same after = after ∙ same
 
-follows : (noted : Noted) (state : AppliedState) (others : List Noted) → state ≡ noted.applied.state → Behind state others → Follows noted others
-follows noted state [] same behind = tt
-follows noted state (next ∷ others) same behind = behind ∙ same
+follows : (noted : Noted) (state : AppliedState) (others : List Noted) → state ≡ noted.applied.state → GoOnFrom state others → Follows noted others
+follows noted state [] same after = tt
+follows noted state (next ∷ others) same after = after ∙ same
 
 pub record AreNotedFrom (state : AppliedState) (messages : List Noted) : Type 0 where
   pub are : AreNoted messages
-  pub behind : Behind state messages
+  pub after : GoOnFrom state messages
 
 pub none_noted : (state : AppliedState) → AreNotedFrom state []
-none_noted state = record { are = tt; behind = tt }
+none_noted state = record { are = tt; after = tt }
 
 -- with what was noted of one event
 one_noted : (noted : Noted) (before state : AppliedState) (others : List Noted) → noted.before ≡ before → state ≡ noted.applied.state → IsNoted noted → AreNotedFrom state others
     → AreNotedFrom before (noted ∷ others)
 one_noted noted before state others from after is rest = record {
-  are = (is, follows noted state others after rest.behind, rest.are);
-  behind = from;
+  are = (is, follows noted state others after rest.after, rest.are);
+  after = from;
 }
 
 -- the messages that it applies by bytes, if it takes some
@@ -74,14 +74,14 @@ abbrev pub noted_by : ClientState → Option (List ℕ) → List Noted
 noted_by client None = []
 noted_by client (Some bytes) = noted_of client (take_at client bytes) (take_at client bytes).answer
 
--- behind something that happens to it
+-- after something that happens to it
 pub becomes_noted : Laws → (profile : Profile) (client new : ClientState) (bytes : Option (List ℕ)) (others : List Noted) → Becomes profile client bytes new → IsSound profile client
     → 0 < client.state.number → (IsSound profile new → 0 < new.state.number → AreNotedFrom new.state others) → AreNotedFrom client.state (noted_by client bytes ++ others)
 becomes_noted laws profile client new None others keeps sound begun onward =
     let state = keeps.state in
     let number : new.state.number ≡ client.state.number = ap (λ (s : AppliedState). s.number) state in
     let rest = onward (keeps.sound sound) (omega (arith, number, begun)) in
-    record { are = rest.are; behind = behind_same client.state new.state others state rest.behind }
+    record { are = rest.are; after = after_same client.state new.state others state rest.after }
 becomes_noted laws profile client new (Some bytes) others is sound begun onward =
     let taken = take_at client bytes in
     let there : new.state ≡ taken.client.state = ap (λ (client : ClientState). client.state) is in
@@ -98,7 +98,7 @@ becomes_noted laws profile client new (Some bytes) others is sound begun onward 
           let same : taken.client.state.number ≡ client.state.number = ap (λ (s : AppliedState). s.number) none.same in
           let rest = onward now (omega (arith, number, same, begun)) in
           subst (λ (notes : List Noted). AreNotedFrom client.state (notes ++ others)) (sym none.notes)
-          (record { are = rest.are; behind = behind_same client.state new.state others (there ∙ none.same) rest.behind })
+          (record { are = rest.are; after = after_same client.state new.state others (there ∙ none.same) rest.after })
     ]
 
 pub becomes_sound : Laws → (profile : Profile) (client new : ClientState) (bytes : Option (List ℕ)) → Becomes profile client bytes new → IsSound profile client → IsSound profile new
@@ -106,9 +106,9 @@ becomes_sound laws profile client new None keeps sound = keeps.sound sound
 becomes_sound laws profile client new (Some bytes) is sound =
     subst (λ (client : ClientState). IsSound profile client) (sym is) (taken_sound laws.read laws.stays laws.contexts laws.applies profile client bytes sound)
 
-pub are_by : (profile : Profile) (state : AppliedState) (messages : List Noted) → state.profile ≡ profile → Behind state messages → AreBy profile messages
-are_by profile state [] by behind = tt
-are_by profile state (noted ∷ others) by behind = ap (λ (s : AppliedState). s.profile) behind ∙ by
+pub are_by : (profile : Profile) (state : AppliedState) (messages : List Noted) → state.profile ≡ profile → GoOnFrom state messages → AreBy profile messages
+are_by profile state [] by after = tt
+are_by profile state (noted ∷ others) by after = ap (λ (s : AppliedState). s.profile) after ∙ by
 
 -- ---- the `record` line
 
@@ -116,7 +116,7 @@ pub refuses : (result : Result (Unit {0}) RecordRefused) (cause : RecordRefused)
 refuses (Ok x) cause failed is = absurd cc
 refuses (Err e) cause failed is = absurd cc
 
--- a recording begins behind a gamestate alone
+-- a recording begins after a gamestate alone
 pub begins_with_game : (client : ClientState) (going : Option RecordingState) (fresh : RecordingState) → (begin_at client going fresh).answer ≡ Ok tt → client.state.has_game ≡ true
 begins_with_game client going fresh is = elim (cases_Bool client.state.has_game) [
   | inl game ↦ game

@@ -30,7 +30,7 @@ use Rattle.q3_schedules.specs.Recorded.{applied_until, bytes_for, is_stop, noted
 use Rattle.q3_schedules.specs.Schedules.{IsScheduled, NothingPends, SaysNoChange, StringsTellId}
 use Rattle.q3_schedules.proofs.SlotsStay.{HaveSlots, have_slots}
 use Rattle.q3_recordings.specs.Plays.{recorded_with, recorded_from, BeginsTold, BeginsWhole}
-use Rattle.q3_recordings.specs.Replays.{ReplayPlays, OwnReplayPlays, OwnReplayBeginsWhole, kept_recording, noted_behind}
+use Rattle.q3_recordings.specs.Replays.{ReplayPlays, OwnReplayPlays, OwnReplayBeginsWhole, kept_recording, noted_after}
 use Rattle.q3_recordings.proofs.PlaysAs.{has_read}
 use Rattle.q3_recordings.proofs.Recorded.{recorded_none}
 use Rattle.q3_recordings.proofs.Sound.{IsSound, taken_notes}
@@ -97,7 +97,7 @@ unfolding kept_after
 one_after kept [] event = refl
 one_after kept (one ∷ some) event = one_after (kept_step kept one).kept some event
 
--- behind some of them, with these to come
+-- after some of them, with these to come
 record Along (Is : Event → Type 0) (profile : Profile) (kept : Kept) (events : List Event) : Type 0 where
   done : List Event
   is : kept ≡ kept_then profile done
@@ -128,7 +128,7 @@ both_said : (P : AppliedState → Type 0) (some others : List Noted) → AllBefo
 both_said P [] others first rest = rest
 both_said P (noted ∷ some) others first rest = (first.0, both_said P some others first.1 rest)
 
--- what holds of every client that has a gamestate, behind any events
+-- what holds of every client that has a gamestate, after any events
 abbrev OfClients : (Event → Type 0) → Profile → (AppliedState → Type 0) → Type 0
 OfClients Is profile P = (done : List Event) (c : ℕ) (client : ClientState) → AllByRecursion Is done → c < places → client_at (kept_then profile done).ends c ≡ Some client
     → client.state.has_game ≡ true → P client.state
@@ -160,12 +160,12 @@ all_said Is P laws profile checked of kept (event ∷ events) have along c place
     let there = subst (λ (found : Option Place). AllBefore P (noted_at found bytes ++ applied_until next events c)) (sym at) all in
     cond_both (is_stop c event) [] (noted_at (place_at kept.ends c) bytes ++ applied_until next events c) (λ (notes : List Noted). AllBefore P notes) (λ e. tt) (λ e. there)
 
--- behind a `record` line
-behind_said : (Is : Event → Type 0) (P : AppliedState → Type 0) → Laws → (profile : Profile) → IsChecked profile → OfClients Is profile P → (first rest : List Event) (c : ℕ) (name : List ℕ)
+-- after a `record` line
+after_said : (Is : Event → Type 0) (P : AppliedState → Type 0) → Laws → (profile : Profile) → IsChecked profile → OfClients Is profile P → (first rest : List Event) (c : ℕ) (name : List ℕ)
     → AllByRecursion Is (first ++ events.RecordTo c name ∷ rest) → c < places
-    → (kept_step (kept_then profile first) (events.RecordTo c name)).answer ≡ Given (handed.Record c (Ok tt)) → AllBefore P (noted_behind profile first c name rest)
+    → (kept_step (kept_then profile first) (events.RecordTo c name)).answer ≡ Given (handed.Record c (Ok tt)) → AllBefore P (noted_after profile first c name rest)
 unfolding kept_step line_of
-behind_said Is P laws profile checked of first rest c name are lt answer =
+after_said Is P laws profile checked of first rest c name are lt answer =
     let kept = kept_then profile first in
     let line = events.RecordTo c name in
     let stands = after_stands laws profile checked (opening_kept profile) first (opening_stands profile) in
@@ -221,9 +221,9 @@ within c name is = let most = is.0.0 in omega (arith, most)
 
 own_plays : StringsTellId → Laws → ReplayPlays → OwnReplayPlays
 own_plays law laws plays profile first rest c name checked are answer short few =
-    let messages = noted_behind profile first c name rest in
+    let messages = noted_after profile first c name rest in
     let lt = within c name (all_next first (events.RecordTo c name) rest are) in
-    let tell = behind_said IsScheduled Tells laws profile checked
+    let tell = after_said IsScheduled Tells laws profile checked
     (λ done c client are lt at has. told_by (server_id client.state.strings) client.state.id (law profile done c client checked are lt at has)) first rest c name are lt answer in
     let count = few_applied (kept_recording profile first c name) rest c in
     plays profile first rest c name checked answer (begins_told messages tell) short (omega (arith, count, few))
@@ -265,6 +265,6 @@ pub own_replay_begins_whole : NothingPends → Laws → OwnReplayBeginsWhole
 own_replay_begins_whole law laws profile first rest c name checked are say answer =
     let lt = within c name (all_next first (events.RecordTo c name) rest are) in
     let both = both_are (first ++ events.RecordTo c name ∷ rest) are say in
-    let still = behind_said IsBoth IsStill laws profile checked
+    let still = after_said IsBoth IsStill laws profile checked
     (λ done c client both lt at has. law profile done c client checked (scheduled_are done both) (say_none done both) lt at has) first rest c name both lt answer in
-    begins_whole (noted_behind profile first c name rest) still
+    begins_whole (noted_after profile first c name rest) still

@@ -6,7 +6,7 @@ use Rattle.std.specs.Result.{result_ok}
 use Rattle.q3_bits.specs.Bits.{bits_of}
 use Rattle.q3_bits.specs.ResultBind.{◌>>=◌, bind_ok}
 use Rattle.q3_text.specs.declared.text.Command.{Command}
-use Rattle.q3_window.specs.Incoming.{IncomingState, fresh_of, behind, executes, jump_at, new_incoming}
+use Rattle.q3_window.specs.Incoming.{IncomingState, fresh_of, executed_all, executes, jump_at, new_incoming}
 use Rattle.q3_config.specs.Strings.{Strings}
 use Rattle.q3_config.specs.Changes.{after_command, without_pending}
 use Rattle.q3_player.specs.declared.head.SnapHead.{SnapHead}
@@ -78,14 +78,14 @@ pub record Plays (when : Type 0) (first : ℕ) (noted : Noted) (play : AppliedSt
 
 -- ---- commands
 
-behind_alike : (window other : IncomingState) (commands : List Command) → other.executed ≡ window.executed → (behind other commands).executed ≡ (behind window commands).executed
-unfolding behind
-behind_alike window other [] same = same
-behind_alike window other (command ∷ commands) same = refl
+after_alike : (window other : IncomingState) (commands : List Command) → other.executed ≡ window.executed → (executed_all other commands).executed ≡ (executed_all window commands).executed
+unfolding executed_all
+after_alike window other [] same = same
+after_alike window other (command ∷ commands) same = refl
 
 executes_alike : (window other : IncomingState) (commands : List Command) → other.executed ≡ window.executed → (executes other commands).executed ≡ (executes window commands).executed
 executes_alike window other commands same =
-    ap (λ (executed : ℕ). (behind other (fresh_of executed commands)).executed) same ∙ behind_alike window other (fresh_of window.executed commands) same
+    ap (λ (executed : ℕ). (executed_all other (fresh_of executed commands)).executed) same ∙ after_alike window other (fresh_of window.executed commands) same
 
 texts_alike : (settings other : Settings) (commands : List Command) → other.strings ≡ settings.strings → (after_texts other commands).strings ≡ (after_texts settings commands).strings
 unfolding after_texts
@@ -309,7 +309,7 @@ plays_step {when} spelled is_read context first noted play like is from apart =
     plays_read first noted play noted.message read (read_by first before play number (bits_of noted.message) read like since)
     (subst (λ (applied : Application). DoesAs when first applied (apply_read play number read)) (sym has.does) does)
 
--- ---- the state behind a message has its number
+-- ---- the state after a message has its number
 
 pub section_number : (state : AppliedState) (number : ℕ) (told : Told) → (apply_section state number told).state.number ≡ number
 section_number state number Nothing = refl
@@ -445,7 +445,7 @@ plays_whole {when} spelled context first noted play bytes read base head entitie
 
 -- ---- the first
 
--- what is left behind the gamestate that a recording begins with
+-- what is left after the gamestate that a recording begins with
 abbrev pub begun_by : Noted → ℕ → AppliedState
 begun_by noted first =
     (apply_read (new_state noted.before.profile) (first - 1) (record { ack = noted.issued; commands = []; section = Game (told_in noted.before) })).state
@@ -502,7 +502,7 @@ begun_plays spelled is_read context noted is whole =
     (begun_accepts first before snapshot is.stands newer snap.under) newer (omega (arith, newer)))) in
     plays_read first noted play noted.message read reads (subst (λ (applied : Application). DoesAs (IsWhole noted) first applied (apply_read play first read)) (sym has.does) does)
 
--- the first plays behind that gamestate
+-- the first plays after that gamestate
 pub plays_first : ReadIsSpelled → SpelledIsRead → AppliedIsContext → (first : ℕ) (noted : Noted) (play : AppliedState) → IsNoted noted → is_whole noted.applied.answer.snap ≡ true
     → first ≡ noted.applied.answer.number
     → play ≡ (apply_read (new_state noted.before.profile) (first - 1) (record { ack = noted.issued; commands = []; section = Game (told_in noted.before) })).state
@@ -524,7 +524,7 @@ section_newest state number (Skipped base) newer under =
     cond_both (is_stale state.held number) (passes state number Stale) (passes state number (SkippedFor base (skipped_for (held_snapshot state.held base))))
     (λ (applied : Application). applied.state.held.newest ≤ number) (λ e. omega (arith, newer)) (λ e. omega (arith, newer))
 
--- the state behind a message has its number, and none that is held is newer
+-- the state after a message has its number, and none that is held is newer
 pub newest_stays : ReadIsSpelled → AppliedIsContext → (noted : Noted) → IsNoted noted
     → (noted.applied.state.held.newest ≤ noted.applied.state.number) × (noted.applied.state.number ≡ noted.applied.answer.number)
 newest_stays spelled context noted is =

@@ -82,7 +82,7 @@ message_alike profile context other number message bits baselines same s = recor
 
 -- ---- what is read
 
--- a message's value, and what is behind its end
+-- a message's value, and what follows its end
 record WasRead (profile : Profile) (context : Context) (number : ℕ) (message : Message) (bits : List Bool) : Type 0 where
   rest : List Bool
   read : server_message_at profile context number bits ≡ Ok (message, rest)

@@ -1,4 +1,4 @@
--- What a recording's records do, one behind the other.
+-- What a recording's records do, one after the other.
 use Rattle.std.proofs.Common.{◌≡◌, ℕ, ◌+◌, ◌-◌, ◌<◌, ◌≤◌, Bool, true, false, List, [], ◌∷◌, ◌++◌, length, map, Option, Some, None, refl, sym, ap, subst, ◌∙◌, arith}
 use Rattle.std.specs.Prelude.{if◌then◌else◌}
 use Rattle.std.proofs.lemmas.Bool.{cond_both}
@@ -20,9 +20,9 @@ use Rattle.q3_demo.specs.declared.recorder.Stage.TheVariants.{Waits, Runs, Ended
 use Rattle.q3_demo.specs.Records.{longest_record, number_end, most_bytes}
 use Rattle.q3_demo.specs.Recording.{composed, game_bits, whole_of, whole_bits, Noting, goes_on, recomposed, begins, is_whole, is_before, composed_whole, Noted}
 use Rattle.q3_demo.specs.Playing.{play_of, last_played}
-use Rattle.q3_recordings.specs.Plays.{IsNoted, Follows, AreNoted, recorded_with, recorded_from, applied_of, behind_game, behind_number, number_in, accepted_in, heard_in, BeginsTold, BeginsWhole, AreBy, LeftAs, LeftBy, RecordingPlays}
+use Rattle.q3_recordings.specs.Plays.{IsNoted, Follows, AreNoted, recorded_with, recorded_from, applied_of, after_game, after_number, number_in, accepted_in, heard_in, BeginsTold, BeginsWhole, AreBy, LeftAs, LeftBy, RecordingPlays}
 use Rattle.q3_recordings.proofs.DemoBytes.{Record, Does, state_after, bytes_of, demo_plays}
-use Rattle.q3_recordings.proofs.Composed.{begins_with, goes_with, none_behind, records_from, written_tailed, records_few}
+use Rattle.q3_recordings.proofs.Composed.{begins_with, goes_with, none_ended, records_from, written_tailed, records_few}
 use Rattle.q3_recordings.proofs.ComposedGames.{told_in, told_applies, game_short}
 use Rattle.q3_recordings.proofs.ComposedWhole.{whole_applies, whole_short}
 use Rattle.q3_recordings.proofs.HeldSince.{held_since}
@@ -68,7 +68,7 @@ recorded_none (noted ∷ others) = recorded_none others
 
 ended_on : {when : Type 0} → (first last : ℕ) (client play : AppliedState) (others : List Noted) → PlaysAs when first client play → PlaysOn when client play last (records_from Ended others) (recorded_from Ended others)
 ended_on {when} first last client play others like =
-    subst (λ (records : List Record). PlaysOn when client play last records (recorded_from Ended others)) (sym (none_behind others))
+    subst (λ (records : List Record). PlaysOn when client play last records (recorded_from Ended others)) (sym (none_ended others))
     (subst (λ (recorded : List Noted). PlaysOn when client play last [] recorded) (sym (recorded_none others)) (none_on first last client play like))
 
 one_on : {when : Type 0} → (first last : ℕ) (client play : AppliedState) (noted : Noted) (message : List ℕ) (plays : Plays when first noted play message) (records : List Record) (recorded : List Noted)
@@ -135,7 +135,7 @@ whole_plays {when} laws first noted play bytes like is from before e =
       short = whole_short laws.bytes state of.whole bytes of.composes;
     }
 
--- and what is behind it
+-- and what follows it
 abbrev NotingOn : Type 0 → ℕ → ℕ → AppliedState → AppliedState → Noted → List Noted → Bool → Option (List ℕ) → Type 0
 NotingOn when first last client play noted others before whole =
     let number = noted.applied.answer.number in
@@ -161,29 +161,29 @@ noting_on {when} laws first last client play noted others like same is from abov
 -- ---- a recording that runs
 
 -- messages that go on from what a client has
-abbrev pub Behind : AppliedState → List Noted → Type 0
-Behind client [] = Unit {0}
-Behind client (noted ∷ others) = noted.before ≡ client
+abbrev pub GoOnFrom : AppliedState → List Noted → Type 0
+GoOnFrom client [] = Unit {0}
+GoOnFrom client (noted ∷ others) = noted.before ≡ client
 
-behind_of : (noted : Noted) (others : List Noted) → Follows noted others → Behind noted.applied.state others
-behind_of noted [] follows = tt
-behind_of noted (next ∷ others) follows = follows
+after_of : (noted : Noted) (others : List Noted) → Follows noted others → GoOnFrom noted.applied.state others
+after_of noted [] follows = tt
+after_of noted (next ∷ others) follows = follows
 
-runs_on : {when : Type 0} → Laws → (first last : ℕ) (client play : AppliedState) (messages : List Noted) → AreNoted messages → Behind client messages → PlaysAs when first client play
+runs_on : {when : Type 0} → Laws → (first last : ℕ) (client play : AppliedState) (messages : List Noted) → AreNoted messages → GoOnFrom client messages → PlaysAs when first client play
     → last ≤ client.number → first ≤ client.number → PlaysOn when client play last (records_from (Runs first) messages) (recorded_from (Runs first) messages)
 unfolding records_from recorded_from
-runs_on {when} laws first last client play [] are behind like at from = none_on first last client play like
-runs_on {when} laws first last client play (noted ∷ others) are behind like at from =
+runs_on {when} laws first last client play [] are after like at from = none_on first last client play like
+runs_on {when} laws first last client play (noted ∷ others) are after like at from =
     let is : IsNoted noted = are.0 in
     let number = noted.applied.answer.number in
     let stays = newest_stays laws.read laws.contexts noted is in
-    let same : PlaysAs when first noted.before play = subst (λ (state : AppliedState). PlaysAs when first state play) (sym behind) like in
-    let was : noted.before.number ≡ client.number = ap (λ (state : AppliedState). state.number) behind in
+    let same : PlaysAs when first noted.before play = subst (λ (state : AppliedState). PlaysAs when first state play) (sym after) like in
+    let was : noted.before.number ≡ client.number = ap (λ (state : AppliedState). state.number) after in
     let newer = is.newer in
     let now = stays.1 in
     noting_on laws first last client play noted others like same is (omega (arith, was, newer, from)) (omega (arith, was, newer, at)) (is_before first noted.applied.answer.snap)
     (composed_whole noted.applied.state (whole_of noted.applied.state noted.message)) refl refl
-    (λ message plays. runs_on laws first number noted.applied.state plays.applied.state others are.2 (behind_of noted others are.1) plays.plays (omega (arith, now)) (omega (arith, now, was, newer, from)))
+    (λ message plays. runs_on laws first number noted.applied.state plays.applied.state others are.2 (after_of noted others are.1) plays.plays (omega (arith, now)) (omega (arith, now, was, newer, from)))
 
 -- ---- a recording that waits
 
@@ -191,9 +191,9 @@ runs_on {when} laws first last client play (noted ∷ others) are behind like at
 record BeginsOn (profile : Profile) (records : List Record) (recorded : List Noted) : Type 0 where
   applied : List Application
   does : Does (new_state profile) 0 records applied
-  numbers : map number_in applied ≡ behind_number (map (λ (noted : Noted). noted.applied.answer.number) recorded)
-  accepted : map accepted_in applied ≡ behind_game None (map (λ (noted : Noted). noted.applied.accepted) recorded)
-  heard : map heard_in applied ≡ behind_game [] (map (λ (noted : Noted). noted.applied.heard) recorded)
+  numbers : map number_in applied ≡ after_number (map (λ (noted : Noted). noted.applied.answer.number) recorded)
+  accepted : map accepted_in applied ≡ after_game None (map (λ (noted : Noted). noted.applied.accepted) recorded)
+  heard : map heard_in applied ≡ after_game [] (map (λ (noted : Noted). noted.applied.heard) recorded)
   left : LeftBy (BeginsWhole recorded) recorded (state_after (new_state profile) applied)
 
 nothing_on : (profile : Profile) → BeginsOn profile [] []
@@ -201,10 +201,10 @@ nothing_on profile = record { applied = []; does = tt; numbers = refl; accepted 
 
 never_on : (profile : Profile) (others : List Noted) → BeginsOn profile (records_from Ended others) (recorded_from Ended others)
 never_on profile others =
-    subst (λ (records : List Record). BeginsOn profile records (recorded_from Ended others)) (sym (none_behind others))
+    subst (λ (records : List Record). BeginsOn profile records (recorded_from Ended others)) (sym (none_ended others))
     (subst (λ (recorded : List Noted). BeginsOn profile [] recorded) (sym (recorded_none others)) (nothing_on profile))
 
--- the gamestate, and the first message behind it
+-- the gamestate, and the first message after it
 first_on : Laws → (noted : Noted) (others : List Noted) (game : List ℕ) → IsNoted noted → AreNoted others → Follows noted others → is_whole noted.applied.answer.snap ≡ true
     → BeginsTold (noted ∷ recorded_from (Runs noted.applied.answer.number) others) → composed (game_bits noted.before noted.issued) ≡ Some game
     → BeginsOn noted.before.profile
@@ -218,7 +218,7 @@ first_on laws noted others game is are follows whole told e =
     let applies = told_applies laws.written laws.holds laws.stays laws.contexts before noted.issued (number - 1) game is.stands told is.issued e in
     let plays = plays_first laws.read laws.spelled laws.contexts number noted begun.state is whole refl refl in
     let now = (newest_stays laws.read laws.contexts noted is).1 in
-    let on = runs_on laws number number noted.applied.state plays.applied.state others are (behind_of noted others follows) plays.plays (omega (arith, now)) (omega (arith, now)) in
+    let on = runs_on laws number number noted.applied.state plays.applied.state others are (after_of noted others follows) plays.plays (omega (arith, now)) (omega (arith, now)) in
     let newer = is.newer in
     let some = is.begun in
     let below = is.number in

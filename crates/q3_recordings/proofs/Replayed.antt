@@ -1,4 +1,4 @@
--- What a replay's client applies behind its `record` line may be noted.
+-- What a replay's client applies after its `record` line may be noted.
 use Rattle.std.proofs.Common.{◌≡◌, ℕ, ◌<◌, Bool, true, false, List, [], ◌∷◌, ◌++◌, Option, Some, None, Result, Ok, Err, refl, sym, ap, subst, ◌∙◌, arith}
 use Rattle.std.specs.Prelude.{if◌then◌else◌}
 use Rattle.std.specs.Option.{is_some}
@@ -123,7 +123,7 @@ plays_so laws plays profile first rest c name checked answer told short few =
     let now = keeps.sound sound in
     let from = are_noted laws profile checked (kept_step kept line).kept rest (have_slots kept line stands.have) c goes.place goes.at now (omega (arith, number, begun)) in
     plays profile (applied_until (kept_step kept line).kept rest c) true from.are
-    (are_by profile goes.place.client.state (applied_until (kept_step kept line).kept rest c) now.by from.behind) told short few
+    (are_by profile goes.place.client.state (applied_until (kept_step kept line).kept rest c) now.by from.after) told short few
 
 pub replay_plays : RecordingPlays → ReadIsSpelled → ApplyStays → AppliedIsContext → AppliesItsMessage → ReplayPlays
 replay_plays plays read stays contexts applies = plays_so (record { read = read; stays = stays; contexts = contexts; applies = applies }) plays

@@ -10,7 +10,7 @@ use Rattle.q3_profile.specs.declared.profile.Profile.{Profile}
 use Rattle.q3_profile.specs.Profile.{IsCodec}
 use Rattle.q3_chan.specs.declared.gatherer.Gathered.{Gathered}
 use Rattle.q3_chan.specs.declared.gatherer.Gathered.TheVariants as gathered
-use Rattle.q3_chan.specs.Datagrams.{fragment_size, longest_message, sequence_end, is_fragment, number_in, length_of, has_bad_check, start_in, count_in, behind_header}
+use Rattle.q3_chan.specs.Datagrams.{fragment_size, longest_message, sequence_end, is_fragment, number_in, length_of, has_bad_check, start_in, count_in, after_header}
 use Rattle.q3_chan.specs.Gathering.{Gathering, Took, answers as gathers, arrives, emptied, gathering_of, take_whole, add_piece, take_piece, take_fragment, take_newer, is_connectionless, gathered as gathered_of}
 use Rattle.q3_chan.specs.Sending.{UnderWay, started}
 use Rattle.q3_chan.specs.Scrambling.{keyed, key_at}
@@ -23,7 +23,7 @@ use Rattle.q3_svmsg.specs.Laws.{ReadIsSpelled}
 use Rattle.q3_rings.specs.Rings.{held_snapshot}
 use Rattle.q3_clstate.specs.declared.applied.Applied.{Applied}
 use Rattle.q3_clstate.specs.declared.applied.SnapOutcome.TheVariants.{Skipped as SkippedFor, Stale}
-use Rattle.q3_clstate.specs.State.{AppliedState, Application, context_of, passes, accepts, is_stale, skipped_for, apply_section, hearing, apply_read, apply_at, state_behind}
+use Rattle.q3_clstate.specs.State.{AppliedState, Application, context_of, passes, accepts, is_stale, skipped_for, apply_section, hearing, apply_read, apply_at, state_after_message}
 use Rattle.q3_clstate.specs.Standing.{IsApplied}
 use Rattle.q3_clstate.specs.Laws.{ApplyStays, AppliedIsContext}
 use Rattle.q3_clmsg.specs.declared.moves.Move.{Move}
@@ -181,7 +181,7 @@ IsDone last came other = came.gathering.taken ≡ last
 abbrev Done : ℕ → Took → Type 0
 Done last came = IsDone last came came.answer
 
--- behind the number taken last, a newer one is gathered
+-- after the number taken last, a newer one is gathered
 record Gathers (last : ℕ) (g : Gathering) : Type 0 where
   taken : g.taken ≡ last
   newer : last < g.number
@@ -210,7 +210,7 @@ newer_done : (g : Gathering) (datagram : List ℕ) → g.taken < number_in datag
 newer_done g datagram newer =
     let n = number_in datagram in
     let fits : n < number_end = omega arith in
-    let message = behind_header g.form datagram in
+    let message = after_header g.form datagram in
     let now = gathering_of g n in
     let has : Gathers g.taken now = cond_both (n == g.number) g (record g { number = n; bytes = [] }) (Gathers g.taken)
     (λ same. let e = eqb-true n g.number same in record { taken = refl; newer = omega (arith, e, newer); fits = omega (arith, e, fits) }) (λ other. record { taken = refl; newer = newer; fits = fits }) in
@@ -309,8 +309,8 @@ abbrev received_with : ClientState → ℕ → List ℕ → Result Application I
 received_with client ack plain applied =
     applied >>= λ application. Ok (record { message = plain; issued = (acknowledge_at client.issued ack).window; application = application })
 
-abbrev received_behind : ClientState → ℕ → List ℕ → ℕ × ℕ → Result Reception Illegible
-received_behind client n bytes ack =
+abbrev received_after : ClientState → ℕ → List ℕ → ℕ × ℕ → Result Reception Illegible
+received_after client n bytes ack =
     ack_taken ack.0 (acknowledge_at client.issued ack.0).answer >>= λ taken.
     received_with client ack.0 (cleared client.state.profile.protocol client.challenge n (text_at client.issued ack.0) bytes)
     (apply_at client.state n (cleared client.state.profile.protocol client.challenge n (text_at client.issued ack.0) bytes))
@@ -330,7 +330,7 @@ with_was client n ack bytes plain (Err cause) received long does e = absurd cc
 
 was_received : (client : ClientState) (n : ℕ) (bytes : List ℕ) (received : Reception) → receive_bytes client n bytes ≡ Ok received → WasReceived client n bytes received
 was_received client n bytes received e =
-    let long = bind_ok (fault_as Bits (ack_at client.state.profile.code (bits_of bytes))) (received_behind client n bytes) received e in
+    let long = bind_ok (fault_as Bits (ack_at client.state.profile.code (bits_of bytes))) (received_after client n bytes) received e in
     let ack = long.0.0 in
     let text = text_at client.issued ack in
     let plain = cleared client.state.profile.protocol client.challenge n text bytes in
@@ -445,7 +445,7 @@ applied_sound : Laws → (profile : Profile) (client : ClientState) (taken : Tak
 applied_sound laws profile client taken applied did was is =
     let new = was_leaving laws profile client taken applied was is in
     let left : IsApplied was.application.state =
-    subst (λ (result : Result Application Illegible). IsApplied (state_behind client.state result)) was.does (laws.stays.apply client.state applied.number taken.client.message was.fits is.applied) in
+    subst (λ (result : Result Application Illegible). IsApplied (state_after_message client.state result)) was.does (laws.stays.apply client.state applied.number taken.client.message was.fits is.applied) in
     let numbered : taken.client.state.number ≡ applied.number = subst (λ (state : AppliedState). state.number ≡ applied.number) was.state new.numbered in
     let newest : taken.client.state.held.newest ≤ applied.number = subst (λ (state : AppliedState). state.held.newest ≤ applied.number) was.state new.newest in
     let number = did.number in

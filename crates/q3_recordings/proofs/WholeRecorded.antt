@@ -22,22 +22,22 @@ none_before noted others = ap (λ (got : List Noted). got ++ noted ∷ others) (
 abbrev RunsLong : ℕ → Noted → Type 0
 RunsLong first noted = (is_before first noted.applied.answer.snap ≡ true) × (composed_whole noted.applied.state (whole_of noted.applied.state noted.message) ≡ None)
 
--- what is had behind a message, by what the recording makes of it
-abbrev HadBehind : (Noted → Type 0) → Noting → Noted → List Noted → Type 0
-HadBehind IsLong now noted others = AllOrFirst IsLong (recorded_with now.stage noted (recorded_from now.stage others)) (noted ∷ others)
+-- what is had after a message, by what the recording makes of it
+abbrev HadAfter : (Noted → Type 0) → Noting → Noted → List Noted → Type 0
+HadAfter IsLong now noted others = AllOrFirst IsLong (recorded_with now.stage noted (recorded_from now.stage others)) (noted ∷ others)
 
-run_behind : (first number : ℕ) (noted : Noted) (others : List Noted) → AllOrFirst (RunsLong first) (recorded_from (Runs first) others) others
+run_after : (first number : ℕ) (noted : Noted) (others : List Noted) → AllOrFirst (RunsLong first) (recorded_from (Runs first) others) others
     → (before : Bool) (whole : Option (List ℕ)) → is_before first noted.applied.answer.snap ≡ before → composed_whole noted.applied.state (whole_of noted.applied.state noted.message) ≡ whole
-    → HadBehind (RunsLong first) (if before then recomposed first number whole else goes_on first number noted.message) noted others
-run_behind first number noted others all true None before long = inr (noted, others, none_before noted others, (before, long))
-run_behind first number noted others all true (Some bytes) before whole = one_more (RunsLong first) noted (recorded_from (Runs first) others) others all
-run_behind first number noted others all false whole before e = one_more (RunsLong first) noted (recorded_from (Runs first) others) others all
+    → HadAfter (RunsLong first) (if before then recomposed first number whole else goes_on first number noted.message) noted others
+run_after first number noted others all true None before long = inr (noted, others, none_before noted others, (before, long))
+run_after first number noted others all true (Some bytes) before whole = one_more (RunsLong first) noted (recorded_from (Runs first) others) others all
+run_after first number noted others all false whole before e = one_more (RunsLong first) noted (recorded_from (Runs first) others) others all
 
 runs_all : (first : ℕ) (messages : List Noted) → AllOrFirst (RunsLong first) (recorded_from (Runs first) messages) messages
 unfolding recorded_from
 runs_all first [] = inl refl
 runs_all first (noted ∷ others) =
-    run_behind first noted.applied.answer.number noted others (runs_all first others) (is_before first noted.applied.answer.snap)
+    run_after first noted.applied.answer.number noted others (runs_all first others) (is_before first noted.applied.answer.snap)
     (composed_whole noted.applied.state (whole_of noted.applied.state noted.message)) refl refl
 
 -- ---- a recording that waits
@@ -45,23 +45,23 @@ runs_all first (noted ∷ others) =
 abbrev HasAll : List Noted → List Noted → Type 0
 HasAll got all = AllOrFirst (TooLong got) got all
 
-begun_behind : (noted : Noted) (others : List Noted) (game : Option (List ℕ)) → composed (game_bits noted.before noted.issued) ≡ game
+begun_after : (noted : Noted) (others : List Noted) (game : Option (List ℕ)) → composed (game_bits noted.before noted.issued) ≡ game
     → let now : Noting = begins noted.applied.answer.number noted.message game in HasAll (recorded_with now.stage noted (recorded_from now.stage others)) (noted ∷ others)
-begun_behind noted others None long =
+begun_after noted others None long =
     inr (noted, others, none_before noted others, subst (λ (got : List Noted). TooLong got noted) (sym (recorded_none others)) long)
-begun_behind noted others (Some game) e =
+begun_after noted others (Some game) e =
     let number = noted.applied.answer.number in
     one_more (RunsLong number) noted (recorded_from (Runs number) others) others (runs_all number others)
 
-wait_behind : (noted : Noted) (others : List Noted) (game : Option (List ℕ)) → composed (game_bits noted.before noted.issued) ≡ game → HasAll (recorded_from Waits others) (from_whole others)
+wait_after : (noted : Noted) (others : List Noted) (game : Option (List ℕ)) → composed (game_bits noted.before noted.issued) ≡ game → HasAll (recorded_from Waits others) (from_whole others)
     → (whole : Bool)
     → let now : Noting = if whole then begins noted.applied.answer.number noted.message game else record { stage = Waits; bytes = [] } in
     HasAll (recorded_with now.stage noted (recorded_from now.stage others)) (if whole then noted ∷ others else from_whole others)
-wait_behind noted others game e all true = begun_behind noted others game e
-wait_behind noted others game e all false = all
+wait_after noted others game e all true = begun_after noted others game e
+wait_after noted others game e all false = all
 
 pub whole_is_recorded : WholeIsRecorded
 unfolding recorded_from from_whole
 whole_is_recorded [] = inl refl
 whole_is_recorded (noted ∷ others) =
-    wait_behind noted others (composed (game_bits noted.before noted.issued)) refl (whole_is_recorded others) (is_whole noted.applied.answer.snap)
+    wait_after noted others (composed (game_bits noted.before noted.issued)) refl (whole_is_recorded others) (is_whole noted.applied.answer.snap)

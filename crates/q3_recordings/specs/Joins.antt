@@ -16,7 +16,7 @@ use Rattle.q3_world.specs.StandsFor.{IsChecked}
 use Rattle.q3_schedules.specs.NodeRecorded.{applied_in, begins_it, left_in, line_at}
 use Rattle.q3_recordings.specs.Plays.{recorded_from, BeginsTold, PlaysTo}
 
--- the messages that a node applies in so many turns behind the first that begins a recording into the file of a name, up to its end
+-- the messages that a node applies in so many turns after the first that begins a recording into the file of a name, up to its end
 unfoldable pub noted_in : List ℕ → ℕ → Node ClientEnd → List ℕ → List (Option Parcel) → List Noted
 noted_in name zero node readings arrivals = []
 noted_in name (suc count) node readings arrivals =

@@ -19,7 +19,7 @@ use Rattle.q3_schedules.specs.NodeRecorded.{written_of}
 
 -- ---- messages that a client applied
 
--- one that a client applied behind another: numbers rise, no snapshot of a newer number was accepted, and all that there was and that came is
+-- one that a client applied after another: numbers rise, no snapshot of a newer number was accepted, and all that there was and that came is
 -- well formed and as long as a record may be
 pub record IsNoted (noted : Noted) : Type 0 where
   pub stands : IsApplied noted.before
@@ -58,7 +58,7 @@ abbrev pub applied_so : Played → ℕ → ℕ → Option Application → (Playe
 applied_so played number next None others = []
 applied_so played number next (Some applied) others = applied ∷ others (played_on played number next applied).played
 
--- the next record's, if there is one; nothing more behind a refusal or the demo's end
+-- the next record's, if there is one; nothing more after a refusal or the demo's end
 abbrev pub next_applied : List ℕ → Played → Result Piece DemoError → (Played → List Application) → List Application
 next_applied demo played (Ok (Message number length next)) others = applied_so played number next (result_ok (apply_at played.state number (message_of demo played length))) others
 next_applied demo played other others = []
@@ -74,14 +74,14 @@ applied_of profile demo = applied_from most_records demo (unplayed profile)
 -- ---- the law
 
 -- nothing where nothing is recorded; otherwise the gamestate's first
-abbrev pub behind_game : {A : Type 0} → A → List A → List A
-behind_game game [] = []
-behind_game game (first ∷ others) = game ∷ first ∷ others
+abbrev pub after_game : {A : Type 0} → A → List A → List A
+after_game game [] = []
+after_game game (first ∷ others) = game ∷ first ∷ others
 
 -- and of numbers that before the first
-abbrev pub behind_number : List ℕ → List ℕ
-behind_number [] = []
-behind_number (first ∷ others) = (first - 1) ∷ first ∷ others
+abbrev pub after_number : List ℕ → List ℕ
+after_number [] = []
+after_number (first ∷ others) = (first - 1) ∷ first ∷ others
 
 -- the number of a message, the snapshot that is accepted of it, if one is, and the commands that are executed of it
 abbrev pub number_in : Application → ℕ
@@ -123,16 +123,16 @@ LeftBy strings_too [] state = Unit {0}
 LeftBy strings_too (noted ∷ []) state = LeftAs strings_too noted.applied.state state
 LeftBy strings_too (noted ∷ next ∷ others) state = LeftBy strings_too (next ∷ others) state
 
--- a demo plays to its end; behind the gamestate its records are the messages that were recorded, each under its number, with the snapshot
+-- a demo plays to its end; after the gamestate its records are the messages that were recorded, each under its number, with the snapshot
 -- that the client accepted of it and the commands that it executed of it; and in the end the state is as the client's
 pub record PlaysTo (profile : Profile) (demo : List ℕ) (recorded : List Noted) : Type 0 where
   pub ending : (play_of profile demo).ending ≡ Ok tt
-  pub numbers : map number_in (applied_of profile demo) ≡ behind_number (map (λ (noted : Noted). noted.applied.answer.number) recorded)
-  pub accepted : map accepted_in (applied_of profile demo) ≡ behind_game None (map (λ (noted : Noted). noted.applied.accepted) recorded)
-  pub heard : map heard_in (applied_of profile demo) ≡ behind_game [] (map (λ (noted : Noted). noted.applied.heard) recorded)
+  pub numbers : map number_in (applied_of profile demo) ≡ after_number (map (λ (noted : Noted). noted.applied.answer.number) recorded)
+  pub accepted : map accepted_in (applied_of profile demo) ≡ after_game None (map (λ (noted : Noted). noted.applied.accepted) recorded)
+  pub heard : map heard_in (applied_of profile demo) ≡ after_game [] (map (λ (noted : Noted). noted.applied.heard) recorded)
   pub left : LeftBy (BeginsWhole recorded) recorded (last_played profile demo).state
 
--- so it is of all messages that a client applied one behind the other, where the recording begins by strings that tell the map's id, and
+-- so it is of all messages that a client applied one after the other, where the recording begins by strings that tell the map's id, and
 -- isn't longer than a demo that may be played; and also as long as it has no end yet
 abbrev pub RecordingPlays : Type 0
 RecordingPlays = (profile : Profile) (messages : List Noted) (over : Bool) → AreNoted messages → AreBy profile messages → BeginsTold (recorded_from Waits messages)
@@ -145,7 +145,7 @@ unfoldable pub from_whole : List Noted → List Noted
 from_whole [] = []
 from_whole (noted ∷ others) = if is_whole noted.applied.answer.snap then noted ∷ others else from_whole others
 
--- what had to be composed for a message, behind those that were recorded, is too long: the gamestate before the first, or the message whole
+-- what had to be composed for a message, after those that were recorded, is too long: the gamestate before the first, or the message whole
 abbrev pub TooLong : List Noted → Noted → Type 0
 TooLong [] noted = composed (game_bits noted.before noted.issued) ≡ None
 TooLong (first ∷ others) noted =

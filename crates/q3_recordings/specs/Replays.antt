@@ -17,33 +17,33 @@ use Rattle.q3_schedules.specs.Recorded.{applied_until}
 use Rattle.q3_schedules.specs.Schedules.{IsScheduled, SaysNoChange}
 use Rattle.q3_recordings.specs.Plays.{recorded_from, BeginsTold, BeginsWhole, PlaysTo}
 
--- what is kept behind a `record` line
+-- what is kept after a `record` line
 abbrev pub kept_recording : Profile → List Event → ℕ → List ℕ → Kept
 kept_recording profile first c name = (kept_step (kept_then profile first) (events.RecordTo c name)).kept
 
--- the messages that a client applies behind its `record` line, up to the first `stop` of it
-abbrev pub noted_behind : Profile → List Event → ℕ → List ℕ → List Event → List Noted
-noted_behind profile first c name rest = applied_until (kept_recording profile first c name) rest c
+-- the messages that a client applies after its `record` line, up to the first `stop` of it
+abbrev pub noted_after : Profile → List Event → ℕ → List ℕ → List Event → List Noted
+noted_after profile first c name rest = applied_until (kept_recording profile first c name) rest c
 
 -- the recording of a replay's client, from a `record` line that was answered `ok`, plays so, whatever bytes arrive
 abbrev pub ReplayPlays : Type 0
 ReplayPlays = (profile : Profile) (first rest : List Event) (c : ℕ) (name : List ℕ) → IsChecked profile
     → (kept_step (kept_then profile first) (events.RecordTo c name)).answer ≡ Given (handed.Record c (Ok tt))
-    → BeginsTold (recorded_from Waits (noted_behind profile first c name rest))
-    → length (recording (noted_behind profile first c name rest)) ≤ most_bytes → length (noted_behind profile first c name rest) < most_records
-    → PlaysTo profile (recording (noted_behind profile first c name rest)) (recorded_from Waits (noted_behind profile first c name rest))
+    → BeginsTold (recorded_from Waits (noted_after profile first c name rest))
+    → length (recording (noted_after profile first c name rest)) ≤ most_bytes → length (noted_after profile first c name rest) < most_records
+    → PlaysTo profile (recording (noted_after profile first c name rest)) (recorded_from Waits (noted_after profile first c name rest))
 
 -- and where each end gets only what the other made, as long as there are fewer events than a demo may have records, nothing is asked of
 -- the config strings
 abbrev pub OwnReplayPlays : Type 0
 OwnReplayPlays = (profile : Profile) (first rest : List Event) (c : ℕ) (name : List ℕ) → IsChecked profile → AllByRecursion IsScheduled (first ++ events.RecordTo c name ∷ rest)
     → (kept_step (kept_then profile first) (events.RecordTo c name)).answer ≡ Given (handed.Record c (Ok tt))
-    → length (recording (noted_behind profile first c name rest)) ≤ most_bytes → length rest < most_records
-    → PlaysTo profile (recording (noted_behind profile first c name rest)) (recorded_from Waits (noted_behind profile first c name rest))
+    → length (recording (noted_after profile first c name rest)) ≤ most_bytes → length rest < most_records
+    → PlaysTo profile (recording (noted_after profile first c name rest)) (recorded_from Waits (noted_after profile first c name rest))
 
 -- and where, moreover, the game says no text of a config change, no long string is being put together where it begins: so the config strings
 -- in the end are the client's
 abbrev pub OwnReplayBeginsWhole : Type 0
 OwnReplayBeginsWhole = (profile : Profile) (first rest : List Event) (c : ℕ) (name : List ℕ) → IsChecked profile → AllByRecursion IsScheduled (first ++ events.RecordTo c name ∷ rest)
     → AllByRecursion SaysNoChange (first ++ events.RecordTo c name ∷ rest) → (kept_step (kept_then profile first) (events.RecordTo c name)).answer ≡ Given (handed.Record c (Ok tt))
-    → BeginsWhole (recorded_from Waits (noted_behind profile first c name rest))
+    → BeginsWhole (recorded_from Waits (noted_after profile first c name rest))

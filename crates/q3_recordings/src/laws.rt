@@ -17,7 +17,7 @@ pub fn whole_is_recorded()
     ensures { WholeIsRecorded }
 {}
 
-/// Playing a recording gives what its client had: behind the gamestate each of the messages that it recorded, under its number, with the
+/// Playing a recording gives what its client had: after the gamestate each of the messages that it recorded, under its number, with the
 /// snapshot that was accepted of it and the commands that were executed of it, and in the end the client's baselines, slot, checksum feed and
 /// number of commands. The recording begins with config strings that tell the map's id. Where it doesn't begin within a long string, the
 /// config strings in the end are the client's, too.

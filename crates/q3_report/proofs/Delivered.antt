@@ -10,7 +10,7 @@ use Rattle.q3_clstate.specs.Report.{applied_text}
 use Rattle.q3_client.specs.declared.client.ClientTook.TheVariants as took
 use Rattle.q3_report.specs.ClientLines.{took_text, client_text}
 
--- the rest of the delivery's line, and behind it those of what was applied
+-- the rest of the delivery's line, and after it those of what was applied
 pub delivered_lines : (state : AppliedState) (c : ℕ) (applied : Applied) (commands : List Command)
     → client_text state c (took.Applied applied) commands
     ≡ concat (codes " client " ∷ decimal c ∷ codes " applied " ∷ decimal applied.number ∷ codes "\n" ∷ []) ++ applied_text state applied commands

@@ -14,7 +14,7 @@ refused_in_parts word number reason = nested word (decimal number) (codes " refu
 two : (a b rest : List ℕ) → concat (a ∷ b ∷ rest ∷ []) ≡ concat (a ∷ b ∷ []) ++ rest
 two a b rest = simp (append_assoc, append-nil) refl
 
--- what is taken, behind a word and a number
+-- what is taken, after a word and a number
 pub taken_in_parts : (word : List ℕ) (number : ℕ) (taken : List ℕ) → concat (word ∷ decimal number ∷ taken ∷ []) ≡ concat (word ∷ decimal number ∷ []) ++ taken
 taken_in_parts word number taken = two word (decimal number) taken
 

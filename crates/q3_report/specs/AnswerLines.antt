@@ -24,12 +24,12 @@ use Rattle.q3_report.specs.declared.answer.Front.{Front}
 use Rattle.q3_report.specs.declared.answer.Front.TheVariants as fronts
 use Rattle.q3_report.specs.Answers.{Taking, ByClient, ByServer, Showing, ShowsNobody, ShowsNothing, ShowsNewest, Answered, Given, Served, SentOut, Took, Untaken, Shown, Bytes}
 
--- what stands behind that which the game handed in, with the text of each error
+-- what follows that which the game handed in, with the text of each error
 abbrev pub handed_in_text : {E : Type 0} → (E → List ℕ) → Result (Unit {0}) E → List ℕ
 handed_in_text error_text (Ok x) = codes " ok\n"
 handed_in_text error_text (Err e) = concat (codes " refused " ∷ error_text e ∷ codes "\n" ∷ [])
 
--- what stands behind a command that was issued, its number, or the text of the error
+-- what follows a command that was issued: its number, or the text of the error
 abbrev pub issued_text : {E : Type 0} → (E → List ℕ) → Result ℕ E → List ℕ
 issued_text error_text (Ok number) = concat (codes " ok " ∷ decimal number ∷ codes "\n" ∷ [])
 issued_text error_text (Err e) = concat (codes " refused " ∷ error_text e ∷ codes "\n" ∷ [])
@@ -87,7 +87,7 @@ front_text (fronts.Toclient c) = concat (codes "toclient " ∷ decimal c ∷ [])
 front_text (fronts.Toserver c) = concat (codes "toserver " ∷ decimal c ∷ [])
 front_text fronts.Arrive = codes "arrive"
 
--- what stands behind it where nobody took them
+-- what follows it where nobody took them
 abbrev pub untaken_text : TakeRefused → List ℕ
 untaken_text untaken.Unknown = codes " unknown\n"
 untaken_text untaken.NoClient = codes " noclient\n"
@@ -103,13 +103,13 @@ abbrev pub taking_text : Taking → List ℕ
 taking_text (ByClient c took state commands ended) = client_text state c took commands ++ ended_text ended
 taking_text (ByServer took run) = server_text took run
 
--- what stands behind `show C`
+-- what follows `show C`
 abbrev pub showing_text : Showing → List ℕ
 showing_text ShowsNobody = codes " noclient\n"
 showing_text ShowsNothing = codes " none\n"
 showing_text (ShowsNewest snapshot) = snapshot_text snapshot
 
--- what stands behind `bytes D`
+-- what follows `bytes D`
 abbrev pub bytes_text : Option (List ℕ) → List ℕ
 bytes_text None = codes " unknown\n"
 bytes_text (Some bytes) = concat (codes " " ∷ hex_word bytes ∷ codes "\n" ∷ [])

@@ -18,7 +18,7 @@ abbrev pub illegible_text : List ℕ → Option ℕ → List ℕ
 illegible_text word None = concat (codes " illegible " ∷ word ∷ codes "\n" ∷ [])
 illegible_text word (Some number) = concat (codes " illegible " ∷ word ∷ codes " " ∷ decimal number ∷ codes "\n" ∷ [])
 
--- what stands behind ` client C`, with what was applied by then and the commands that were executed
+-- what follows ` client C`, with what was applied by then and the commands that were executed
 abbrev pub took_text : AppliedState → ClientTook → List Command → List ℕ
 took_text state (Dropped cause) commands = codes " dropped\n"
 took_text state Runt commands = codes " runt\n"
@@ -31,7 +31,7 @@ took_text state Partial commands = codes " partial\n"
 took_text state (Illegible cause) commands = illegible_text (cause_word cause) (cause_number cause)
 took_text state (Applied applied) commands = concat (codes " applied " ∷ decimal applied.number ∷ codes "\n" ∷ applied_text state applied commands ∷ [])
 
--- what stands behind `deliver D`
+-- what follows `deliver D`
 abbrev pub client_text : AppliedState → ℕ → ClientTook → List Command → List ℕ
 client_text state c took commands = concat (codes " client " ∷ decimal c ∷ took_text state took commands ∷ [])
 
@@ -45,7 +45,7 @@ move_error_text NoGame = codes "nogame"
 move_error_text (NotLater last) = concat (codes "notlater " ∷ decimal last ∷ [])
 move_error_text Range = codes "range"
 
--- what stands behind `send C`
+-- what follows `send C`
 abbrev pub sent_text : Sent → ℕ → List ℕ
 sent_text (sent.Dropped cause) datagram = codes " dropped\n"
 sent_text (sent.Fragment number) datagram = concat (codes " fragment " ∷ decimal number ∷ codes " datagram " ∷ decimal datagram ∷ codes "\n" ∷ [])

@@ -49,7 +49,7 @@ config_refused_text config.Long = codes "long"
 config_refused_text config.Full = codes "full"
 config_refused_text (config.WindowFull slot) = concat (codes "windowfull " ∷ decimal slot ∷ [])
 
--- what stands behind `serve C`
+-- what follows `serve C`
 abbrev pub emitted_text : Emitted → ℕ → List ℕ
 emitted_text emitted.NoClient datagram = codes " noclient\n"
 emitted_text (emitted.Fragment number) datagram = concat (codes " fragment " ∷ decimal number ∷ codes " datagram " ∷ decimal datagram ∷ codes "\n" ∷ [])
@@ -117,7 +117,7 @@ ran_nothing = record { commands = []; entered = None; moves = []; owed = false }
 abbrev pub run_text : Run → List ℕ
 run_text run = concat (commands_text run.commands ∷ entered_text run.entered ∷ flat_map move_text run.moves ∷ [])
 
--- what stands behind `deliver D` where the server took a datagram: the rest of that line, and the lines under it
+-- what follows `deliver D` where the server took a datagram: the rest of that line, and the lines under it
 abbrev pub server_text : ServerTook → Run → List ℕ
 server_text took.Runt run = codes " server runt\n"
 server_text took.Connectionless run = codes " server connectionless\n"

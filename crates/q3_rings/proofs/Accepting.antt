@@ -25,7 +25,7 @@ grows ring count held =
       few = remains_few ring more;
     }
 
--- what was held in a place is held there behind a higher number, and older
+-- what was held in a place is held there after a higher number, and older
 in_older : (ring count newest number place : ℕ) (held : Option HeldSnapshot) → newest ≤ number → IfSome held (IsHeldIn newest place) → IfSome (option_map (older ring count) held) (IsHeldIn number place)
 in_older ring count newest number place None above is = tt
 in_older ring count newest number place (Some held) above is =
@@ -45,14 +45,14 @@ ages_grow ring count None other are = tt
 ages_grow ring count (Some one) None are = tt
 ages_grow ring count (Some one) (Some other) are =
     let grown = grows ring count one in
-    let behind = grows ring count other in
+    let after = grows ring count other in
     let same : (older ring count one).snapshot.head.number ≡ one.snapshot.head.number = ap (λ head. head.number) grown.head in
-    let equal : (older ring count other).snapshot.head.number ≡ other.snapshot.head.number = ap (λ head. head.number) behind.head in
+    let equal : (older ring count other).snapshot.head.number ≡ other.snapshot.head.number = ap (λ head. head.number) after.head in
     λ lower.
     let before = are (omega arith) in
     let age = grown.age in
     let few = grown.few in
-    let later = behind.age in
+    let later = after.age in
     omega arith
 
 -- all are older than the one that is accepted, which is older than none
@@ -116,8 +116,8 @@ ages_stay snapshots snapshot place other are newer =
             | inl here ↦
                 subst (λ later. IfSome before (λ one. IfSome later (IsOlder one))) (sym (at_new other here))
                 (older_than_new snapshots.ring snapshots.newest place (get_or snapshots.places place None) snapshot (are.each place))
-            | inr behind ↦
-                subst (λ later. IfSome before (λ one. IfSome later (IsOlder one))) (sym (accept_other snapshots snapshot other behind))
+            | inr after ↦
+                subst (λ later. IfSome before (λ one. IfSome later (IsOlder one))) (sym (accept_other snapshots snapshot other after))
                 (ages_grow snapshots.ring count (get_or snapshots.places place None) (get_or snapshots.places other None) (are.ages place other))
           ])
     ]
@@ -144,7 +144,7 @@ put_each places held P count here each place =
       | inr other ↦ subst (P place) (sym (get_or-set_other places own place (Some held) None other)) (each place)
     ]
 
--- what was held in a place is held there behind a higher number
+-- what was held in a place is held there after a higher number
 held_below : (newest number place : ℕ) (held : Option HeldSnapshot) → newest ≤ number → IfSome held (IsHeldIn newest place) → IfSome held (IsHeldIn number place)
 held_below newest number place None above is = tt
 held_below newest number place (Some held) above is = record {

@@ -1,4 +1,4 @@
--- What is kept of snapshots, behind one that is accepted.
+-- What is kept of snapshots, after one that is accepted.
 use Rattle.std.proofs.Common.{◌≡◌, ℕ, ◌+◌, ◌-◌, ◌^◌, ◌<◌, ◌≤◌, List, [], ◌∷◌, ◌++◌, length, map, get_or, Option, Some, None, refl, sym, ap, ◌∙◌, subst, arith}
 use Rattle.std.specs.Prelude.{IfSome, option_map}
 use Rattle.std.specs.List.{All}
@@ -51,9 +51,9 @@ places_older others ring entities (None ∷ places) are =
     ap (λ list. None ∷ list) (places_older others ring entities places (All-tail (λ place. IfSome place (IsKept ring)) None places are))
 places_older others ring entities (Some kept ∷ places) are =
     let here = kept_older others ring entities kept (All-head (λ place. IfSome place (IsKept ring)) (Some kept) places are) in
-    let behind = places_older others ring entities places (All-tail (λ place. IfSome place (IsKept ring)) (Some kept) places are) in
+    let after = places_older others ring entities places (All-tail (λ place. IfSome place (IsKept ring)) (Some kept) places are) in
     ap (λ held. Some held ∷ map (option_map (as_held (with_entities ring entities))) places) here
-    ∙ ap (λ list. Some (older (length ring.recent) (length entities) (as_held ring kept)) ∷ list) behind
+    ∙ ap (λ list. Some (older (length ring.recent) (length entities) (as_held ring kept)) ∷ list) after
 
 next_is : PlacedIsThere → (ring : RingState) (head : SnapHead) (entities : List EntityState) → 512 ≤ length ring.recent → length entities ≤ most_entities
     → as_held (with_entities ring entities) (next_kept ring head entities) ≡ record { snapshot = record { head = head; entities = entities }; age = length entities }
@@ -64,7 +64,7 @@ next_is there ring head entities room few =
     (λ young. there ring entities (omega arith))
     ∙ new_remains (length ring.recent) (record { snapshot = record { head = head; entities = entities }; age = length entities }) room few
 
--- what a struct holds behind a snapshot that is accepted
+-- what a struct holds after a snapshot that is accepted
 abbrev pub accepted_inside : Inside → SnapHead → List EntityState → Inside
 accepted_inside r head entities = record {
   ring = with_entities r.ring entities;

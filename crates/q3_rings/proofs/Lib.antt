@@ -3,7 +3,7 @@ pub mod Aging
 pub mod Accepting
 pub mod Rising
 pub mod Near
-pub mod Behind
+pub mod HeldAfter
 pub mod Added
 pub mod Kept
 pub mod PuttingBack

@@ -24,12 +24,12 @@ filter_none test (x ∷ xs) each =
 pub filter_push : {X : Type 0} (test : X → Bool) (xs : List X) (x : X) → test x ≡ true → filter test (xs ++ x ∷ []) ≡ filter test xs ++ x ∷ []
 filter_push test xs x passes =
     let last : filter test (x ∷ []) ≡ x ∷ [] = rw passes refl in
-    filter-append test xs (x ∷ []) ∙ ap (λ behind. filter test xs ++ behind) last
+    filter-append test xs (x ∷ []) ∙ ap (λ after. filter test xs ++ after) last
 
 pub filter_passes_by : {X : Type 0} (test : X → Bool) (xs : List X) (x : X) → test x ≡ false → filter test (xs ++ x ∷ []) ≡ filter test xs
 filter_passes_by test xs x fails =
     let last : filter test (x ∷ []) ≡ [] = rw fails refl in
-    filter-append test xs (x ∷ []) ∙ ap (λ behind. filter test xs ++ behind) last ∙ append-nil (filter test xs)
+    filter-append test xs (x ∷ []) ∙ ap (λ after. filter test xs ++ after) last ∙ append-nil (filter test xs)
 
 pub contains_cases : {X : Type 0} (x : X) (xs : List X) (y : X) → Contains (x ∷ xs) y → (x ≡ y) ⊎ Contains xs y
 contains_cases x xs y (zero, lt, is) = inl is

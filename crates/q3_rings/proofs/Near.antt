@@ -77,9 +77,9 @@ near_is_last least o (x ∷ have) snapshot are within near = elim (contains_case
       filter_none (has_place snapshot.head.number) have
       (others_elsewhere snapshot.head.number (x.head.number + 1) have (omega arith) are.2 (All-tail (IsBelow (snapshot.head.number + 32)) x have near)) in
       rw (here, none) (ap (λ (one : Snapshot). Some one) is)
-  | inr behind ↦
+  | inr after ↦
       let step : (o : Option Snapshot) → last_or o (filter (has_place snapshot.head.number) have) ≡ Some snapshot =
-      λ o. near_is_last (x.head.number + 1) o have snapshot are.2 behind (All-tail (IsBelow (snapshot.head.number + 32)) x have near) in
+      λ o. near_is_last (x.head.number + 1) o have snapshot are.2 after (All-tail (IsBelow (snapshot.head.number + 32)) x have near) in
       elim (cases_Bool (has_place snapshot.head.number x)) [
         | inl here ↦ rw here (step (Some x))
         | inr other ↦ rw other (step o)
@@ -115,7 +115,7 @@ age_from least number limit (x ∷ have) are below =
     let from = are.0 in
     let few = are.1 in
     let first = All-head (IsBelow limit) x have below in
-    let behind = age_from (x.head.number + 1) number limit have are.2 (All-tail (IsBelow limit) x have below) in
+    let after = age_from (x.head.number + 1) number limit have are.2 (All-tail (IsBelow limit) x have below) in
     elim (cases_Bool (counts number x)) [
       | inl newer ↦
           let le = leb-true _ _ newer in

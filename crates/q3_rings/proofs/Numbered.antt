@@ -51,11 +51,11 @@ count_apart : {X : Type 0} (f g : X → Bool) (xs : List X) (place : ℕ) (d : X
     → count_by f xs + bit (g (get_or xs place d)) ≡ count_by g xs + bit (f (get_or xs place d))
 count_apart f g [] place d within same = absurd (omega arith)
 count_apart f g (x ∷ xs) zero d within same =
-    let behind = count_alike f g xs d (λ k. same (suc k) (omega arith)) in
+    let after = count_alike f g xs d (λ k. same (suc k) (omega arith)) in
     omega (arith, sum_by-cons (λ x. bit (f x)) x xs, sum_by-cons (λ x. bit (g x)) x xs)
 count_apart f g (x ∷ xs) (suc place) d within same =
     let here : bit (f x) ≡ bit (g x) = ap bit (same 0 (omega arith)) in
-    let behind : count_by f xs + bit (g (get_or (x ∷ xs) (suc place) d)) ≡ count_by g xs + bit (f (get_or (x ∷ xs) (suc place) d)) =
+    let after : count_by f xs + bit (g (get_or (x ∷ xs) (suc place) d)) ≡ count_by g xs + bit (f (get_or (x ∷ xs) (suc place) d)) =
     count_apart f g xs place d (omega arith) (λ k other. same (suc k) (omega arith)) in
     omega (arith, sum_by-cons (λ x. bit (f x)) x xs, sum_by-cons (λ x. bit (g x)) x xs)
 
@@ -71,11 +71,11 @@ up_to_alike newest number place (Some held) is other = elim (cases_Bool (leb hel
   | inl before ↦
       let le = leb-true _ _ before in
       le-leb held.snapshot.head.number (suc number) (omega arith) ∙ sym before
-  | inr behind ↦
-      let gt = leb-false _ _ behind in
+  | inr after ↦
+      let gt = leb-false _ _ after in
       let here = is.here in
       let apart : held.snapshot.head.number ≢ suc number = λ same. other (sym here ∙ ap place_of same) in
-      lt-leb held.snapshot.head.number (suc number) (omega arith) ∙ sym behind
+      lt-leb held.snapshot.head.number (suc number) (omega arith) ∙ sym after
 ]
 
 -- what stands in the place of the next number
@@ -94,10 +94,10 @@ up_to_next number (Some held) = elim (cases_eq held.snapshot.head.number (suc nu
             let le = leb-true _ _ before in
             let later : leb held.snapshot.head.number (suc number) ≡ true = le-leb held.snapshot.head.number (suc number) (omega arith) in
             rw (before, later) refl
-        | inr behind ↦
-            let gt = leb-false _ _ behind in
+        | inr after ↦
+            let gt = leb-false _ _ after in
             let later : leb held.snapshot.head.number (suc number) ≡ false = lt-leb held.snapshot.head.number (suc number) (omega arith) in
-            rw (behind, later) refl
+            rw (after, later) refl
       ])
 ]
 

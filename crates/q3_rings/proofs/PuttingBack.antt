@@ -29,7 +29,7 @@ none_of f (Some x) is = cc
 pub none_is_begun : (r : Inside) (rings : RingsState) → rings_in r ≡ rings → rings.begun ≡ None → r.begun ≡ None
 none_is_begun r rings view none = none_of (begun_in r.ring) r.begun (ap (λ (rings : RingsState). rings.begun) view ∙ none)
 
--- the struct behind a step, and its value
+-- the struct after a step, and its value
 pub record IsAs (r : Inside) (rings : RingsState) : Type 0 where
   pub are : AreKept r
   pub is : rings_in r ≡ rings
@@ -42,8 +42,8 @@ no_place f zero (place ∷ places) is = cc
 no_place f (suc count) [] is = cc
 no_place f (suc count) (place ∷ places) is =
     let here : option_map f place ≡ None = cc in
-    let behind : map (option_map f) places ≡ replicate count None = cc in
-    ap (λ place. place ∷ places) (none_of f place here) ∙ ap (λ list. None ∷ list) (no_place f count places behind)
+    let after : map (option_map f) places ≡ replicate count None = cc in
+    ap (λ place. place ∷ places) (none_of f place here) ∙ ap (λ list. None ∷ list) (no_place f count places after)
 
 -- what a struct holds where nothing is held
 nothing_in : (r : Inside) (room : ℕ) → rings_in r ≡ no_rings room → r ≡ record { ring = r.ring; places = no_places; newest = 0; begun = None }
@@ -137,9 +137,9 @@ places_same others ring first number entity (None ∷ places) from was are =
     ap (λ list. None ∷ list) (places_same others ring first number entity places from was (All-tail (λ place. IfSome place (IsInFront ring first)) None places are))
 places_same others ring first number entity (Some kept ∷ places) from was are =
     let here = kept_same others ring first number entity kept from was (All-head (λ place. IfSome place (IsInFront ring first)) (Some kept) places are) in
-    let behind = places_same others ring first number entity places from was (All-tail (λ place. IfSome place (IsInFront ring first)) (Some kept) places are) in
+    let after = places_same others ring first number entity places from was (All-tail (λ place. IfSome place (IsInFront ring first)) (Some kept) places are) in
     ap (λ held. Some held ∷ map (option_map (as_held (with_entity_at ring number entity))) places) here
-    ∙ ap (λ list. Some (as_held ring kept) ∷ list) behind
+    ∙ ap (λ list. Some (as_held ring kept) ∷ list) after
 
 place_stays : PutLeavesOthers → (ring : RingState) (first number : ℕ) (entity : EntityState) → first ≤ number → number < ring.placed
     → (place : Option Kept) → IfSome place (IsInFront ring first) → IfSome place (IsKept (with_entity_at ring number entity))
@@ -151,7 +151,7 @@ place_stays others ring first number entity from was (Some kept) is = record {
       subst Rises (sym (front_stays others ring first number entity kept from was is before)) (is.is.rises before);
 }
 
--- what a struct holds, while one is being put back, and behind one more of its entities
+-- what a struct holds, while one is being put back, and after one more of its entities
 abbrev pub back_inside : Inside → Back → Inside
 back_inside r back = record r { begun = Some back }
 

@@ -43,12 +43,12 @@ record EndsAt (o : Option Snapshot) (have : List Snapshot) : Type 0 where
 ends : (least : ℕ) (o : Option Snapshot) (have : List Snapshot) → AcceptedFrom least have → number_of o < least → EndsAt o have
 ends least o [] are below = record { above = omega arith; each = All-nil (IsBelow (number_of o + 1)) }
 ends least o (x ∷ have) are below =
-    let behind = ends (x.head.number + 1) (Some x) have are.2 (omega arith) in
-    let above = behind.above in
+    let after = ends (x.head.number + 1) (Some x) have are.2 (omega arith) in
+    let above = after.above in
     let first = are.0 in
     record {
       above = omega arith;
-      each = All-cons (IsBelow (number_of (last_or (Some x) have) + 1)) x have (omega arith) behind.each;
+      each = All-cons (IsBelow (number_of (last_or (Some x) have) + 1)) x have (omega arith) after.each;
     }
 
 -- all are below a number that is above the newest

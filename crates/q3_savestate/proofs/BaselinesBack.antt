@@ -101,15 +101,15 @@ none_set : (count : ℕ) → set_baselines (replicate count None) ≡ []
 none_set zero = refl
 none_set (suc count) = none_set count
 
--- behind others none is
+-- after others none is
 front_set : (front : Baselines) (count : ℕ) → set_baselines (front ++ replicate count None) ≡ set_baselines front
 front_set front count = filter_map-append (λ baseline. baseline) front (replicate count None) ∙ ap (λ states. set_baselines front ++ states) (none_set count) ∙ append-nil (set_baselines front)
 
--- what rises is set, one behind the other
-set_behind : (limit : ℕ) (front : Baselines) (count least : ℕ) (entities : List EntityState) → length front ≡ least → RiseFrom limit least entities → limit ≤ least + count
+-- what rises is set, one after the other
+set_after : (limit : ℕ) (front : Baselines) (count least : ℕ) (entities : List EntityState) → length front ≡ least → RiseFrom limit least entities → limit ≤ least + count
     → set_baselines (fold with_baseline (front ++ replicate count None) entities) ≡ set_baselines front ++ entities
-set_behind limit front count least [] long rise wide = front_set front count ∙ sym (append-nil (set_baselines front))
-set_behind limit front count least (entity ∷ others) long rise wide =
+set_after limit front count least [] long rise wide = front_set front count ∙ sym (append-nil (set_baselines front))
+set_after limit front count least (entity ∷ others) long rise wide =
     let before : ℕ = entity.number - least in
     let behind : ℕ = least + count - (entity.number + 1) in
     let head : Baselines = front ++ replicate before None in
@@ -117,7 +117,7 @@ set_behind limit front count least (entity ∷ others) long rise wide =
     let here : with_baseline (front ++ replicate count None) entity ≡ next ++ replicate behind None = set_in_gap front None (Some entity) before behind count entity.number (omega (arith, rise.0, rise.1)) (omega (arith, rise.0)) in
     let after : length next ≡ entity.number + 1 = omega (arith, length-append head (Some entity ∷ []), length-append front (replicate before None), length-replicate {A = Option EntityState} before None, rise.0) in
     ap (λ baselines. set_baselines (fold with_baseline baselines others)) here
-    ∙ set_behind limit next behind (entity.number + 1) others after rise.2 (omega (arith, rise.0, rise.1))
+    ∙ set_after limit next behind (entity.number + 1) others after rise.2 (omega (arith, rise.0, rise.1))
     ∙ ap (λ states. states ++ others) (filter_map-append (λ baseline. baseline) head (Some entity ∷ []) ∙ ap (λ states. states ++ entity ∷ []) (front_set front before))
     ∙ append_assoc (set_baselines front) (entity ∷ []) others
 
@@ -139,7 +139,7 @@ pub record ReadsLines (table : Layout) (cursor : Cursor) (baselines : Baselines)
 counted_lines : (table : Layout) (count : ℕ) (cursor next rest : Cursor) (entities : List EntityState) → end_mark table ≤ most_baselines → Took cursor (little_bytes 2 count) next
     → ReadsEntities table count 0 next entities rest → ReadsLines table cursor (baselines_of entities) rest
 counted_lines table count cursor next rest entities few one more =
-    let same : set_baselines (baselines_of entities) ≡ entities = set_behind (end_mark table) [] most_baselines 0 entities refl more.rise few in
+    let same : set_baselines (baselines_of entities) ≡ entities = set_after (end_mark table) [] most_baselines 0 entities refl more.rise few in
     record {
       took = rw same (took_counted (entity_bytes table) count cursor next rest entities one more.took more.long);
       are = are_baselines table no_baselines 0 entities (none_are_baselines table) more.rise more.are more.normal;

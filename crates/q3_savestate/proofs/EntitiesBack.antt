@@ -37,9 +37,9 @@ pub entities_back : (table : Layout) (least : ℕ) (entities : List EntityState)
 unfolding entities_at
 entities_back table least [] at rest is rise are normal = ap (λ place. Ok ([], record { at = place; bytes = rest })) (omega arith)
 entities_back table least (entity ∷ others) at rest is rise are normal =
-    let behind : List ℕ = flat_map (entity_bytes table) others in
-    let one = entity_back table least entity at (behind ++ rest) is rise.0 rise.1 (All-head (λ entity. AreWords 64 entity.words) entity others are) (All-head (IsNormal table) entity others normal) in
+    let after : List ℕ = flat_map (entity_bytes table) others in
+    let one = entity_back table least entity at (after ++ rest) is rise.0 rise.1 (All-head (λ entity. AreWords 64 entity.words) entity others are) (All-head (IsNormal table) entity others normal) in
     let more = entities_back table (entity.number + 1) others (at + length (entity_bytes table entity)) rest is rise.2 (All-tail (λ entity. AreWords 64 entity.words) entity others are)
     (All-tail (IsNormal table) entity others normal) in
-    let place : at + length (entity_bytes table entity) + length behind ≡ at + length (entity_bytes table entity ++ behind) = omega (arith, length-append (entity_bytes table entity) behind) in
-    rw (append_assoc (entity_bytes table entity) behind rest, one, more) (ap (λ place. Ok (entity ∷ others, record { at = place; bytes = rest })) place)
+    let place : at + length (entity_bytes table entity) + length after ≡ at + length (entity_bytes table entity ++ after) = omega (arith, length-append (entity_bytes table entity) after) in
+    rw (append_assoc (entity_bytes table entity) after rest, one, more) (ap (λ place. Ok (entity ∷ others, record { at = place; bytes = rest })) place)

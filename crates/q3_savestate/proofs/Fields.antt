@@ -10,12 +10,12 @@ use Rattle.std.proofs.lemmas.List.Elements.{All-cons, All-drop, All-get_or, All-
 use Rattle.byteorder.specs.Endian.{little_bytes, little_from, little_number}
 use Rattle.byteorder.specs.Numbers.{length-bytes_low_first, little_from-cons, little_from-lt, little_number-reads_back}
 use Rattle.q3_text.specs.Texts.{IsTextByte}
-use Rattle.q3_savestate.specs.Cursor.{Cursor, Field, behind, field_at, number_at, is_text_byte, text_at}
+use Rattle.q3_savestate.specs.Cursor.{Cursor, Field, cursor_after, field_at, number_at, is_text_byte, text_at}
 use Rattle.q3_savestate.specs.Entities.{counted}
 
 -- ---- what stands in front
 
--- bytes that stood in front of a cursor's, and it behind them
+-- bytes that stood in front of a cursor's, and it after them
 pub record Took (cursor : Cursor) (bytes : List ℕ) (rest : Cursor) : Type 0 where
   pub stood : cursor.bytes ≡ bytes ++ rest.bytes
   pub place : rest.at ≡ cursor.at + length bytes
@@ -25,7 +25,7 @@ pub record Took (cursor : Cursor) (bytes : List ℕ) (rest : Cursor) : Type 0 wh
 pub took_none : (cursor : Cursor) → All (λ byte. byte < 256) cursor.bytes → Took cursor [] cursor
 took_none cursor fit = record { stood = refl; place = omega arith; fit = fit }
 
--- some, and others behind them
+-- some, and others after them
 pub took_both : (cursor next rest : Cursor) (first others : List ℕ) → Took cursor first next → Took next others rest → Took cursor (first ++ others) rest
 took_both cursor next rest first others one more = record {
   stood = one.stood ∙ ap (λ bytes. first ++ bytes) more.stood ∙ sym (append_assoc first others rest.bytes);
@@ -33,7 +33,7 @@ took_both cursor next rest first others one more = record {
   fit = more.fit;
 }
 
--- items behind their number
+-- items after their number
 pub took_counted : {X : Type 0} (item : X → List ℕ) (count : ℕ) (cursor next rest : Cursor) (items : List X) → Took cursor (little_bytes 2 count) next → Took next (flat_map item items) rest
     → length items ≡ count → Took cursor (counted item items) rest
 took_counted item count cursor next rest items one more long = rw long (took_both cursor next rest (little_bytes 2 count) (flat_map item items) one more)
@@ -74,13 +74,13 @@ by_tests false true at y x next rest e =
 
 -- what is read is what stood in front
 pub field_was : {X : Type 0} (count : ℕ) (value : List ℕ → X) (rule : X → Bool) (cursor : Cursor) (x : X) (rest : Cursor) → field_at count value rule cursor ≡ Ok (x, rest)
-    → (count ≤ length cursor.bytes) × (x ≡ value (take count cursor.bytes)) × (rule x ≡ true) × (rest ≡ behind count cursor)
+    → (count ≤ length cursor.bytes) × (x ≡ value (take count cursor.bytes)) × (rule x ≡ true) × (rest ≡ cursor_after count cursor)
 field_was count value rule cursor x rest e =
-    let is = by_tests (nat_lt (length cursor.bytes) count) (rule (value (take count cursor.bytes))) cursor.at (value (take count cursor.bytes)) x (behind count cursor) rest e in
+    let is = by_tests (nat_lt (length cursor.bytes) count) (rule (value (take count cursor.bytes))) cursor.at (value (take count cursor.bytes)) x (cursor_after count cursor) rest e in
     (ltb-false (length cursor.bytes) count is.0, is.2, ap rule is.2 ∙ is.1, is.3)
 
 -- and it is taken
-pub took_field : (count : ℕ) (cursor : Cursor) (rest : Cursor) → All (λ byte. byte < 256) cursor.bytes → count ≤ length cursor.bytes → rest ≡ behind count cursor → Took cursor (take count cursor.bytes) rest
+pub took_field : (count : ℕ) (cursor : Cursor) (rest : Cursor) → All (λ byte. byte < 256) cursor.bytes → count ≤ length cursor.bytes → rest ≡ cursor_after count cursor → Took cursor (take count cursor.bytes) rest
 took_field count cursor rest fit there is = record {
   stood = sym (take-append-drop count cursor.bytes) ∙ ap (λ (next : Cursor). take count cursor.bytes ++ next.bytes) (sym is);
   place = ap (λ (next : Cursor). next.at) is ∙ ap (λ n. cursor.at + n) (sym (length-take-le count cursor.bytes there));
@@ -94,7 +94,7 @@ this_byte : (x j byte n : ℕ) → byte < 256 → x / 256 ^ j ≡ byte + 256 * n
 this_byte x zero byte n below is = rw (sym (div-one x), is) (omega arith)
 this_byte x (suc j) byte n below is = rw is (omega arith)
 
--- and the number behind the byte
+-- and the number after the byte
 next_byte : (x j byte n : ℕ) → byte < 256 → x / 256 ^ j ≡ byte + 256 * n → x / 256 ^ suc j ≡ n
 next_byte x j byte n below is = ap (λ (p : ℕ). x / p) (pow-suc 256 j) ∙ sym (div-div-eq-div-mul x (256 ^ j) 256) ∙ rw is (omega arith)
 
@@ -132,7 +132,7 @@ number_back count least most n at rest fits above below =
 
 -- what is read stood there as its bytes
 pub word_was : (count : ℕ) (cursor : Cursor) (n : ℕ) (rest : Cursor) → All (λ byte. byte < 256) cursor.bytes → count ≤ length cursor.bytes → n ≡ little_number count (take count cursor.bytes)
-    → rest ≡ behind count cursor → Took cursor (little_bytes count n) rest × (n < 256 ^ count)
+    → rest ≡ cursor_after count cursor → Took cursor (little_bytes count n) rest × (n < 256 ^ count)
 word_was count cursor n rest fit there is left =
     let bytes : List ℕ = take count cursor.bytes in
     let long : length bytes ≡ count = length-take-le count cursor.bytes there in

@@ -32,7 +32,7 @@ at_most (suc (suc (suc zero))) n few fits = omega arith
 at_most (suc (suc (suc (suc zero)))) n few fits = omega arith
 at_most (suc (suc (suc (suc (suc bytes))))) n few fits = absurd (omega arith)
 
--- numbers behind one another
+-- numbers one after another
 pub numbers_read : (bytes count : ℕ) (numbers : List ℕ) → bytes ≤ 4 → length numbers ≡ count → All (λ n. n < 256 ^ bytes) numbers
     → ReadsBack (numbers_at bytes count) (flat_map (little_bytes bytes) numbers) numbers
 unfolding numbers_at

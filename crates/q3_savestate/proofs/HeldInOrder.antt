@@ -15,12 +15,12 @@ none_or_one (Some x) = inr (x, refl)
 
 -- ---- from the lowest number on
 
--- those of so many numbers behind one
+-- those of the next so many numbers above one
 abbrev pub held_from : HeldSnapshots → ℕ → ℕ → List HeldSnapshot
 held_from snapshots n zero = []
 held_from snapshots n (suc count) = one_of (held_under snapshots (suc n)) ++ held_from snapshots (suc n) count
 
--- those up to a number, and those of so many behind it
+-- those up to a number, and those of so many above it
 pub up_to_from : (snapshots : HeldSnapshots) (n count m : ℕ) → m ≡ n + count → held_up_to snapshots m ≡ held_up_to snapshots n ++ held_from snapshots n count
 unfolding held_up_to
 up_to_from snapshots n zero m is =

@@ -59,7 +59,7 @@ not_above : (newest number place : ℕ) (o : Option HeldSnapshot) → newest < n
 not_above newest number place None above is = refl
 not_above newest number place (Some one) above is = let accepted = is.accepted in of_another number one (omega arith)
 
--- so nothing is left behind it
+-- so nothing is left after it
 none_from : (held : HeldSnapshots) (n count : ℕ) → AreHeldSnapshots held → held.newest ≤ n → held_from held n count ≡ []
 none_from held n zero are above = refl
 none_from held n (suc count) are above =
@@ -73,7 +73,7 @@ up_to_above held n are above =
     ∙ ap (λ others. by_number held ++ others) (none_from held held.newest (n - held.newest) are (omega arith))
     ∙ append-nil (by_number held)
 
--- what is put back stands behind all others
+-- what is put back stands after all others
 last_is : (held : HeldSnapshots) (one : HeldSnapshot) (n : ℕ) → one.snapshot.head.number ≡ suc n → AreHeldSnapshots held → held.newest < one.snapshot.head.number
     → at_number held.places one.snapshot.head.number ≡ None → held_up_to (put_back_at held one) (suc n) ≡ by_number held ++ one ∷ []
 unfolding held_up_to
@@ -82,7 +82,7 @@ last_is held one n is are newer free =
     let last : held_under (put_back_at held one) (suc n) ≡ Some one = subst (λ number. held_under (put_back_at held one) number ≡ Some one) is (put_is_held held one are.count) in
     rw (front, last) refl
 
--- behind all of them
+-- after all of them
 pub put_is_last : (held : HeldSnapshots) (one : HeldSnapshot) → AreHeldSnapshots held → held.newest < one.snapshot.head.number
     → at_number held.places one.snapshot.head.number ≡ None → by_number (put_back_at held one) ≡ by_number held ++ one ∷ []
 put_is_last held one are newer free =
@@ -125,7 +125,7 @@ few_of ring age count =
     (λ young below. (omega arith, omega arith, λ old. absurd (both_ways (is_young ring age) old young)))
     (λ old below. (omega arith, omega arith, λ old. omega arith))
 
--- what was read as a snapshot behind others
+-- what was read as a snapshot after others
 pub record IsReadNext (profile : Profile) (held : HeldSnapshots) (newest left most : ℕ) (one : HeldSnapshot) : Type 0 where
   pub may : is_slot held newest left one.snapshot.head.number ≡ true
   pub young : one.age ≤ most

@@ -1,4 +1,4 @@
--- The snapshots that are held, one behind the other by rising number.
+-- The snapshots that are held, one after the other by rising number.
 use Rattle.std.proofs.Common.{◌≡◌, ℕ, zero, suc, ◌+◌, ◌-◌, ◌<◌, ◌≤◌, List, [], ◌++◌, Option, None, refl, sym, ap, ◌∙◌, append_assoc, add-one, arith}
 use Rattle.std.specs.List.{flat_map}
 use Rattle.std.proofs.lemmas.List.{append-nil}
@@ -43,19 +43,19 @@ texts_next text held last next less none =
     ap (flat_map text) (up_to_next held last next less none) ∙ flat_map-append text (held_up_to held last) (one_of (held_under held next))
 
 -- those up to a number, and the others
-more_behind : (held : HeldSnapshots) (last more : ℕ) → (rest : List HeldSnapshot) × (held_up_to held (last + more) ≡ held_up_to held last ++ rest)
-more_behind held last zero = ([], ap (held_up_to held) (let e : last + 0 ≡ last = omega arith in e) ∙ sym (append-nil (held_up_to held last)))
-more_behind held last (suc more) =
-    let others = more_behind held last more in
+more_after : (held : HeldSnapshots) (last more : ℕ) → (rest : List HeldSnapshot) × (held_up_to held (last + more) ≡ held_up_to held last ++ rest)
+more_after held last zero = ([], ap (held_up_to held) (let e : last + 0 ≡ last = omega arith in e) ∙ sym (append-nil (held_up_to held last)))
+more_after held last (suc more) =
+    let others = more_after held last more in
     let one : List HeldSnapshot = one_of (held_under held (last + more + 1)) in (
       others.0 ++ one,
       ap (held_up_to held) (let e : last + suc more ≡ last + more + 1 = omega arith in e) ∙ last_one held (last + more) ∙ ap (λ (list : List HeldSnapshot). list ++ one) others.1
           ∙ append_assoc (held_up_to held last) others.0 one,
     )
 
-pub texts_behind : (text : HeldSnapshot → List ℕ) (held : HeldSnapshots) (last newest : ℕ) → last ≤ newest
+pub texts_after : (text : HeldSnapshot → List ℕ) (held : HeldSnapshots) (last newest : ℕ) → last ≤ newest
     → (rest : List ℕ) × (flat_map text (held_up_to held newest) ≡ flat_map text (held_up_to held last) ++ rest)
-texts_behind text held last newest le =
-    let others = more_behind held last (newest - last) in
+texts_after text held last newest le =
+    let others = more_after held last (newest - last) in
     let is : newest ≡ last + (newest - last) = omega arith in
     (flat_map text others.0, ap (λ number. flat_map text (held_up_to held number)) is ∙ ap (flat_map text) others.1 ∙ flat_map-append text (held_up_to held last) others.0)

@@ -8,12 +8,12 @@ use Rattle.byteorder.specs.Endian.{little_number}
 use Rattle.q3_bits.specs.ResultBind.{◌>>=◌, bind_ok}
 use Rattle.q3_fields.specs.Kinds.{Layout, end_mark}
 use Rattle.q3_entity.specs.declared.state.EntityState.{EntityState}
-use Rattle.q3_savestate.specs.Cursor.{Cursor, Field, behind, number_at, is_text_byte, text_at}
+use Rattle.q3_savestate.specs.Cursor.{Cursor, Field, cursor_after, number_at, is_text_byte, text_at}
 use Rattle.q3_savestate.specs.Entities.{state_words_at, entity_at}
 
 -- a row stops where its first step does
-pub refused : {A B : Type 0} (read : Result A ℕ) (behind : A → Result B ℕ) (at : ℕ) → Err at ≡ read → (read >>= behind) ≡ Err at
-refused read behind at e = rw (← e) refl
+pub refused : {A B : Type 0} (read : Result A ℕ) (cursor_after : A → Result B ℕ) (at : ℕ) → Err at ≡ read → (read >>= cursor_after) ≡ Err at
+refused read cursor_after at e = rw (← e) refl
 
 read_is : {A : Type 0} (x y : A × Cursor) → ◌≡◌ {A = Field A} (Ok x) (Ok y) → x ≡ y
 read_is x y e = cc
@@ -45,6 +45,6 @@ below_mark table least cursor next entity e =
 pub text_told : (count : ℕ) (cursor next : Cursor) (text : List ℕ) → text_at count cursor ≡ Ok (text, next) → (list_all is_text_byte text ≡ true) × (length text ≡ count)
 text_told count cursor next text e =
     let bytes = take count cursor.bytes in
-    let got = picked (nat_lt (length cursor.bytes) count) (list_all is_text_byte bytes) (bytes, behind count cursor) (text, next) cursor.at e in
+    let got = picked (nat_lt (length cursor.bytes) count) (list_all is_text_byte bytes) (bytes, cursor_after count cursor) (text, next) cursor.at e in
     let is : bytes ≡ text = ap (λ (x : List ℕ × Cursor). x.0) got.1 in
     (ap (list_all is_text_byte) (sym is) ∙ got.0, ap length (sym is) ∙ length-take-le count cursor.bytes (omega (arith, ltb-false (length cursor.bytes) count got.2)))

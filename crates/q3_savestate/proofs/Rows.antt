@@ -1,4 +1,4 @@
--- Rows of reads: what was written behind one another is read so, and what was read so was written.
+-- Rows of reads: what was written one after another is read so, and what was read so was written.
 use Rattle.std.proofs.Common.{◌≡◌, ℕ, ◌+◌, List, [], ◌++◌, append_assoc, sym, refl, ap, subst, ◌∙◌}
 use Rattle.std.specs.Prelude.{◌<◌, All, Result, Ok}
 use Rattle.q3_bits.specs.ResultBind.{◌>>=◌, bind_ok, bind_is}
@@ -11,7 +11,7 @@ IsByte byte = byte < 256
 
 -- ---- what was written is read
 
--- a text, with whatever is behind it, is read as this value, and what is behind it is left
+-- a text, with whatever follows it, is read as this value, and what follows is left
 pub record ReadsBack {X : Type 0} (read : Cursor → Field X) (text : List ℕ) (x : X) : Type 0 where
   pub from : (cursor : Cursor) (rest : List ℕ) → cursor.bytes ≡ text ++ rest → (left : Cursor) × (read cursor ≡ Ok (x, left)) × (left.bytes ≡ rest)
 
@@ -23,12 +23,12 @@ reads_back read text x count back = record {
       (record { at = cursor.at + count; bytes = rest }, ap (λ (bytes : List ℕ). read (record { at = cursor.at; bytes = bytes })) is ∙ back cursor.at rest, refl);
 }
 
--- one text behind another
-pub back_then : {X Y : Type 0} {read : Cursor → Field X} {front behind : List ℕ} {x : X} {y : Y} (more : X × Cursor → Field Y)
-    → ReadsBack read front x → ReadsBack (λ cursor. more (x, cursor)) behind y → ReadsBack (λ cursor. read cursor >>= more) (front ++ behind) y
-back_then {read = read} {front = front} {behind = behind} {x = x} {y = y} more first second = record {
+-- one text after another
+pub back_then : {X Y : Type 0} {read : Cursor → Field X} {front after : List ℕ} {x : X} {y : Y} (more : X × Cursor → Field Y)
+    → ReadsBack read front x → ReadsBack (λ cursor. more (x, cursor)) after y → ReadsBack (λ cursor. read cursor >>= more) (front ++ after) y
+back_then {read = read} {front = front} {after = after} {x = x} {y = y} more first second = record {
   from = λ cursor rest is.
-      let one = first.from cursor (behind ++ rest) (is ∙ append_assoc front behind rest) in
+      let one = first.from cursor (after ++ rest) (is ∙ append_assoc front after rest) in
       let two = second.from one.0 rest one.2 in
       (two.0, bind_is (read cursor) more (x, one.0) (Ok (y, two.0)) one.1 two.1, two.2);
 }
@@ -51,11 +51,11 @@ pub record ReadsAllBack {Y : Type 0} (read : Cursor → Result Y ℕ) (text : Li
   pub from : (cursor : Cursor) → cursor.bytes ≡ text → read cursor ≡ Ok y
 
 -- a text in front of others
-pub all_back_then : {X Y : Type 0} {read : Cursor → Field X} {front behind : List ℕ} {x : X} {y : Y} (more : X × Cursor → Result Y ℕ)
-    → ReadsBack read front x → ReadsAllBack (λ cursor. more (x, cursor)) behind y → ReadsAllBack (λ cursor. read cursor >>= more) (front ++ behind) y
-all_back_then {read = read} {behind = behind} {x = x} {y = y} more first second = record {
+pub all_back_then : {X Y : Type 0} {read : Cursor → Field X} {front after : List ℕ} {x : X} {y : Y} (more : X × Cursor → Result Y ℕ)
+    → ReadsBack read front x → ReadsAllBack (λ cursor. more (x, cursor)) after y → ReadsAllBack (λ cursor. read cursor >>= more) (front ++ after) y
+all_back_then {read = read} {after = after} {x = x} {y = y} more first second = record {
   from = λ cursor is.
-      let one = first.from cursor behind is in
+      let one = first.from cursor after is in
       bind_is (read cursor) more (x, one.0) (Ok y) one.1 (second.from one.0 one.2);
 }
 

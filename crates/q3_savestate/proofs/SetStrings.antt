@@ -21,7 +21,7 @@ pub set_none : set_strings 0 [] ≡ []
 unfolding set_strings
 set_none = refl
 
--- those of texts and of others behind them
+-- those of texts and of others after them
 set_strings-append : (index : ℕ) (front texts : List (List ℕ)) → set_strings index (front ++ texts) ≡ set_strings index front ++ set_strings (index + length front) texts
 unfolding set_strings
 set_strings-append index [] texts = ap (λ n. set_strings n texts) (omega arith)
@@ -52,7 +52,7 @@ pub unset_more : (texts : List (List ℕ)) (k : ℕ) → k < length texts → le
 unset_more texts k lt none =
     more texts k lt ∙ ap (λ others. set_strings 0 (take k texts) ++ others) (none_set k (get_or texts k []) none) ∙ append-nil (set_strings 0 (take k texts))
 
--- what is written of them, up to an index, and behind it
+-- what is written of them, up to an index, and from there on
 pub bytes_more : (bytes : ℕ × List ℕ → List ℕ) (texts : List (List ℕ)) (k : ℕ) → k < length texts → 0 < length (get_or texts k [])
     → flat_map bytes (set_strings 0 (take (k + 1) texts)) ≡ flat_map bytes (set_strings 0 (take k texts)) ++ bytes (k, get_or texts k [])
 bytes_more bytes texts k lt some =

@@ -1,4 +1,4 @@
--- A snapshot that is read, and put back behind others.
+-- A snapshot that is read, and put back after others.
 use Rattle.std.proofs.Common.{◌≡◌, ℕ, zero, suc, ◌+◌, ◌-◌, ◌<◌, ◌≤◌, false, List, [], ◌∷◌, length, get_or, Option, Some, None, Ok, Err, inl, inr, refl, sym, ap, ◌∙◌, subst, arith}
 use Rattle.std.specs.Prelude.{IfSome, MatchOption}
 use Rattle.std.proofs.lemmas.Bool.{cases_Bool, cases_eq}
@@ -14,7 +14,7 @@ use Rattle.q3_rings.specs.Rings.{HeldSnapshot, HeldSnapshots, RingsState, AreHel
 use Rattle.q3_savestate.specs.Cursor.{Cursor, Field, number_at}
 use Rattle.q3_savestate.specs.Entities.{entity_at, entities_at}
 use Rattle.q3_savestate.specs.Snapshots.{slot_at, head_at, most_of, snapshot_at}
-use Rattle.q3_savestate.specs.Reading.{as_field, placed_in, behind_one, MayPutBack}
+use Rattle.q3_savestate.specs.Reading.{as_field, placed_in, past_one, MayPutBack}
 use Rattle.q3_savestate.proofs.Ranges.{in_range}
 
 -- ---- whether it may be put back
@@ -30,11 +30,11 @@ all_older : (held : Option HeldSnapshot) (most age : ℕ) → age ≤ most → I
 all_older None most age le older = tt
 all_older (Some held) most age le older = omega arith
 
-pub can_back : (room most least age count number : ℕ) (rings : RingsState) (first now next behind : Cursor) → MayPutBack room most rings → rings.held.newest < number
-    → Ok (age, now) ≡ number_at 4 0 most first → Ok (count, behind) ≡ number_at 2 0 least next → least ≡ most_of room age → CanPutBack rings.held number age count
-can_back room most least age count number rings first now next behind may newer age_read count_read least_is =
+pub can_back : (room most least age count number : ℕ) (rings : RingsState) (first now next after : Cursor) → MayPutBack room most rings → rings.held.newest < number
+    → Ok (age, now) ≡ number_at 4 0 most first → Ok (count, after) ≡ number_at 2 0 least next → least ≡ most_of room age → CanPutBack rings.held number age count
+can_back room most least age count number rings first now next after may newer age_read count_read least_is =
     let within : age ≤ most = (in_range 4 0 most first now age (sym age_read)).1 in
-    let few : count ≤ least = (in_range 2 0 least next behind count (sym count_read)).1 in
+    let few : count ≤ least = (in_range 2 0 least next after count (sym count_read)).1 in
     let limits = few_of room age in
     let first : most_of room age ≤ most_entities = limits.0 in
     let second : most_of room age ≤ age = limits.1 in
@@ -89,7 +89,7 @@ is_full table count age head old begun full cursor next begun_is read =
     let is : full ≡ placed_in (begin_in old head age count) placed.0 = placed.2 ∙ ap (λ (begun : RingsState). placed_in begun placed.0) begun_is in
     subst (λ (full : RingsState). MatchOption full.begun ⊥ (λ begun. length begun.entities ≡ begun.count)) (sym is) size
 
--- what is held behind it
+-- what is held after it
 put_older : (held : HeldSnapshots) (one : HeldSnapshot) (most next : ℕ) → length held.places ≡ most_places → next ≤ most → length one.snapshot.entities + next ≤ one.age
     → ((place : ℕ) → IfSome (get_or held.places place None) (λ held. length held.snapshot.entities + most ≤ held.age))
     → (place : ℕ) → IfSome (get_or (put_back_at held one).places place None) (λ held. length held.snapshot.entities + next ≤ held.age)
@@ -122,9 +122,9 @@ unfolding snapshot_at
 snapshot_is profile newest left most least held number age count head entities start first second third fourth last was read =
     rw (← was.number_read, ← was.age_read, ← was.head_read, ← was.least_is, ← was.count_read, read) refl
 
--- the ring behind it, and what is read of it
-pub record IsBehind (profile : Profile) (newest left most next : ℕ) (held : HeldSnapshots) (rings : RingsState) (start last : Cursor) : Type 0 where
-  pub found : Ok ((next, rings.held), last) ≡ as_field (behind_one held) (snapshot_at profile held newest left most start)
+-- the ring after it, and what is read of it
+pub record IsAfter (profile : Profile) (newest left most next : ℕ) (held : HeldSnapshots) (rings : RingsState) (start last : Cursor) : Type 0 where
+  pub found : Ok ((next, rings.held), last) ≡ as_field (past_one held) (snapshot_at profile held newest left most start)
   pub may : MayPutBack held.ring next rings
 
 -- it is held, in a ring in which so many count as placed
@@ -136,7 +136,7 @@ pub was_put_back : (profile : Profile) (newest left most least : ℕ) (held : He
     → AreHeldSnapshots held → CanPutBack held head.number age count → ((place : ℕ) → IfSome (get_or held.places place None) (λ held. length held.snapshot.entities + most ≤ held.age))
     → old.held ≡ held → age ≤ old.placed → begun ≡ begin_in old head age count
     → Ok (full, last) ≡ as_field (placed_in begun) (entities_at profile.entity count 0 fourth)
-    → IsBehind profile newest left most (age - count) held (end_in full) start last
+    → IsAfter profile newest left most (age - count) held (end_in full) start last
 was_put_back profile newest left most least held number age count head old begun full start first second third fourth last was are can older held_is placed begun_is read =
     let entities = as_field_ok (placed_in begun) (entities_at profile.entity count 0 fourth) full last read in
     let size : length entities.0 ≡ count = count_read profile.entity count 0 fourth last entities.0 entities.1 in
@@ -146,10 +146,10 @@ was_put_back profile newest left most least held number age count head old begun
     let within : age ≤ most = (in_range 4 0 most first second age (sym was.age_read)).1 in
     let newer : held.newest < head.number = can.newer in
     let counted : count ≤ age = can.counted in
-    subst (λ rings. IsBehind profile newest left most (age - count) held rings start last) (sym is) (record {
+    subst (λ rings. IsAfter profile newest left most (age - count) held rings start last) (sym is) (record {
       found =
           ap (λ (count : ℕ). Ok ((age - count, put_back_at held one), last)) (sym size)
-          ∙ ap (as_field (behind_one held)) (sym (snapshot_is profile newest left most least held number age count head entities.0 start first second third fourth last was entities.1));
+          ∙ ap (as_field (past_one held)) (sym (snapshot_is profile newest left most least held number age count head entities.0 start first second third fourth last was entities.1));
       may = record {
         room_is = refl;
         none = refl;

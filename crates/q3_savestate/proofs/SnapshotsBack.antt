@@ -45,7 +45,7 @@ snapshot_read profile held newest left most place above one codec may well is yo
     (back_then _ (number_read 2 0 (most_of held.ring one.age) (length one.snapshot.entities) (omega arith) (omega arith) count)
     (back_then _ (entities_read profile.entity 0 one.snapshot.entities codec.entity well.entities.rise well.states well.normal) (back_end one)))))
 
--- those behind a number, one after the other
+-- those above a number, one after the other
 others_read : (profile : Profile) (snapshots : HeldSnapshots) (n count most : ℕ) (held : HeldSnapshots) → IsCodec profile → AreWellHeld profile snapshots
     → n + count ≡ snapshots.newest → IsUpTo snapshots n held → AreYounger snapshots n most
     → ReadsBack (snapshots_after profile snapshots.newest (length (held_from snapshots n count)) most held) (flat_map (snapshot_bytes profile) (held_from snapshots n count)) snapshots

@@ -68,7 +68,7 @@ snapshot_was_read profile held newest left most codec = were_row (snapshot_bytes
       spelled profile number age count head entities is.1 are.long,
     )))))))
 
--- what was read behind what is held so far
+-- what was read after what is held so far
 record IsReadOn (profile : Profile) (held : HeldSnapshots) (newest left : ℕ) (all : HeldSnapshots) (text : List ℕ) : Type 0 where
   well : AreWellHeld profile all
   others : List HeldSnapshot

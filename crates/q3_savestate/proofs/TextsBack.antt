@@ -35,7 +35,7 @@ sized_with : (front others : List (List ℕ)) (text : List ℕ) → 1 ≤ length
 sized_with front others text some =
     omega (arith, sized (front ++ text ∷ others), sized front, sum_by-append size_of front (text ∷ others), sum_by-cons size_of text others, size_of-some text some)
 
--- and with so many behind them that are empty
+-- and with so many after them that are empty
 sized_empty : (front : List (List ℕ)) (count : ℕ) → config_size (front ++ replicate count []) ≡ config_size front
 sized_empty front count = omega (arith, sized (front ++ replicate count []), sized front, sum_by-append size_of front (replicate count []), sum_by-replicate size_of count [])
 
@@ -89,7 +89,7 @@ has_room : (front others : List (List ℕ)) (text : List ℕ) (count : ℕ) → 
     → length text ≤ room_in (front ++ replicate count [])
 has_room front others text count some short fits = omega (arith, sized_with front others text some, sized_empty front count)
 
--- strings behind others
+-- strings after others
 after_back : (front texts : List (List ℕ)) (count least index at : ℕ) (rest : List ℕ) → count ≡ length texts → length front ≡ index → least ≤ index → index + count ≤ places
     → config_size (front ++ texts) ≤ most_size → All (λ text. length text ≤ longest_string) texts → All (All IsTextByte) texts
     → strings_after (length (set_strings index texts)) least (front ++ replicate count []) (record { at = at; bytes = flat_map string_bytes (set_strings index texts) ++ rest })
@@ -134,7 +134,7 @@ strings_back strings texts at rest are hold is =
 
 -- ---- what is read stood there
 
--- strings that are read behind others: all of them, and which they are
+-- strings that are read after others: all of them, and which they are
 record ReadsAfter (count least room : ℕ) (front : List (List ℕ)) (cursor : Cursor) (all : List (List ℕ)) (rest : Cursor) : Type 0 where
   texts : List (List ℕ)
   is : all ≡ front ++ texts
@@ -160,10 +160,10 @@ none_after least room front cursor fit fits = record {
 }
 
 -- one before others
-one_after : (count least room before behind index : ℕ) (front : List (List ℕ)) (cursor next rest : Cursor) (text : List ℕ) (all : List (List ℕ)) → index ≡ least + before → room ≡ before + suc behind
+one_after : (count least room before after index : ℕ) (front : List (List ℕ)) (cursor next rest : Cursor) (text : List ℕ) (all : List (List ℕ)) → index ≡ least + before → room ≡ before + suc after
     → 1 ≤ length text → length text ≤ longest_string → All IsTextByte text → Took cursor (string_bytes (index, text)) next
-    → ReadsAfter count (index + 1) behind (front ++ replicate before [] ++ text ∷ []) next all rest → ReadsAfter (suc count) least room front cursor all rest
-one_after count least room before behind index front cursor next rest text all place whole some short each one more =
+    → ReadsAfter count (index + 1) after (front ++ replicate before [] ++ text ∷ []) next all rest → ReadsAfter (suc count) least room front cursor all rest
+one_after count least room before after index front cursor next rest text all place whole some short each one more =
     let texts : List (List ℕ) = replicate before [] ++ text ∷ more.texts in
     let set : set_strings least texts ≡ (index, text) ∷ set_strings (index + 1) more.texts = set_gap least before index (text ∷ more.texts) place ∙ set_some index text more.texts some in
     record {
@@ -205,26 +205,26 @@ string_was least size texts cursor next last rest index text fit e f g =
       each = word.each;
     }
 
--- it is put in its place, and others are read behind it
-behind_one : (count least room index : ℕ) (front all : List (List ℕ)) (cursor next : Cursor) (texts : List (List ℕ)) (rest : Cursor) (text : List ℕ) → length front ≡ least → least + room ≡ places
+-- it is put in its place, and others are read after it
+past_one : (count least room index : ℕ) (front all : List (List ℕ)) (cursor next : Cursor) (texts : List (List ℕ)) (rest : Cursor) (text : List ℕ) → length front ≡ least → least + room ≡ places
     → all ≡ front ++ replicate room [] → ReadsString least all cursor index text next
     → ((ahead : List (List ℕ)) → length ahead ≡ index + 1 → slice_set all index text ≡ ahead ++ replicate (places - (index + 1)) [] → config_size (slice_set all index text) ≤ most_size
     → ReadsAfter count (index + 1) (places - (index + 1)) ahead next texts rest)
     → ReadsAfter (suc count) least room front cursor texts rest
-behind_one count least room index front all cursor next texts rest text long whole are one more =
+past_one count least room index front all cursor next texts rest text long whole are one more =
     let before : ℕ = index - least in
-    let behind : ℕ = places - (index + 1) in
+    let after : ℕ = places - (index + 1) in
     let head : List (List ℕ) = front ++ replicate before [] in
     let ahead : List (List ℕ) = head ++ text ∷ [] in
     let place : index ≡ least + before = omega (arith, one.above) in
-    let count_is : room ≡ before + suc behind = omega (arith, one.above, one.below, whole) in
-    let here : slice_set all index text ≡ ahead ++ replicate behind [] = rw are (set_in_gap front [] text before behind room index count_is (omega (arith, place, long))) in
+    let count_is : room ≡ before + suc after = omega (arith, one.above, one.below, whole) in
+    let here : slice_set all index text ≡ ahead ++ replicate after [] = rw are (set_in_gap front [] text before after room index count_is (omega (arith, place, long))) in
     let size : config_size (slice_set all index text) ≤ most_size =
-    omega (arith, ap config_size here, sized_empty ahead behind, sized_with head [] text one.some, sized_empty front before, ap config_size are, sized_empty front room, one.room, one.some) in
-    one_after count least room before behind index front cursor next rest text texts place count_is one.some (omega (arith, one.room)) one.each one.took
+    omega (arith, ap config_size here, sized_empty ahead after, sized_with head [] text one.some, sized_empty front before, ap config_size are, sized_empty front room, one.room, one.some) in
+    one_after count least room before after index front cursor next rest text texts place count_is one.some (omega (arith, one.room)) one.each one.took
     (more ahead (omega (arith, length-append head (text ∷ []), length-append front (replicate before []), length-replicate {A = List ℕ} before [], long, place)) here size)
 
--- so are strings behind others
+-- so are strings after others
 after_were : (count least room : ℕ) (front all : List (List ℕ)) (cursor : Cursor) (texts : List (List ℕ)) (rest : Cursor) → length front ≡ least → least + room ≡ places
     → all ≡ front ++ replicate room [] → config_size all ≤ most_size → All (λ byte. byte < 256) cursor.bytes → strings_after count least all cursor ≡ Ok (texts, rest)
     → ReadsAfter count least room front cursor texts rest
@@ -239,7 +239,7 @@ after_were (suc count) least room front all cursor texts rest long whole are fit
     (λ length. text_at length.0 length.1 >>= λ text. strings_after count (index.0.0 + 1) (slice_set all index.0.0 text.0) text.1) (texts, rest) index.2 in
     let text = bind_ok (text_at size.0.0 size.0.1) (λ text. strings_after count (index.0.0 + 1) (slice_set all index.0.0 text.0) text.1) (texts, rest) size.2 in
     let one = string_was least size.0.0 all cursor index.0.1 size.0.1 text.0.1 index.0.0 text.0.0 fit index.1 size.1 text.1 in
-    behind_one count least room index.0.0 front all cursor text.0.1 texts rest text.0.0 long whole are one
+    past_one count least room index.0.0 front all cursor text.0.1 texts rest text.0.0 long whole are one
     (λ ahead ahead_long ahead_is ahead_fits. after_were count (index.0.0 + 1) (places - (index.0.0 + 1)) ahead (slice_set all index.0.0 text.0.0) text.0.1 texts rest ahead_long (omega (arith, one.below)) ahead_is
     ahead_fits one.took.fit text.2)
 
@@ -313,7 +313,7 @@ pub record ReadsPending (cursor : Cursor) (pending : Option Pending) (rest : Cur
   pub took : Took cursor (pending_bytes pending) rest
   pub is : IfSome pending IsPending
 
--- some text, behind the byte that says so
+-- some text, after the byte that says so
 text_pends : (cursor next last end rest : Cursor) (index size : ℕ) (text : List ℕ) → Took cursor (little_bytes 1 1) next → number_at 4 0 (places - 1) next ≡ Ok (index, last)
     → number_at 2 0 longest_string last ≡ Ok (size, end) → text_at size end ≡ Ok (text, rest) → ReadsPending cursor (Some (record { index = index; text = text })) rest
 text_pends cursor next last end rest index size text one e f g =

@@ -35,21 +35,21 @@ front_back (kind ∷ kinds) (word ∷ words) at rest few fit normal =
     let more = front_back kinds words (at + 4) rest (omega arith) (All-tail (λ word. word < 2 ^ 32) word words fit) others in
     rw (one, more) (ap (λ place. Ok (word ∷ take (length kinds) words, record { at = place; bytes = rest })) (omega arith))
 
--- words that are 0 behind a table's fields
-zeros_behind : (words : List ℕ) → normal_words [] words ≡ words → replicate (length words) 0 ≡ words
+-- words that are 0 after a table's fields
+zeros_after : (words : List ℕ) → normal_words [] words ≡ words → replicate (length words) 0 ≡ words
 unfolding normal_words
-zeros_behind [] normal = refl
-zeros_behind (word ∷ words) normal =
+zeros_after [] normal = refl
+zeros_after (word ∷ words) normal =
     let first : 0 ≡ word = cc in
     let others : normal_words [] words ≡ words = cc in
-    rw (zeros_behind words others, first) refl
+    rw (zeros_after words others, first) refl
 
 -- are those of the fields and zeros
 padded : (kinds : List Kind) (words : List ℕ) (count : ℕ) → length words ≡ length kinds + count → normal_words kinds words ≡ words → take (length kinds) words ++ replicate count 0 ≡ words
 unfolding normal_words
 padded [] words count long normal =
     let is : count ≡ length words = omega arith in
-    rw is (zeros_behind words normal)
+    rw is (zeros_after words normal)
 padded (kind ∷ kinds) [] count long normal = absurd (omega arith)
 padded (kind ∷ kinds) (word ∷ words) count long normal =
     let others : normal_words kinds words ≡ words = cc in
@@ -77,10 +77,10 @@ record HasRead (kinds : List Kind) (cursor : Cursor) (words : List ℕ) (rest : 
 has_read : (kind : Kind) (kinds : List Kind) (cursor next rest : Cursor) (word : ℕ) (words : List ℕ) → All (λ byte. byte < 256) cursor.bytes → word_at kind cursor ≡ Ok (word, next)
     → (All (λ byte. byte < 256) next.bytes → HasRead kinds next words rest) → HasRead (kind ∷ kinds) cursor (word ∷ words) rest
 unfolding normal_words
-has_read kind kinds cursor next rest word words fit e behind =
+has_read kind kinds cursor next rest word words fit e after =
     let was = field_was 4 (little_number 4) (λ word. norm kind word == word) cursor word next e in
     let one = word_was 4 cursor word next fit was.0 was.1 was.3 in
-    let more = behind one.0.fit in
+    let more = after one.0.fit in
     let first : norm kind word ≡ word = eqb-true (norm kind word) word was.2 in
     record {
       took = took_both cursor next rest (little_bytes 4 word) (flat_map (little_bytes 4) words) one.0 more.took;
@@ -100,13 +100,13 @@ front_were (kind ∷ kinds) cursor words rest fit e =
     carried (HasRead (kind ∷ kinds) cursor) (one.0.0 ∷ more.0.0) words more.0.1 rest more.2
     (has_read kind kinds cursor one.0.1 more.0.1 one.0.0 more.0.0 fit one.1 (λ fits. front_were kinds one.0.1 more.0.0 more.0.1 fits more.1))
 
--- zeros behind the fields are in normal form
+-- zeros after the fields are in normal form
 zeros_normal : (count : ℕ) → normal_words [] (replicate count 0) ≡ replicate count 0
 unfolding normal_words
 zeros_normal zero = refl
 zeros_normal (suc count) = ap (λ words. 0 ∷ words) (zeros_normal count)
 
--- also behind words in normal form
+-- also after words in normal form
 padded_normal : (kinds : List Kind) (words : List ℕ) (count : ℕ) → length words ≡ length kinds → normal_words kinds words ≡ words
     → normal_words kinds (words ++ replicate count 0) ≡ words ++ replicate count 0
 unfolding normal_words

@@ -13,14 +13,14 @@ abbrev pub Field : Type 0 → Type 0
 Field X = Result (X × Cursor) ℕ
 
 -- what follows so many bytes
-abbrev pub behind : ℕ → Cursor → Cursor
-behind count cursor = record { at = cursor.at + count; bytes = drop count cursor.bytes }
+abbrev pub cursor_after : ℕ → Cursor → Cursor
+cursor_after count cursor = record { at = cursor.at + count; bytes = drop count cursor.bytes }
 
 -- so many bytes, as a value that meets a rule
 abbrev pub field_at : {X : Type 0} → ℕ → (List ℕ → X) → (X → Bool) → Cursor → Field X
 field_at count value rule cursor =
     if nat_lt (length cursor.bytes) count then Err cursor.at
-    else if rule (value (take count cursor.bytes)) then Ok (value (take count cursor.bytes), behind count cursor)
+    else if rule (value (take count cursor.bytes)) then Ok (value (take count cursor.bytes), cursor_after count cursor)
     else Err cursor.at
 
 -- a number of so many bytes, the lowest first, from least to most

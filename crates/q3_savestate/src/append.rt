@@ -19,7 +19,7 @@ pub fn append_state(profile: &Profile, parts: Parts, into: &mut Vec<u8>) -> Resu
 {
     let length = into.len();
     let empty = Vec::new(*into.allocator());
-    let mut buffer = Buffer::behind(replace(into, empty));
+    let mut buffer = Buffer::appending(replace(into, empty));
     let written = write_state(profile, parts, &mut buffer);
     *into = buffer.into_bytes();
     match written {

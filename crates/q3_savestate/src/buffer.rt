@@ -24,7 +24,7 @@ impl Model for Buffer {
 
 impl Buffer {
     /// Writes go after these bytes.
-    pub fn behind(bytes: Vec<u8>) -> Buffer
+    pub fn appending(bytes: Vec<u8>) -> Buffer
         ensures { result ≡ record { bytes = bytes.items; faults = 0 } }
     {
         Buffer { bytes, faults: 0 }

@@ -33,7 +33,7 @@ use Rattle.q3_schedules.specs.ReportLines.{is_under, has_datagram, taken_by, nam
 use Rattle.q3_schedules.proofs.PlainTexts.{lacks, lacks_both, lacks-decimal, number, hexed, indexed}
 use Rattle.q3_schedules.proofs.SpelledLines.{Spelled, in_front, newline, last}
 use Rattle.q3_schedules.proofs.PlacedLines.{Kind, count_of, tally, tally-append, tally_first, plus, plus_is, next_word, number_word, other_number, last_word}
-use Rattle.q3_schedules.proofs.LineEnds.{OneLine, behind, whole, closed, slot_error, no_client, not_later, out_of_range, baseline_refused, config_refused, say_error, type_refused, move_refused, record_refused, stop_refused, handed_in, issued}
+use Rattle.q3_schedules.proofs.LineEnds.{OneLine, after_part, whole, closed, slot_error, no_client, not_later, out_of_range, baseline_refused, config_refused, say_error, type_refused, move_refused, record_refused, stop_refused, handed_in, issued}
 use Rattle.q3_schedules.proofs.LinesUnder.{counts_each, Beneath, none_beneath, both_beneath, each_beneath, other_beneath}
 use Rattle.q3_schedules.proofs.TakenLines.{next_is, slot_number, taking_lines}
 
@@ -59,7 +59,7 @@ alone answer first made spelled starts named same = record {
 
 -- a number, and the rest of a line
 abbrev counted : (n : ℕ) (text : List ℕ) → OneLine text → OneLine (decimal n ++ (text ++ []))
-counted n text one = behind (decimal n) (text ++ []) (number n) (closed text one)
+counted n text one = after_part (decimal n) (text ++ []) (number n) (closed text one)
 
 -- ---- what was handed in
 
@@ -95,7 +95,7 @@ given_is (handed.Stop c outcome) = outcome_line (codes "stop ") c (handed_in sto
 
 -- ---- what was asked for a datagram
 
--- what stands behind the number, with a datagram's number or without one
+-- what follows the number, with a datagram's number or without one
 pub record Making (text : List ℕ) (count : ℕ) : Type 0 where
   pub rest : List ℕ
   pub words : List (List ℕ)
@@ -118,9 +118,9 @@ making_is answer word first c text count same plain starts named making counts =
     (starts line) (named line ∙ ap (λ (words : List (List ℕ)). names_datagram (first ∷ words)) cut ∙ making.named first (decimal c) (other_number c))
     (ap (λ (n : ℕ). record one_event { datagrams = n }) making.is ∙ counts)
 
--- a number, and what stands behind it
+-- a number, and what follows it
 abbrev then_number : (word : List ℕ) (n : ℕ) (text : List ℕ) → lacks 10 word ≡ true → OneLine text → OneLine (word ++ (decimal n ++ text))
-then_number word n text plain one = behind word (decimal n ++ text) plain (behind (decimal n) text (number n) one)
+then_number word n text plain one = after_part word (decimal n ++ text) plain (after_part (decimal n) text (number n) one)
 
 emission_is : (emission : Emitted) (datagram : ℕ) → Making (emitted_text emission datagram) (made_served emission)
 emission_is emitted.NoClient datagram = record { rest = codes "noclient"; words = codes "noclient" ∷ []; made = false; spelled = (whole (codes " noclient") refl).spelled; cut = refl; named = λ first next other. other; is = refl }
@@ -209,7 +209,7 @@ pub record FrontIs (way : Front) : Type 0 where
   pub named : (line : List ℕ) → has_datagram (front_text way ++ line) ≡ false
   pub taker : (rest end : List ℕ) → taken_by end (front_text way ++ (32 ∷ rest)) ≡ next_is end rest
 
--- a word with a number behind it
+-- a word with a number after it
 numbered : (word : List ℕ) (n : ℕ) (rest : List ℕ) → concat (word ∷ decimal n ∷ []) ++ (32 ∷ rest) ≡ word ++ (decimal n ++ (32 ∷ rest))
 numbered word n rest = simp (append_assoc, append-nil) refl
 
@@ -249,13 +249,13 @@ took_is way taking =
 untaken : (cause : TakeRefused) → OneLine (untaken_text cause)
 untaken refused.Unknown = whole (codes " unknown") refl
 untaken refused.NoClient = whole (codes " noclient") refl
-untaken (refused.Stranger c) = behind (codes " client ") (decimal c ++ (codes " stranger\n" ++ [])) refl (counted c (codes " stranger\n") (whole (codes " stranger") refl))
+untaken (refused.Stranger c) = after_part (codes " client ") (decimal c ++ (codes " stranger\n" ++ [])) refl (counted c (codes " stranger\n") (whole (codes " stranger") refl))
 
 untaken_is : (way : Front) (cause : TakeRefused) → AnswerIs (Untaken way cause)
 unfolding lines_of
 untaken_is way cause =
     let is = front_is way in
-    let one = behind (front_text way) (untaken_text cause) is.plain (untaken cause) in
+    let one = after_part (front_text way) (untaken_text cause) is.plain (untaken cause) in
     alone (Untaken way cause) one.line false one.spelled (is.starts (untaken cause).line) (is.named (untaken cause).line) refl
 
 -- ---- what is shown
@@ -297,7 +297,7 @@ entities_beneath client server entities =
 
 player_beneath : (client server : Bool) (player : PlayerState) → Beneath client server (codes "+ player" ++ (player_text player ++ codes "\n")) no_counts
 player_beneath client server player =
-    let is = behind (codes "+ player") (player_text player ++ codes "\n") refl (whole (player_text player) (player_plain player)) in
+    let is = after_part (codes "+ player") (player_text player ++ codes "\n") refl (whole (player_text player) (player_plain player)) in
     other_beneath client server (codes "+ player" ++ (player_text player ++ codes "\n")) is.line is.spelled
     (record { under = refl; no_datagram = refl; as_accepted = refl; as_skipped = refl; as_command = refl; as_move = refl })
 
@@ -344,7 +344,7 @@ shown_newest c snapshot =
 shown_line : (c : ℕ) (showing : Showing) → OneLine (showing_text showing) → AnswerIs (Shown c showing)
 unfolding lines_of
 shown_line c showing shown =
-    let one = behind (codes "show ") (decimal c ++ (showing_text showing ++ [])) refl (counted c (showing_text showing) shown) in
+    let one = after_part (codes "show ") (decimal c ++ (showing_text showing ++ [])) refl (counted c (showing_text showing) shown) in
     alone (Shown c showing) one.line false one.spelled refl refl refl
 
 shown_is : (c : ℕ) (showing : Showing) → AnswerIs (Shown c showing)
@@ -354,12 +354,12 @@ shown_is c (ShowsNewest snapshot) = shown_newest c snapshot
 
 bytes_line : (bytes : Option (List ℕ)) → OneLine (bytes_text bytes)
 bytes_line None = whole (codes " unknown") refl
-bytes_line (Some bytes) = behind (codes " ") (hex_word bytes ++ codes "\n") refl (whole (hex_word bytes) (hexed bytes))
+bytes_line (Some bytes) = after_part (codes " ") (hex_word bytes ++ codes "\n") refl (whole (hex_word bytes) (hexed bytes))
 
 bytes_is : (datagram : ℕ) (bytes : Option (List ℕ)) → AnswerIs (Bytes datagram bytes)
 unfolding lines_of
 bytes_is datagram bytes =
-    let one = behind (codes "bytes ") (decimal datagram ++ (bytes_text bytes ++ [])) refl (counted datagram (bytes_text bytes) (bytes_line bytes)) in
+    let one = after_part (codes "bytes ") (decimal datagram ++ (bytes_text bytes ++ [])) refl (counted datagram (bytes_text bytes) (bytes_line bytes)) in
     alone (Bytes datagram bytes) one.line false one.spelled refl refl refl
 
 pub answer_is : (answer : Answered) → AnswerIs answer

@@ -36,7 +36,7 @@ use Rattle.q3_schedules.proofs.EventKinds.{Happens, by_kind}
 use Rattle.q3_schedules.proofs.NamedRecordings.{Gone, Unnamed, apart_put, begins_new, begins_nothing, gone_of}
 use Rattle.q3_schedules.proofs.Recorded.{ends_gone, gone_on}
 use Rattle.q3_schedules.proofs.NodeRecorded.{OtherLine, by_line, due_once, due_others, once_of, other_line, others_left, started, starts}
-use Rattle.q3_schedules.proofs.MadeOnce.{MadeOnce, NeverMade, front_is_left, names_are, never_both, never_extends, once_behind}
+use Rattle.q3_schedules.proofs.MadeOnce.{MadeOnce, NeverMade, front_is_left, names_are, never_both, never_extends, once_after}
 
 -- ---- what makes no file of the name
 
@@ -96,7 +96,7 @@ rest_never name kept (event ∷ events) have others =
     never_both name (event_acts kept event) (acts_from next events) (event_never name kept have event others.0) (rest_never name next events (have_slots kept event have) others.1)
 
 spared_once : (name : List ℕ) (acts : List FileAct) → SparesAll name acts → MadeOnce name acts
-spared_once name acts spares = subst (MadeOnce name) (append-nil acts) (once_behind name acts [] spares tt)
+spared_once name acts spares = subst (MadeOnce name) (append-nil acts) (once_after name acts [] spares tt)
 
 -- a line names it, or doesn't
 abbrev Names : List ℕ → Event → Type 0
@@ -123,7 +123,7 @@ begin_makes name c ends (Some place) at gone = elim (cases_Bool (is_ok (begin_at
       inr (gone_of name c (with_place ends c now) (apart_put name c ends now (λ d ne. gone d)) still, refused.1)
 ]
 
--- an event and those behind it make it at most once, where these do if no recording is into it
+-- an event and those after it make it at most once, where these do if no recording is into it
 abbrev MadeFrom : List ℕ → Kept → List Event → Event → Type 0
 MadeFrom name kept left event =
     (Gone name (kept_step kept event).kept.ends → MadeOnce name (acts_from (kept_step kept event).kept left))
@@ -145,7 +145,7 @@ named_once name c kept left have gone others later =
 other_once : (name : List ℕ) (kept : Kept) (left : List Event) (event : Event) → HaveSlots kept.ends → Gone name kept.ends → MakesOther name event → MadeFrom name kept left event
 other_once name kept left event have gone other later =
     let now = gone_on name kept have event other gone in
-    once_behind name (event_acts kept event) (acts_from (kept_step kept event).kept left) now.1 (later now.0)
+    once_after name (event_acts kept event) (acts_from (kept_step kept event).kept left) now.1 (later now.0)
 
 event_once : (name : List ℕ) (kept : Kept) (left : List Event) (event : Event) → HaveSlots kept.ends → Gone name kept.ends → AllByRecursion (MakesOther name) left → MadeFrom name kept left event
 event_once name kept left event have gone others = elim (line_names name event) [
@@ -234,8 +234,8 @@ once_turns name (suc count) node readings arrivals once unnamed =
           turn_and_rest (MadeOnce name) now.turn rest (subst (λ (acts : List FileAct). MadeOnce name (acts ++ [])) (sym begins.makes) (inl (refl, tt)))
           (subst (λ (acts : List FileAct). MadeOnce name (acts ++ acts_of rest)) (sym begins.makes) (inl (refl, turns_never name count now.node later more begins.others)))
       | inr before ↦
-          turn_and_rest (MadeOnce name) now.turn rest (once_behind name now.turn.acts [] before.spares tt)
-          (once_behind name now.turn.acts (acts_of rest) before.spares (once_turns name count now.node later more before.once before.unnamed))
+          turn_and_rest (MadeOnce name) now.turn rest (once_after name now.turn.acts [] before.spares tt)
+          (once_after name now.turn.acts (acts_of rest) before.spares (once_turns name count now.node later more before.once before.unnamed))
     ]
 
 pub node_leaves_front : NodeLeavesFront

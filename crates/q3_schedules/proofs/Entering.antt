@@ -104,8 +104,8 @@ record IsLater (time last_run : ℕ) (moves : List Move) : Type 0 where
   last : time ≤ last_run
   each : All (λ (one : Move). time < one.time) moves
 
--- how a slot goes on behind the last move run: what is run is later than any time up to that one; and where its client enters the
--- map, it does so behind that one, and what is run is later
+-- how a slot goes on after the last move run: what is run is later than any time up to that one; and where its client enters the
+-- map, it does so after that one, and what is run is later
 record Goes (last last_run : ℕ) (entered : Option ℕ) (moves : List Move) : Type 0 where
   keeps : (time : ℕ) → time ≤ last → IsLater time last_run moves
   above : (time : ℕ) → entered ≡ Some time → last < time
@@ -123,7 +123,7 @@ goes_nothing last =
       enters = λ time e. absurd (none_some time e);
     }
 
--- moves that are run behind a time
+-- moves that are run after a time
 runs_later : (before time : ℕ) (moves : List Move) → time ≤ before → IsLater time (last_run_of before moves) (runs before moves)
 runs_later before time moves le =
     let rise = runs_rise before moves in
@@ -133,7 +133,7 @@ runs_later before time moves le =
       each = All-weaker (λ (one : Move). before < one.time) (λ (one : Move). time < one.time) (λ one lt. omega (arith, le, lt)) (runs before moves) (later before (runs before moves) rise);
     }
 
--- a client that is primed enters the map behind the last move run
+-- a client that is primed enters the map after the last move run
 abbrev EntersLate : SlotState → Message → Type 0
 EntersLate slot message = (one : Move) (others : List Move) → message.moves ≡ one ∷ others → slot.stage ≡ Primed → slot.last_run < one.time
 
@@ -217,12 +217,12 @@ takes_tag profile whole tag from slot sent way at holds =
 
 -- ---- what was run since
 
--- behind the moves that were run once, only later ones were, and the slot's last isn't before that time
+-- after the moves that were run once, only later ones were, and the slot's last isn't before that time
 record IsPast (old : List Move) (time : ℕ) (slot : SlotState) (run : List Move) : Type 0 where
   last : time ≤ slot.last_run
-  behind : List Move
-  is : run ≡ old ++ behind
-  each : All (λ (one : Move). time < one.time) behind
+  after : List Move
+  is : run ≡ old ++ after
+  each : All (λ (one : Move). time < one.time) after
 
 abbrev Past : List Move → ℕ → Option SlotState → List Move → Type 0
 Past old time None run = ⊥
@@ -233,15 +233,15 @@ At old time c whole = Past old time (slot_at whole.ends.server c) (history_at wh
 
 -- what was run later
 past_later : (old : List Move) (time : ℕ) (found : Option SlotState) (run : List Move) → Past old time found run
-    → (behind : List Move) × (run ≡ old ++ behind) × All (λ (one : Move). time < one.time) behind
+    → (after : List Move) × (run ≡ old ++ after) × All (λ (one : Move). time < one.time) after
 past_later old time None run is = absurd is
-past_later old time (Some slot) run is = (is.behind, is.is, is.each)
+past_later old time (Some slot) run is = (is.after, is.is, is.each)
 
 -- where nothing is run
 past_same : (old : List Move) (time : ℕ) (slot next : SlotState) (run now : List Move) → next.last_run ≡ slot.last_run → now ≡ run → IsPast old time slot run → IsPast old time next now
 past_same old time slot next run now last same is =
     let least = is.last in
-    record { last = omega (arith, least, last); behind = is.behind; is = same ∙ is.is; each = is.each }
+    record { last = omega (arith, least, last); after = is.after; is = same ∙ is.is; each = is.each }
 
 past_run : (old : List Move) (time : ℕ) (found : Option SlotState) (run now : List Move) → now ≡ run → Past old time found run → Past old time found now
 past_run old time found run now same is = subst (λ (moves : List Move). Past old time found moves) (sym same) is
@@ -251,16 +251,16 @@ past_mapped : (old : List Move) (time : ℕ) (change : SlotState → SlotState) 
 past_mapped old time change None run stays is = is
 past_mapped old time change (Some slot) run stays is = past_same old time slot (change slot) run run (stays slot) refl is
 
--- and behind what a slot takes
+-- and after what a slot takes
 past_takes : (old : List Move) (time c : ℕ) (slot : SlotState) (taken : by_slot.SlotTaken) (run : List Move) → TakesSo slot.last_run c taken → IsPast old time slot run
     → IsPast old time taken.slot (run ++ taken.moves)
 past_takes old time c slot taken run takes is =
     let kept = takes.goes.keeps time is.last in
     record {
       last = kept.last;
-      behind = is.behind ++ taken.moves;
-      is = ap (λ (moves : List Move). moves ++ taken.moves) is.is ∙ append_assoc old is.behind taken.moves;
-      each = All-append (λ (one : Move). time < one.time) is.behind taken.moves is.each kept.each;
+      after = is.after ++ taken.moves;
+      is = ap (λ (moves : List Move). moves ++ taken.moves) is.is ∙ append_assoc old is.after taken.moves;
+      each = All-append (λ (one : Move). time < one.time) is.after taken.moves is.each kept.each;
     }
 
 -- ---- where nothing is run
@@ -610,10 +610,10 @@ enters_to profile whole number c n time tag from holds sent way (Some slot) at r
     let enters : taken.entered ≡ Some time = ap (λ (r : Run). r.entered) same.1 ∙ entered in
     let ran = takes.ran time enters in
     let above = takes.goes.above time enters in
-    let behind = takes.goes.enters time enters in
+    let after = takes.goes.enters time enters in
     let keeps = (has_slot profile whole k slot sent.client at holds).1.keeps.of_slot in
     let last = keeps.last in
-    let past : IsPast history.run time taken.slot next.run = record { last = behind.last; behind = taken.moves; is = refl; each = behind.each } in
+    let past : IsPast history.run time taken.slot next.run = record { last = after.last; after = taken.moves; is = refl; each = after.each } in
     subst (λ (j : ℕ). EntersAt whole j time (to_server profile whole number tag from (Some slot)).whole) (same_client taken.answer c k n ran.0 ran.1 same.0)
     (record {
       before = All-weaker (λ (one : Move). one.time ≤ last_time 0 history.run) (λ (one : Move). one.time < time) (λ one most. omega (arith, most, last, above)) history.run

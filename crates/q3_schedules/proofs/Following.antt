@@ -80,16 +80,16 @@ follows_since old c whole at =
 
 -- ---- a serve that begins a message
 
--- the map is as before, and the message was begun behind all commands
+-- the map is as before, and the message was begun after all commands
 record BegunAt (before now : Whole) (c : ℕ) : Type 0 where
   id : now.ends.server.map.id ≡ before.ends.server.map.id
   strings : now.ends.server.map.strings ≡ before.ends.server.map.strings
   last : (built_at (history_at now.histories c).built (length (history_at before.histories c).built + 1)).last ≡ length (history_at now.histories c).server_commands
 
-begun_behind : (map : MapState) (last : ℕ) (history : History) (began : Option Built) → last ≡ length history.server_commands → IfSome began (TellsOf map last)
+begun_after : (map : MapState) (last : ℕ) (history : History) (began : Option Built) → last ≡ length history.server_commands → IfSome began (TellsOf map last)
     → length (with_built history began).built ≡ length history.built + 1 → (built_at (with_built history began).built (length history.built + 1)).last ≡ length (with_built history began).server_commands
-begun_behind map last history None count tells more = absurd (omega (arith, more))
-begun_behind map last history (Some next) count tells more = ap (λ (b : Built). b.last) (built_end history.built next (length history.built + 1) refl) ∙ (tells.last_is ∙ count)
+begun_after map last history None count tells more = absurd (omega (arith, more))
+begun_after map last history (Some next) count tells more = ap (λ (b : Built). b.last) (built_end history.built next (length history.built + 1) refl) ∙ (tells.last_is ∙ count)
 
 begun_by : FlowLaws → (profile : Profile) (whole : Whole) (c : ℕ) → c < places → Holds profile whole → (found : Option SlotState) → slot_at whole.ends.server c ≡ found
     → length (history_at (serve whole c (emit_from whole.ends.server c found)).whole.histories c).built ≡ length (history_at whole.histories c).built + 1
@@ -109,7 +109,7 @@ begun_by flow profile whole c lt holds (Some slot) at more =
       id = so.id;
       strings = so.strings;
       last = subst (λ (h : History). (built_at h.built (length history.built + 1)).last ≡ length h.server_commands) (sym there)
-          (begun_behind server.map (issued_of slot.issued) history emission.began (issued_count profile whole c slot flow lt at holds) so.tells
+          (begun_after server.map (issued_of slot.issued) history emission.began (issued_count profile whole c slot flow lt at holds) so.tells
           (subst (λ (h : History). length h.built ≡ length history.built + 1) there more));
     }
 
@@ -121,7 +121,7 @@ begun_at flow profile whole c lt holds more = begun_by flow profile whole c lt h
 
 -- ---- the client's strings
 
--- where the last message that it applied is the last that was begun then, behind all commands
+-- where the last message that it applied is the last that was begun then, after all commands
 strings_then : (slot : SlotState) (client : ClientState) (old history : History) (id : ℕ) (strings : Strings)
     → ((n : ℕ) (game : Gamestate) → Carries old.built n game → Tells game id → IsFollowed game strings old.server_commands)
     → Grew old.built history.built → Grew old.server_commands history.server_commands → HasHeard client.state history.built history.games

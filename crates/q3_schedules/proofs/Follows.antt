@@ -21,7 +21,7 @@ use Rattle.q3_schedules.proofs.PiecesEnd.{LeaveNone, Pauses, pauses_built, pause
 
 -- ---- what follows
 
--- strings are those of a gamestate, with the changes that the commands tell which were issued behind it
+-- strings are those of a gamestate, with the changes that the commands tell which were issued after it
 pub record IsFollowed (game : Gamestate) (strings : Strings) (issued : List (List ℕ)) : Type 0 where
   pub known : game.command ≤ length issued
   pub same : after_commands game.strings (drop game.command issued) ≡ strings

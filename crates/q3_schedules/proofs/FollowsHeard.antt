@@ -125,7 +125,7 @@ built_last profile challenge n built game is e =
 
 -- ---- a message is applied
 
--- a client's state behind one
+-- a client's state after one
 record HeardTo (state : AppliedState) (n last : ℕ) : Type 0 where
   number_is : state.number ≡ n
   executed_is : state.executed.executed ≡ last

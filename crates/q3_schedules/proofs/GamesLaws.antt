@@ -50,7 +50,7 @@ slot_under_map map slot client history mapped =
           inr (under.2, (played, subst (λ (game : Gamestate). Tells game map.id) same last.0.2, accept))
     ]
 
--- a base that its client accepted behind the last gamestate before a message was accepted under it
+-- a base that its client accepted after the last gamestate before a message was accepted under it
 base_under : (taken last_time : ℕ) (built : List Built) (games : List Played) (accepted : List Snapshot) (executed : List (List ℕ)) (n g : ℕ) (base : Snapshot) (played : Played)
     → All (WasApplied taken last_time built accepted executed) games → BuiltUnder built games n g → Contains games played → played.number ≡ g → g < base.head.number → base.head.number < n
     → Contains accepted base → AcceptedUnder games accepted played base.head.number
@@ -64,15 +64,15 @@ base_under taken last_time built games accepted executed n g base played each un
       place = place;
       within = within;
       is = λ d. ap (λ (s : Snapshot). s.head.number) (get_or_default accepted place d base within ∙ accept.2);
-      behind = elim (cases_lt place played.accepted) [
+      after = elim (cases_lt place played.accepted) [
         | inl before ↦ let low = was.lower place base before within in absurd (omega (arith, low, at, number, above))
-        | inr behind ↦ behind
+        | inr after ↦ after
       ];
       before = λ later is lt. elim (cases_lt place later.accepted) [
         | inl before ↦ before
-        | inr behind ↦
+        | inr after ↦
             let one = All-contains (WasApplied taken last_time built accepted executed) games later each is in
-            let high = one.higher place base behind within in
+            let high = one.higher place base after within in
             elim (cases_lt later.number n) [
               | inl early ↦ let most = under.last later.number later.game one.carries early in absurd (omega (arith, most, number, lt))
               | inr late ↦ absurd (omega (arith, high, at, late, below))

@@ -49,21 +49,21 @@ pub record OneLine (text : List ℕ) : Type 0 where
   pub line : List ℕ
   pub spelled : Spelled text (line ∷ [])
 
--- behind something
-abbrev pub behind : (part text : List ℕ) → lacks 10 part ≡ true → OneLine text → OneLine (part ++ text)
-behind part text plain is = record { line = part ++ is.line; spelled = in_front part text is.line [] plain is.spelled }
+-- after something
+abbrev pub after_part : (part text : List ℕ) → lacks 10 part ≡ true → OneLine text → OneLine (part ++ text)
+after_part part text plain is = record { line = part ++ is.line; spelled = in_front part text is.line [] plain is.spelled }
 
 abbrev pub ending : OneLine (codes "\n")
 ending = record { line = []; spelled = newline [] [] nothing }
 
 abbrev pub whole : (part : List ℕ) → lacks 10 part ≡ true → OneLine (part ++ codes "\n")
-whole part plain = behind part (codes "\n") plain ending
+whole part plain = after_part part (codes "\n") plain ending
 
 -- and where nothing follows, as in a `concat`
 abbrev pub closed : (text : List ℕ) → OneLine text → OneLine (text ++ [])
 closed text is = record { line = is.line; spelled = last text (is.line ∷ []) is.spelled }
 
--- a word, and a number behind it
+-- a word, and a number after it
 pub numbered : (word : List ℕ) (n : ℕ) → lacks 10 word ≡ true → lacks 10 (concat (word ∷ decimal n ∷ [])) ≡ true
 numbered word n plain = lacks_both 10 word (decimal n ++ []) plain (lacks_both 10 (decimal n) [] (number n) refl)
 
@@ -120,14 +120,14 @@ stop_refused unstopped.NoClient = refl
 stop_refused unstopped.NotRecording = refl
 
 refusal : (text : List ℕ) → lacks 10 text ≡ true → OneLine (concat (codes " refused " ∷ text ∷ codes "\n" ∷ []))
-refusal text plain = behind (codes " refused ") (text ++ codes "\n") refl (whole text plain)
+refusal text plain = after_part (codes " refused ") (text ++ codes "\n") refl (whole text plain)
 
 pub handed_in : {E : Type 0} (text : E → List ℕ) → ((e : E) → lacks 10 (text e) ≡ true) → (outcome : Result (Unit {0}) E) → OneLine (handed_in_text text outcome)
 handed_in text plain (Ok x) = whole (codes " ok") refl
 handed_in text plain (Err e) = refusal (text e) (plain e)
 
 pub issued : {E : Type 0} (text : E → List ℕ) → ((e : E) → lacks 10 (text e) ≡ true) → (outcome : Result ℕ E) → OneLine (issued_text text outcome)
-issued text plain (Ok n) = behind (codes " ok ") (decimal n ++ codes "\n") refl (whole (decimal n) (number n))
+issued text plain (Ok n) = after_part (codes " ok ") (decimal n ++ codes "\n") refl (whole (decimal n) (number n))
 issued text plain (Err e) = refusal (text e) (plain e)
 
 -- ---- words of causes

@@ -21,7 +21,7 @@ use Rattle.q3_schedules.specs.ReportLines.{begins, is_under, has_datagram, taken
 use Rattle.q3_schedules.proofs.PlainTexts.{lacks, lacks_both, number, signed, quote}
 use Rattle.q3_schedules.proofs.SpelledLines.{Spelled, nothing, join, each}
 use Rattle.q3_schedules.proofs.PlacedLines.{Kind, Event, Datagram, AcceptedSnapshot, SkippedSnapshot, ServerCommand, ClientCommand, MoveLine, test_of, count_of, at, tally, tally-append, tally-alike, plus, plus_is}
-use Rattle.q3_schedules.proofs.LineEnds.{behind, whole, base_cause}
+use Rattle.q3_schedules.proofs.LineEnds.{after_part, whole, base_cause}
 
 -- what a line under another is: the kinds that these are, and no other
 pub record KindsOf (line : List ℕ) (accepted skipped command move : Bool) : Type 0 where
@@ -129,9 +129,9 @@ command_line command = codes "+ command " ++ (decimal command.number ++ (codes "
 pub commands_beneath : (client server : Bool) (commands : List Command) → Beneath client server (commands_text commands) (counts_each client server false false true false (length commands))
 commands_beneath client server commands =
     each_beneath client server false false true false command_text command_line
-    (λ command. (behind (codes "+ command ") (decimal command.number ++ (codes " " ++ (quoted command.text ++ codes "\n"))) refl
-    (behind (decimal command.number) (codes " " ++ (quoted command.text ++ codes "\n")) (number command.number)
-    (behind (codes " ") (quoted command.text ++ codes "\n") refl (whole (quoted command.text) (quote command.text))))).spelled)
+    (λ command. (after_part (codes "+ command ") (decimal command.number ++ (codes " " ++ (quoted command.text ++ codes "\n"))) refl
+    (after_part (decimal command.number) (codes " " ++ (quoted command.text ++ codes "\n")) (number command.number)
+    (after_part (codes " ") (quoted command.text ++ codes "\n") refl (whole (quoted command.text) (quote command.text))))).spelled)
     (λ command. record { under = refl; no_datagram = refl; as_accepted = refl; as_skipped = refl; as_command = refl; as_move = refl })
     commands
 
@@ -165,7 +165,7 @@ move_line one = codes "+ move" ++ (spaced (move_words one) ++ [])
 pub moves_beneath : (client server : Bool) (moves : List Move) → Beneath client server (flat_map move_text moves) (counts_each client server false false false true (length moves))
 moves_beneath client server moves =
     each_beneath client server false false false true move_text move_line
-    (λ one. (behind (codes "+ move") (spaced (move_words one) ++ codes "\n") refl
+    (λ one. (after_part (codes "+ move") (spaced (move_words one) ++ codes "\n") refl
     (whole (spaced (move_words one)) (each_spaced (move_words one) (words_of_move one)))).spelled)
     (λ one. record { under = refl; no_datagram = refl; as_accepted = refl; as_skipped = refl; as_command = refl; as_move = refl })
     moves
@@ -178,7 +178,7 @@ other_beneath client server text line spelled kinds = one_beneath client server 
 pub entered_beneath : (client server : Bool) (entered : Option ℕ) → Beneath client server (entered_text entered) no_counts
 entered_beneath client server None = none_beneath client server
 entered_beneath client server (Some time) =
-    let is = behind (codes "+ entered ") (decimal time ++ codes "\n") refl (whole (decimal time) (number time)) in
+    let is = after_part (codes "+ entered ") (decimal time ++ codes "\n") refl (whole (decimal time) (number time)) in
     other_beneath client server (entered_text (Some time)) is.line is.spelled
     (record { under = refl; no_datagram = refl; as_accepted = refl; as_skipped = refl; as_command = refl; as_move = refl })
 
@@ -200,11 +200,11 @@ ended_beneath client server true =
 pub game_beneath : (client server : Bool) (state : AppliedState) (game : Bool) → Beneath client server (game_text state game) no_counts
 game_beneath client server state false = none_beneath client server
 game_beneath client server state true =
-    let is = behind (codes "+ gamestate id ") (decimal state.id ++ (codes " slot " ++ (decimal state.slot ++ (codes " feed " ++ (decimal state.feed ++ codes "\n"))))) refl
-    (behind (decimal state.id) (codes " slot " ++ (decimal state.slot ++ (codes " feed " ++ (decimal state.feed ++ codes "\n")))) (number state.id)
-    (behind (codes " slot ") (decimal state.slot ++ (codes " feed " ++ (decimal state.feed ++ codes "\n"))) refl
-    (behind (decimal state.slot) (codes " feed " ++ (decimal state.feed ++ codes "\n")) (number state.slot)
-    (behind (codes " feed ") (decimal state.feed ++ codes "\n") refl (whole (decimal state.feed) (number state.feed)))))) in
+    let is = after_part (codes "+ gamestate id ") (decimal state.id ++ (codes " slot " ++ (decimal state.slot ++ (codes " feed " ++ (decimal state.feed ++ codes "\n"))))) refl
+    (after_part (decimal state.id) (codes " slot " ++ (decimal state.slot ++ (codes " feed " ++ (decimal state.feed ++ codes "\n")))) (number state.id)
+    (after_part (codes " slot ") (decimal state.slot ++ (codes " feed " ++ (decimal state.feed ++ codes "\n"))) refl
+    (after_part (decimal state.slot) (codes " feed " ++ (decimal state.feed ++ codes "\n")) (number state.slot)
+    (after_part (codes " feed ") (decimal state.feed ++ codes "\n") refl (whole (decimal state.feed) (number state.feed)))))) in
     other_beneath client server (game_text state true) is.line is.spelled
     (record { under = refl; no_datagram = refl; as_accepted = refl; as_skipped = refl; as_command = refl; as_move = refl })
 
@@ -212,20 +212,20 @@ pub outcome_beneath : (client server : Bool) (n : ℕ) (outcome : SnapOutcome)
     → Beneath client server (outcome_text n outcome) (record no_counts { accepted = accepted_in outcome; skipped = skipped_in outcome })
 outcome_beneath client server n NoSnap = none_beneath client server
 outcome_beneath client server n (Accepted base) =
-    let is = behind (codes "+ accepted ") (decimal n ++ (codes " base " ++ (decimal base ++ codes "\n"))) refl
-    (behind (decimal n) (codes " base " ++ (decimal base ++ codes "\n")) (number n)
-    (behind (codes " base ") (decimal base ++ codes "\n") refl (whole (decimal base) (number base)))) in
+    let is = after_part (codes "+ accepted ") (decimal n ++ (codes " base " ++ (decimal base ++ codes "\n"))) refl
+    (after_part (decimal n) (codes " base " ++ (decimal base ++ codes "\n")) (number n)
+    (after_part (codes " base ") (decimal base ++ codes "\n") refl (whole (decimal base) (number base)))) in
     one_beneath client server true false false false (outcome_text n (Accepted base)) is.line is.spelled
     (record { under = refl; no_datagram = refl; as_accepted = refl; as_skipped = refl; as_command = refl; as_move = refl })
 outcome_beneath client server n (Skipped base cause) =
-    let is = behind (codes "+ skipped ") (decimal n ++ (codes " base " ++ (decimal base ++ (codes " " ++ (cause_text cause ++ codes "\n"))))) refl
-    (behind (decimal n) (codes " base " ++ (decimal base ++ (codes " " ++ (cause_text cause ++ codes "\n")))) (number n)
-    (behind (codes " base ") (decimal base ++ (codes " " ++ (cause_text cause ++ codes "\n"))) refl
-    (behind (decimal base) (codes " " ++ (cause_text cause ++ codes "\n")) (number base)
-    (behind (codes " ") (cause_text cause ++ codes "\n") refl (whole (cause_text cause) (base_cause cause)))))) in
+    let is = after_part (codes "+ skipped ") (decimal n ++ (codes " base " ++ (decimal base ++ (codes " " ++ (cause_text cause ++ codes "\n"))))) refl
+    (after_part (decimal n) (codes " base " ++ (decimal base ++ (codes " " ++ (cause_text cause ++ codes "\n")))) (number n)
+    (after_part (codes " base ") (decimal base ++ (codes " " ++ (cause_text cause ++ codes "\n"))) refl
+    (after_part (decimal base) (codes " " ++ (cause_text cause ++ codes "\n")) (number base)
+    (after_part (codes " ") (cause_text cause ++ codes "\n") refl (whole (cause_text cause) (base_cause cause)))))) in
     one_beneath client server false true false false (outcome_text n (Skipped base cause)) is.line is.spelled
     (record { under = refl; no_datagram = refl; as_accepted = refl; as_skipped = refl; as_command = refl; as_move = refl })
 outcome_beneath client server n Stale =
-    let is = behind (codes "+ stale ") (decimal n ++ codes "\n") refl (whole (decimal n) (number n)) in
+    let is = after_part (codes "+ stale ") (decimal n ++ codes "\n") refl (whole (decimal n) (number n)) in
     other_beneath client server (outcome_text n Stale) is.line is.spelled
     (record { under = refl; no_datagram = refl; as_accepted = refl; as_skipped = refl; as_command = refl; as_move = refl })

@@ -28,10 +28,10 @@ MadeOnce name [] = Unit {0}
 MadeOnce name (Makes n ∷ acts) = ((n ≡ name) × NeverMade name acts) ⊎ ((n ≢ name) × MadeOnce name acts)
 MadeOnce name (Extends n bytes ∷ acts) = (n ≢ name) × MadeOnce name acts
 
-pub once_behind : (name : List ℕ) (first second : List FileAct) → SparesAll name first → MadeOnce name second → MadeOnce name (first ++ second)
-once_behind name [] second spares once = once
-once_behind name (Makes n ∷ first) second spares once = inr (spares.0, once_behind name first second spares.1 once)
-once_behind name (Extends n bytes ∷ first) second spares once = (spares.0, once_behind name first second spares.1 once)
+pub once_after : (name : List ℕ) (first second : List FileAct) → SparesAll name first → MadeOnce name second → MadeOnce name (first ++ second)
+once_after name [] second spares once = once
+once_after name (Makes n ∷ first) second spares once = inr (spares.0, once_after name first second spares.1 once)
+once_after name (Extends n bytes ∷ first) second spares once = (spares.0, once_after name first second spares.1 once)
 
 pub never_both : (name : List ℕ) (first second : List FileAct) → NeverMade name first → NeverMade name second → NeverMade name (first ++ second)
 never_both name [] second one two = two
@@ -49,9 +49,9 @@ names_are n name = elim (cases_Bool (bytes_eq n name)) [
   | inr not ↦ inr (λ same. true≢false (sym ((bytes_eq-Decides n name).1 same) ∙ not))
 ]
 
--- bytes behind those that it holds
-put_behind : (told : Told) (name held bytes : List ℕ) → contents_of told.files name ≡ Some held → contents_of (after_act told (Extends name bytes)).files name ≡ Some (held ++ bytes)
-put_behind told name held bytes is = same_name told.files name (held_by told.files name ++ bytes) ∙ ap (λ (found : Option (List ℕ)). Some (unwrap_or found [] ++ bytes)) is
+-- bytes after those that it holds
+put_after : (told : Told) (name held bytes : List ℕ) → contents_of told.files name ≡ Some held → contents_of (after_act told (Extends name bytes)).files name ≡ Some (held ++ bytes)
+put_after told name held bytes is = same_name told.files name (held_by told.files name ++ bytes) ∙ ap (λ (found : Option (List ℕ)). Some (unwrap_or found [] ++ bytes)) is
 
 put_other : (told : Told) (n name bytes : List ℕ) → n ≢ name → contents_of (after_act told (Extends n bytes)).files name ≡ contents_of told.files name
 put_other told n name bytes ne = others_name told.files n name (held_by told.files n ++ bytes) ne
@@ -68,7 +68,7 @@ act_grows told name held (Makes n) ne is = stays_grown (after_act told (Makes n)
 act_grows told name held (Extends n bytes) never is = elim (names_are n name) [
   | inl same ↦
       let there : contents_of (after_act told (Extends n bytes)).files name ≡ Some (held ++ bytes) =
-      ap (λ (k : List ℕ). contents_of (after_act told (Extends k bytes)).files name) same ∙ put_behind told name held bytes is in
+      ap (λ (k : List ℕ). contents_of (after_act told (Extends k bytes)).files name) same ∙ put_after told name held bytes is in
       record { more = bytes; is = there }
   | inr ne ↦ stays_grown (after_act told (Extends n bytes)) name held (put_other told n name bytes ne ∙ is)
 ]
@@ -85,7 +85,7 @@ all_grow told name held (act ∷ acts) never is =
 
 -- ---- where acts end early
 
--- behind none of them, within the first, or later
+-- after none of them, within the first, or later
 abbrev Within : Told → List FileAct → Told → Type 0
 Within told [] now = now.files ≡ told.files
 Within told (act ∷ acts) now = (now.files ≡ told.files) ⊎ (BreaksOff told act now ⊎ Within (after_act told act) acts now)
@@ -94,10 +94,10 @@ at_once : (told : Told) (acts : List FileAct) (now : Told) → now.files ≡ tol
 at_once told [] now same = same
 at_once told (act ∷ acts) now same = inl same
 
-behind_first : (told : Told) (first rest : List FileAct) (now : Told) → now ≡ after_acts told first → Within told (first ++ rest) now
+past_first : (told : Told) (first rest : List FileAct) (now : Told) → now ≡ after_acts told first → Within told (first ++ rest) now
 unfolding after_acts
-behind_first told [] rest now is = at_once told rest now (ap (λ (t : Told). t.files) is)
-behind_first told (act ∷ first) rest now is = inr (inr (behind_first (after_act told act) first rest now is))
+past_first told [] rest now is = at_once told rest now (ap (λ (t : Told). t.files) is)
+past_first told (act ∷ first) rest now is = inr (inr (past_first (after_act told act) first rest now is))
 
 within_next : (told : Told) (first : List FileAct) (act : FileAct) (rest : List FileAct) (now : Told) → BreaksOff (after_acts told first) act now → Within told (first ++ act ∷ rest) now
 unfolding after_acts
@@ -105,14 +105,14 @@ within_next told [] act rest now breaks = inr (inl breaks)
 within_next told (one ∷ first) act rest now breaks = inr (inr (within_next (after_act told one) first act rest now breaks))
 
 within : (told : Told) (acts : List FileAct) (now : Told) → EndsWithin told acts now → Within told acts now
-within told acts now (inl first) = subst (λ (all : List FileAct). Within told all now) (sym first.2) (behind_first told first.0 first.1 now first.3)
+within told acts now (inl first) = subst (λ (all : List FileAct). Within told all now) (sym first.2) (past_first told first.0 first.1 now first.3)
 within told acts now (inr failed) =
     let is : failed.4 ≡ now = same failed.4 now failed.5 in
     subst (λ (all : List FileAct). Within told all now) (sym failed.3)
     (within_next told failed.0 failed.1 failed.2 now (subst (BreaksOff (after_acts told failed.0) failed.1) is failed.6))
   where
-    same : (behind now : Told) → Some now ≡ Some behind → behind ≡ now
-    same behind now e = cc
+    same : (after now : Told) → Some now ≡ Some after → after ≡ now
+    same after now e = cc
 
 -- ---- what the file holds then
 
@@ -149,10 +149,10 @@ broken_front told now name held (Extends n bytes) acts never is broken = elim (n
         let left = broken.1.0 in
         let put : contents_of (after_act told (Extends n bytes)).files name ≡ Some ((held ++ added) ++ left) =
         ap (λ (k : List ℕ). contents_of (after_act told (Extends k bytes)).files name) same
-        ∙ (put_behind told name held bytes is ∙ ap (λ (b : List ℕ). Some b) (ap (λ (b : List ℕ). held ++ b) (sym broken.1.1) ∙ sym (append_assoc held added left))) in
+        ∙ (put_after told name held bytes is ∙ ap (λ (b : List ℕ). Some b) (ap (λ (b : List ℕ). held ++ b) (sym broken.1.1) ∙ sym (append_assoc held added left))) in
         let early : contents_of now.files name ≡ Some (held ++ added) =
         ap (λ (t : Told). contents_of t.files name) broken.2
-        ∙ (ap (λ (k : List ℕ). contents_of (after_act told (Extends k added)).files name) same ∙ put_behind told name held added is) in
+        ∙ (ap (λ (k : List ℕ). contents_of (after_act told (Extends k added)).files name) same ∙ put_after told name held added is) in
         held_front told now (after_acts told (Extends n bytes ∷ acts)) name (held ++ added) early
         (grown_on (after_acts (after_act told (Extends n bytes)) acts) name (held ++ added) left
         (all_grow (after_act told (Extends n bytes)) name ((held ++ added) ++ left) acts never.1 put))

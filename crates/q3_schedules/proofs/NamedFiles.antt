@@ -66,7 +66,7 @@ pub spares_both : (name : List ℕ) (first second : List FileAct) → SparesAll 
 spares_both name [] second one two = two
 spares_both name (act ∷ first) second one two = (one.0, spares_both name first second one.1 two)
 
--- the file is made, and bytes are put behind its
+-- the file is made, and bytes are put after its own
 pub made : (told : Told) (name : List ℕ) → contents_of (after_acts told (Makes name ∷ [])).files name ≡ Some []
 unfolding after_acts
 made told name = same_name told.files name []

@@ -49,7 +49,7 @@ by_line P records stops ends plain (events.Stop c) = stops c
 by_line P records stops ends plain (events.End ms) = ends ms
 by_line P records stops ends plain event = plain event (record { same = λ e k. refl; none = λ e k. refl; goes = refl; begins = λ n e. refl; ends = refl; other = λ n. tt })
 
--- ---- a turn behind which nobody records into the file
+-- ---- a turn after which nobody records into the file
 
 line_apart : (name : List ℕ) (event : Event) → MakesOther name event → (end : ClientEnd) (number : ℕ)
     → StaysApart name end.recording (line_done end event number).end.recording (line_done end event number).acts
@@ -74,7 +74,7 @@ turn_apart name node (Some event) found other = line_apart name event other node
 turn_apart name node None None other = λ unnamed. (unnamed, tt)
 turn_apart name node None (Some parcel) other = arrival_apart name node.end (cut_to_room parcel)
 
--- the line that is due doesn't name the file, nor does one behind it
+-- the line that is due doesn't name the file, nor does one after it
 abbrev pub OthersFrom : List ℕ → Option Event → List Event → Type 0
 OthersFrom name None left = AllByRecursion (MakesOther name) left
 OthersFrom name (Some event) left = MakesOther name event × AllByRecursion (MakesOther name) (drop 1 left)
@@ -96,13 +96,13 @@ others_left name node None (Some parcel) others = others
 
 -- ---- turns and files
 
--- what the file holds behind a turn and those after it, which there are unless the node ended
-behind_turn : (name : List ℕ) (told : Told) (turn : Turn) (rest : List Turn) (found : Option (List ℕ))
+-- what the file holds after a turn and those that follow it, which there are unless the node ended
+after_turn : (name : List ℕ) (told : Told) (turn : Turn) (rest : List Turn) (found : Option (List ℕ))
     → (turn.ended ≡ true → contents_of (after_acts told turn.acts).files name ≡ found)
     → (turn.ended ≡ false → contents_of (after_acts (after_acts told turn.acts) (acts_of rest)).files name ≡ found)
     → contents_of (after_acts told (acts_of (turn ∷ (if turn.ended then [] else rest)))).files name ≡ found
 unfolding after_acts
-behind_turn name told turn rest found last more =
+after_turn name told turn rest found last more =
     let others : List Turn = if turn.ended then [] else rest in
     ap (λ (acts : List FileAct). contents_of (after_acts told acts).files name) (flat_map-cons (λ (one : Turn). one.acts) turn others)
     ∙ (over_files name told turn.acts (acts_of others)
@@ -124,11 +124,11 @@ stays_apart name (suc count) node readings arrivals told others unnamed =
     let from = due_others name node.time (reading_of readings - start_at node.start (reading_of readings)) node.left others in
     let apart = turn_apart name (started node readings) line (next_of arrivals) (other_line name line node.left from) unnamed in
     let same = spared told name now.turn.acts apart.1 in
-    let behind = after_acts told now.turn.acts in
+    let after = after_acts told now.turn.acts in
     let later = readings_after readings in
     let more = arrivals_after now.turn arrivals in
-    behind_turn name told now.turn (turns_of count client_rules now.node later more) (contents_of told.files name) (λ last. same)
-    (λ goes. stays_apart name count now.node later more behind (others_left name (started node readings) line (next_of arrivals) from) apart.0 ∙ same)
+    after_turn name told now.turn (turns_of count client_rules now.node later more) (contents_of told.files name) (λ last. same)
+    (λ goes. stays_apart name count now.node later more after (others_left name (started node readings) line (next_of arrivals) from) apart.0 ∙ same)
 
 -- ---- a recording into the file
 
@@ -217,31 +217,31 @@ so_far_left name (suc count) node readings arrivals told stage bytes others (inl
     let now = turn_at client_rules node (reading_of readings) (next_of arrivals) in
     let from = due_others name node.time (reading_of readings - start_at node.start (reading_of readings)) node.left others in
     let left = others_left name (started node readings) line (next_of arrivals) from in
-    let behind = after_acts told now.turn.acts in
+    let after = after_acts told now.turn.acts in
     let later = readings_after readings in
     let more = arrivals_after now.turn arrivals in
     elim (becomes name stage (started node readings) line (next_of arrivals) going) [
       | inl ended ↦
-          let closed : contents_of behind.files name ≡ Some (Left true stage bytes []) =
+          let closed : contents_of after.files name ≡ Some (Left true stage bytes []) =
           ap (λ (acts : List FileAct). contents_of (after_acts told acts).files name) ended.acts
           ∙ (extended told name bytes (closing stage) is ∙ ap (λ (b : List ℕ). Some b) (whole_none stage bytes)) in
-          rw ended.ends (behind_turn name told now.turn (turns_of count client_rules now.node later more) (Some (Left true stage bytes [])) (λ last. closed)
-          (λ goes. stays_apart name count now.node later more behind left ended.unnamed ∙ closed))
+          rw ended.ends (after_turn name told now.turn (turns_of count client_rules now.node later more) (Some (Left true stage bytes [])) (λ last. closed)
+          (λ goes. stays_apart name count now.node later more after left ended.unnamed ∙ closed))
       | inr continues ↦
           let last = has_end count now.node later more in
           let notes = noted_turn node.end line (next_of arrivals) in
           let others_noted = applied_in count now.node later more in
           let noting = noted_from stage notes in
-          rw continues.goes (behind_turn name told now.turn (turns_of count client_rules now.node later more) (Some (Left last stage bytes (notes ++ others_noted)))
+          rw continues.goes (after_turn name told now.turn (turns_of count client_rules now.node later more) (Some (Left last stage bytes (notes ++ others_noted)))
           (λ ends. absurd (true≢false (sym ends ∙ continues.on)))
           (λ goes.
-          so_far_left name count now.node later more behind noting.stage (bytes ++ noting.bytes) left continues.one.so_far (continues.one.adds told bytes is)
+          so_far_left name count now.node later more after noting.stage (bytes ++ noting.bytes) left continues.one.so_far (continues.one.adds told bytes is)
           ∙ ap (λ (b : List ℕ). Some b) (left_over last stage bytes notes others_noted)))
     ]
 
 -- ---- before the line that begins it
 
--- of the line that is due and those behind it at most one names the file
+-- of the line that is due and those after it at most one names the file
 abbrev pub OnceFrom : List ℕ → Option Event → List Event → Type 0
 OnceFrom name None left = NamesOnce name left
 OnceFrom name (Some event) left = (MakesOther name event × NamesOnce name (drop 1 left)) ⊎ AllByRecursion (MakesOther name) (drop 1 left)
@@ -255,9 +255,9 @@ pub once_of : (name : List ℕ) (events : List Event) → AllByRecursion (MakesO
 once_of name [] others = tt
 once_of name (event ∷ events) others = inr others.1
 
-once_behind : (name : List ℕ) (event : Event) (left : List Event) → OnceFrom name (Some event) left → NamesOnce name (drop 1 left)
-once_behind name event left (inl once) = once.1
-once_behind name event left (inr others) = once_of name (drop 1 left) others
+once_after : (name : List ℕ) (event : Event) (left : List Event) → OnceFrom name (Some event) left → NamesOnce name (drop 1 left)
+once_after name event left (inl once) = once.1
+once_after name event left (inr others) = once_of name (drop 1 left) others
 
 -- the recording begins in a turn, or doesn't
 pub record Begins (name : List ℕ) (end : ClientEnd) (line : Option Event) (now : Turned ClientEnd) : Type 0 where
@@ -307,23 +307,23 @@ record_starts name c n node found unnamed once = elim (cases_Bool (bytes_eq n na
   | inl same ↦
       let is = (bytes_eq-Decides n name).0 same in
       subst (λ (m : List ℕ). Starts name node (Some (events.RecordTo c m)) found) (sym is)
-      (named_starts name c node found unnamed (behind n is once))
+      (named_starts name c node found unnamed (after n is once))
   | inr not ↦
       other_starts name node (Some (events.RecordTo c n)) found (λ is. true≢false (sym ((bytes_eq-Decides n name).1 is) ∙ not)) (rw not refl)
-      (once_behind name (events.RecordTo c n) node.left once) unnamed
+      (once_after name (events.RecordTo c n) node.left once) unnamed
 ]
   where
-    behind : (n : List ℕ) → n ≡ name → OnceFrom name (Some (events.RecordTo c n)) node.left → AllByRecursion (MakesOther name) (drop 1 node.left)
-    behind n is (inl once) = absurd (once.0 is)
-    behind n is (inr others) = others
+    after : (n : List ℕ) → n ≡ name → OnceFrom name (Some (events.RecordTo c n)) node.left → AllByRecursion (MakesOther name) (drop 1 node.left)
+    after n is (inl once) = absurd (once.0 is)
+    after n is (inr others) = others
 
 line_starts : (name : List ℕ) (node : Node ClientEnd) (found : Option Parcel) → Unnamed name node.end.recording
     → (event : Event) → OnceFrom name (Some event) node.left → Starts name node (Some event) found
 line_starts name node found unnamed =
     by_line (λ (event : Event). OnceFrom name (Some event) node.left → Starts name node (Some event) found) (λ c n once. record_starts name c n node found unnamed once)
-    (λ c once. other_starts name node (Some (events.Stop c)) found tt refl (once_behind name (events.Stop c) node.left once) unnamed)
-    (λ ms once. other_starts name node (Some (events.End ms)) found tt refl (once_behind name (events.End ms) node.left once) unnamed)
-    (λ event plain once. other_starts name node (Some event) found (plain.other name) (plain.begins name node.end) (once_behind name event node.left once) unnamed)
+    (λ c once. other_starts name node (Some (events.Stop c)) found tt refl (once_after name (events.Stop c) node.left once) unnamed)
+    (λ ms once. other_starts name node (Some (events.End ms)) found tt refl (once_after name (events.End ms) node.left once) unnamed)
+    (λ event plain once. other_starts name node (Some event) found (plain.other name) (plain.begins name node.end) (once_after name event node.left once) unnamed)
 
 pub starts : (name : List ℕ) (node : Node ClientEnd) (line : Option Event) (found : Option Parcel) → Unnamed name node.end.recording → OnceFrom name line node.left → Starts name node line found
 starts name node (Some event) found unnamed once = line_starts name node found unnamed event once
@@ -348,7 +348,7 @@ leaves name (suc count) node readings arrivals told once unnamed =
     let line = line_at node (reading_of readings) in
     let now = turn_at client_rules node (reading_of readings) (next_of arrivals) in
     let from = due_once name node.time (reading_of readings - start_at node.start (reading_of readings)) node.left once in
-    let behind = after_acts told now.turn.acts in
+    let after = after_acts told now.turn.acts in
     let later = readings_after readings in
     let more = arrivals_after now.turn arrivals in
     let rest = turns_of count client_rules now.node later more in
@@ -356,16 +356,16 @@ leaves name (suc count) node readings arrivals told once unnamed =
       | inl begins ↦
           let last = has_end count now.node later more in
           let notes = applied_in count now.node later more in
-          let empty : contents_of behind.files name ≡ Some [] = ap (λ (acts : List FileAct). contents_of (after_acts told acts).files name) begins.makes ∙ made told name in
-          rw begins.begins (behind_turn name told now.turn rest (Some (written_of last notes)) (λ ends. absurd (true≢false (sym ends ∙ begins.on)))
-          (λ goes. so_far_left name count now.node later more behind Waits [] begins.others (inl begins.going) empty ∙ ap (λ (b : List ℕ). Some b) (left_waits last notes)))
+          let empty : contents_of after.files name ≡ Some [] = ap (λ (acts : List FileAct). contents_of (after_acts told acts).files name) begins.makes ∙ made told name in
+          rw begins.begins (after_turn name told now.turn rest (Some (written_of last notes)) (λ ends. absurd (true≢false (sym ends ∙ begins.on)))
+          (λ goes. so_far_left name count now.node later more after Waits [] begins.others (inl begins.going) empty ∙ ap (λ (b : List ℕ). Some b) (left_waits last notes)))
       | inr before ↦
           let held = contents_of told.files name in
           let left = left_in name count now.node later more in
           let same = spared told name now.turn.acts before.spares in
-          rw before.not_yet (behind_turn name told now.turn rest (option_or (if now.turn.ended then None else left) held) (λ ends. same ∙ ends_so now.turn.ended left held ends)
+          rw before.not_yet (after_turn name told now.turn rest (option_or (if now.turn.ended then None else left) held) (λ ends. same ∙ ends_so now.turn.ended left held ends)
           (λ goes.
-          leaves name count now.node later more behind before.once before.unnamed
+          leaves name count now.node later more after before.once before.unnamed
           ∙ (ap (λ (found : Option (List ℕ)). option_or left found) same ∙ goes_so now.turn.ended left held goes)))
     ]
 

@@ -1,4 +1,4 @@
--- Behind all pieces of a config change no long string is pending. So none is behind the commands up to where a message was begun.
+-- After all pieces of a config change no long string is pending. So none is after the commands up to where a message was begun.
 use Rattle.std.proofs.Common.{List, None, Option, Some, [], ap, arith, drop, inl, inr, length, map, refl, subst, suc, sym, take, true, zero, ℕ, ◌++◌, ◌+◌, ◌<◌, ◌∙◌, ◌∷◌, ◌≡◌, ◌≤◌}
 use Rattle.std.specs.Prelude.{All, IfSome, nat_lt, ◌==◌}
 use Rattle.std.specs.Str.{bytes_eq}
@@ -24,7 +24,7 @@ use Rattle.q3_world.proofs.GamesTexts.{after_commands-append}
 
 -- ---- commands that leave nothing pending
 
--- where nothing is pending before these texts, nothing is behind them
+-- where nothing is pending before these texts, nothing is after them
 abbrev pub LeaveNone : List (List ℕ) → Type 0
 LeaveNone texts = (strings : Strings) → strings.pending ≡ None → (after_commands strings texts).pending ≡ None
 
@@ -33,8 +33,8 @@ unfolding after_commands
 none_leave strings none = none
 
 both_leave : (first rest : List (List ℕ)) → LeaveNone first → LeaveNone rest → LeaveNone (first ++ rest)
-both_leave first rest before behind strings none =
-    ap (λ (s : Strings). s.pending) (after_commands-append strings first rest) ∙ behind (after_commands strings first) (before strings none)
+both_leave first rest before after strings none =
+    ap (λ (s : Strings). s.pending) (after_commands-append strings first rest) ∙ after (after_commands strings first) (before strings none)
 
 -- ---- what a piece leaves pending
 
@@ -91,11 +91,11 @@ word_first count more = rw (ne_eqb count 1 (λ e. omega (arith, e, more))) refl
 
 word_middle : (count k : ℕ) → 0 < k → k + 1 < count → word_of count k ≡ Middle
 unfolding word_of
-word_middle count k behind before = rw (ne_eqb count 1 (λ e. omega (arith, e, behind, before)), ne_eqb k 0 (λ e. omega (arith, e, behind)), ne_eqb (k + 1) count (λ e. omega (arith, e, before))) refl
+word_middle count k after before = rw (ne_eqb count 1 (λ e. omega (arith, e, after, before)), ne_eqb k 0 (λ e. omega (arith, e, after)), ne_eqb (k + 1) count (λ e. omega (arith, e, before))) refl
 
 word_last : (count k : ℕ) → 0 < k → k + 1 ≡ count → word_of count k ≡ Last
 unfolding word_of
-word_last count k behind end = rw (ne_eqb count 1 (λ e. omega (arith, e, behind, end)), ne_eqb k 0 (λ e. omega (arith, e, behind)), eq-eqb (k + 1) count end) refl
+word_last count k after end = rw (ne_eqb count 1 (λ e. omega (arith, e, after, end)), ne_eqb k 0 (λ e. omega (arith, e, after)), eq-eqb (k + 1) count end) refl
 
 module _ (law : SpelledIsRead) (index : ℕ) (text : List ℕ) (within : index < places) (carried : All (λ byte. is_config_byte byte ≡ true) text) where
   -- what one does, by its word
@@ -108,15 +108,15 @@ module _ (law : SpelledIsRead) (index : ℕ) (text : List ℕ) (within : index <
       ∙ (ap (λ (w : Word). after_change strings w piece.index piece.text) (piece_word index text k ∙ is)
       ∙ ap (λ (i : ℕ). after_change strings word i piece.text) (piece_index index text k))
 
-  -- those behind the first
+  -- those after the first
   others_end : (strings : Strings) (left k : ℕ) → 0 < k → k + suc left ≡ piece_count (length text) → OfIndex index strings.pending
       → (after_commands strings (map (λ k. change_text (config_piece index text k)) (range_with_len k (suc left)))).pending ≡ None
   unfolding after_commands
-  others_end strings zero k behind end of =
-      ap (λ (a : Applied). a.strings.pending) (does strings k Last (word_last (piece_count (length text)) k behind (omega (arith, end))))
+  others_end strings zero k after end of =
+      ap (λ (a : Applied). a.strings.pending) (does strings k Last (word_last (piece_count (length text)) k after (omega (arith, end))))
       ∙ last_clears strings index (config_piece index text k).text strings.pending refl of
-  others_end strings (suc left) k behind end of =
-      let is = does strings k Middle (word_middle (piece_count (length text)) k behind (omega (arith, end))) in
+  others_end strings (suc left) k after end of =
+      let is = does strings k Middle (word_middle (piece_count (length text)) k after (omega (arith, end))) in
       others_end (after_command strings (change_text (config_piece index text k))).strings left (k + 1) (omega arith) (omega (arith, end))
       (subst (λ (a : Applied). OfIndex index a.strings.pending) (sym is) (middle_keeps strings index (config_piece index text k).text strings.pending refl of))
 
@@ -141,7 +141,7 @@ pieces_leave law strings index text may now none =
 
 -- ---- where messages were begun
 
--- between any two messages, and behind each, the texts leave nothing pending; and a gamestate has nothing pending
+-- between any two messages, and after each, the texts leave nothing pending; and a gamestate has nothing pending
 pub record Pauses (built : List Built) (issued : List (List ℕ)) : Type 0 where
   pub known : (n : ℕ) → 1 ≤ n → n ≤ length built → (built_at built n).last ≤ length issued
   pub between : (m n : ℕ) → 1 ≤ m → m ≤ n → n ≤ length built → LeaveNone (drop (built_at built m).last (take (built_at built n).last issued))
@@ -186,11 +186,11 @@ module _ (built : List Built) (issued : List (List ℕ)) where
             elim (cases_lt (length built) n) [
               | inl past ↦
                   let whole : take (built_at (built ++ next ∷ []) n).last issued ≡ issued = let same = end n past begun in take_all (built_at (built ++ next ∷ []) n).last issued (omega (arith, same)) in
-                  subst (λ (texts : List (List ℕ)). LeaveNone (drop (built_at (built ++ next ∷ []) m).last texts)) (sym whole) (behind m some (omega (arith, up, begun)))
+                  subst (λ (texts : List (List ℕ)). LeaveNone (drop (built_at (built ++ next ∷ []) m).last texts)) (sym whole) (after m some (omega (arith, up, begun)))
               | inr within ↦
                   rw (front m some (omega (arith, up, within)), front n (omega (arith, some, up)) within) (is.between m n some up within)
             ];
-        since = behind;
+        since = after;
         game = λ n game carries.
             elim (carries_cases built next n game carries) [
               | inl was ↦ is.game n game was
@@ -204,8 +204,8 @@ module _ (built : List Built) (issued : List (List ℕ)) where
       end : (n : ℕ) → length built < n → n ≤ length (built ++ next ∷ []) → (built_at (built ++ next ∷ []) n).last ≡ length issued
       end n past begun = ap (λ (b : Built). b.last) (built_end built next n (omega (arith, past, begun, length_push built next))) ∙ last
 
-      behind : (n : ℕ) → 1 ≤ n → n ≤ length (built ++ next ∷ []) → LeaveNone (drop (built_at (built ++ next ∷ []) n).last issued)
-      behind n some begun =
+      after : (n : ℕ) → 1 ≤ n → n ≤ length (built ++ next ∷ []) → LeaveNone (drop (built_at (built ++ next ∷ []) n).last issued)
+      after n some begun =
           elim (cases_lt (length built) n) [
             | inl past ↦ subst LeaveNone (sym (ap (λ (k : ℕ). drop k issued) (end n past begun) ∙ drop-length issued)) none_leave
             | inr within ↦ subst (λ (k : ℕ). LeaveNone (drop k issued)) (sym (front n some within)) (is.since n some within)

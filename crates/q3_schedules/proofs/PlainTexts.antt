@@ -32,14 +32,14 @@ lacks_each byte text each (x ∷ xs) = lacks_both byte (text x) (flat_map text x
 glyph_is : (d : ℕ) → d < 10 → digit_glyph false d ≡ 48 + d
 glyph_is d small = rw (lt-ltb d 10 small) refl
 
-lacks-digits : (byte k n : ℕ) (behind : List ℕ) → ((d : ℕ) → d < 10 → 48 + d ≡ byte → ⊥) → lacks byte behind ≡ true → lacks byte (digits_onto k 10 false n behind) ≡ true
-lacks-digits byte zero n behind apart e = e
-lacks-digits byte (suc k) n behind apart e =
+lacks-digits : (byte k n : ℕ) (after : List ℕ) → ((d : ℕ) → d < 10 → 48 + d ≡ byte → ⊥) → lacks byte after ≡ true → lacks byte (digits_onto k 10 false n after) ≡ true
+lacks-digits byte zero n after apart e = e
+lacks-digits byte (suc k) n after apart e =
     let is : digit_glyph false (n % 10) ≡ 48 + n % 10 = glyph_is (n % 10) (omega arith) in
-    let here : lacks byte (digit_glyph false (n % 10) ∷ behind) ≡ true = rw (ne_eqb (digit_glyph false (n % 10)) byte (λ same. apart (n % 10) (omega arith) (sym is ∙ same)), e) refl in
+    let here : lacks byte (digit_glyph false (n % 10) ∷ after) ≡ true = rw (ne_eqb (digit_glyph false (n % 10)) byte (λ same. apart (n % 10) (omega arith) (sym is ∙ same)), e) refl in
     elim (cases_Bool (eqb (n / 10) 0)) [
       | inl last ↦ rw last here
-      | inr more ↦ rw more (lacks-digits byte k (n / 10) (digit_glyph false (n % 10) ∷ behind) apart here)
+      | inr more ↦ rw more (lacks-digits byte k (n / 10) (digit_glyph false (n % 10) ∷ after) apart here)
     ]
 
 pub lacks-decimal : (byte n : ℕ) → ((d : ℕ) → d < 10 → 48 + d ≡ byte → ⊥) → lacks byte (decimal n) ≡ true

@@ -70,7 +70,7 @@ commands_are_prefixes law profile all c slot client is are within slot_is client
 
 -- ---- what a delivery executes
 
--- it goes on behind a count
+-- it goes on after a count
 abbrev GoOn : ℕ → List Command → Type 0
 GoOn count commands = commands ≡ numbered (count + 1) (texts_of commands)
 
@@ -127,7 +127,7 @@ heard_noted : (history : History) (accepted : Option Snapshot) (commands : List 
 heard_noted history None commands goes = (goes, refl, refl)
 heard_noted history (Some snapshot) commands goes = (goes, refl, refl)
 
--- and behind that a gamestate
+-- and after that a gamestate
 game_noted : (before noted : History) (commands : List Command) (number time : ℕ) (game : Option Gamestate) → GoesOn commands before noted ToClient
     → GoesOn commands before (with_game noted number time game) ToClient
 game_noted before noted commands number time None goes = goes

@@ -141,7 +141,7 @@ becomes name c stage kept have goes =
       on = becomes_on name c stage kept.ends (kept_step kept event).kept.ends (acts_of kept event) (λ d. bytes_for kept event d) happens goes;
     }))
 
--- ---- behind the last event
+-- ---- after the last event
 
 pub ends_gone : (name : List ℕ) (clients : List (Option Place)) → ((d : ℕ) → Unnamed name (recording_at (get_or clients d None))) → SparesAll name (flat_map stop_acts clients)
 ends_gone name [] gone = tt
@@ -211,7 +211,7 @@ noted_over stage (noted ∷ first) second =
     ap (λ (n : Noting). record { stage = n.stage; bytes = now.bytes ++ n.bytes }) (noted_over now.stage first second)
     ∙ ap (λ (b : List ℕ). record { stage = rest.stage; bytes = b }) (sym (append_assoc now.bytes behind.bytes rest.bytes))
 
--- behind the end of a recording nothing is noted
+-- after the end of a recording nothing is noted
 pub noted_ended : (notes : List Noted) → noted_from Ended notes ≡ record { stage = Ended; bytes = [] }
 unfolding noted_from
 noted_ended [] = refl
@@ -273,15 +273,15 @@ before_all name kept [] others have gone = (have, gone)
 before_all name kept (event ∷ first) others have gone =
     before_all name (kept_step kept event).kept first others.1 (have_slots kept event have) (gone_on name kept have event others.0 gone).0
 
--- what holds behind some events, whatever files there were, holds behind all
-behind_all : (name : List ℕ) (kept : Kept) (first rest : List Event) (found : Option (List ℕ))
+-- what holds after some events, whatever files there were, holds after all
+after_all : (name : List ℕ) (kept : Kept) (first rest : List Event) (found : Option (List ℕ))
     → ((t : Told) → contents_of (after_acts t (acts_from (kept_after kept first) rest)).files name ≡ found) → (told : Told)
     → contents_of (after_acts told (acts_from kept (first ++ rest))).files name ≡ found
 unfolding acts_from kept_after
-behind_all name kept [] rest found holds told = holds told
-behind_all name kept (event ∷ first) rest found holds told =
+after_all name kept [] rest found holds told = holds told
+after_all name kept (event ∷ first) rest found holds told =
     let next = (kept_step kept event).kept in
-    over_files name told (acts_of kept event) (acts_from next (first ++ rest)) ∙ behind_all name next first rest found holds (after_acts told (acts_of kept event))
+    over_files name told (acts_of kept event) (acts_from next (first ++ rest)) ∙ after_all name next first rest found holds (after_acts told (acts_of kept event))
 
 -- the line that makes the file
 abbrev result_of : Answered → Result (Unit {0}) RecordRefused
@@ -307,7 +307,7 @@ recording_is_its_messages profile first rest c name told before behind answer =
     let begun = begun_at name c kept.ends (place_at kept.ends c) refl start.1 answer in
     let next = (kept_step kept (events.RecordTo c name)).kept in
     let acts = begin_acts (place_at kept.ends c) name in
-    behind_all name (opening_kept profile) first (events.RecordTo c name ∷ rest) (Some (recording (applied_until next rest c)))
+    after_all name (opening_kept profile) first (events.RecordTo c name ∷ rest) (Some (recording (applied_until next rest c)))
     (λ t.
     over_files name t acts (acts_from next rest)
     ∙ so_far_ends name next rest c Waits (after_acts t acts) [] (have_slots kept (events.RecordTo c name) start.0) behind (inl begun.0)

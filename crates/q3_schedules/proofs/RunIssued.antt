@@ -91,7 +91,7 @@ answers_said : (profile : Profile) (whole : Whole) (number : ℕ) (tag : Tag) (f
 unfolding step line_of
 answers_said profile whole number tag from slot own at way found = rw (own, at, way, found) refl
 
--- and the server behind it
+-- and the server after it
 server_said : (profile : Profile) (whole : Whole) (number : ℕ) (tag : Tag) (from : Address) (slot : SlotState) → whole.foreign ≡ false → slice_get whole.sent (number - 1) ≡ Some tag
     → tag.direction ≡ direction.ToServer from → slot_at whole.ends.server tag.client ≡ Some slot
     → (step profile whole (events.Deliver number)).whole.ends.server ≡ with_slot whole.ends.server tag.client (slot_takes profile whole tag from slot).slot

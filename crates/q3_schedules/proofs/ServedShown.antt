@@ -50,7 +50,7 @@ use Rattle.q3_schedules.proofs.Stood.{Stood, after_both, holds_of, place_of, sto
 
 -- ---- one datagram more
 
--- the world behind an emission of a slot that has this piece left: a message was begun, if one was, and the piece has a tag
+-- the world after an emission of a slot that has this piece left: a message was begun, if one was, and the piece has a tag
 abbrev with_handed : Whole → ℕ → SlotState → UnderWay → FramesState → Option Built → Whole
 with_handed whole c slot left frames began =
     with_server_of whole c (slot_handed slot) whole.ends.server.map frames (with_built (history_at whole.histories c) began) (whole.sent ++ handed_tag c slot left ∷ [])

@@ -74,7 +74,7 @@ own_after profile whole [] own are = own
 own_after profile whole (event ∷ events) own are =
     own_after profile (step profile whole event).whole events (foreign_is profile whole event are.0.1 ∙ own) are.1
 
--- events behind others
+-- events after others
 pub after_both : (profile : Profile) (whole : Whole) (some others : List Event) → after profile whole (some ++ others) ≡ after profile (after profile whole some) others
 unfolding after
 after_both profile whole [] others = refl

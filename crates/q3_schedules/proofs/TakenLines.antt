@@ -27,10 +27,10 @@ use Rattle.q3_schedules.specs.ReportLines.{is_under, taken_by}
 use Rattle.q3_schedules.proofs.PlainTexts.{lacks, number}
 use Rattle.q3_schedules.proofs.SpelledLines.{Spelled, in_front, newline, join, last}
 use Rattle.q3_schedules.proofs.PlacedLines.{Kind, count_of, tally, plus, plus_is, plus_none, applied_counts, ran_counts}
-use Rattle.q3_schedules.proofs.LineEnds.{OneLine, behind, whole, closed, client_cause, server_cause}
+use Rattle.q3_schedules.proofs.LineEnds.{OneLine, after_part, whole, closed, client_cause, server_cause}
 use Rattle.q3_schedules.proofs.LinesUnder.{counts_each, Beneath, none_beneath, both_beneath, commands_beneath, moves_beneath, entered_beneath, owed_beneath, ended_beneath, game_beneath, outcome_beneath}
 
--- the third word of a line whose first two are behind it
+-- the third word of a line whose first two were passed
 abbrev pub next_is : List ℕ → List ℕ → Bool
 next_is end rest = bytes_eq end (slice_index_or (words_of rest) 0 [])
 
@@ -66,8 +66,8 @@ taking_alone taking rest spelled same =
 client_alone : (c : ℕ) (took : ClientTook) (state : AppliedState) (commands : List Command) (ended : Bool) → OneLine (took_text state took commands)
     → lines_of_client took commands ≡ one_event → TakingLines (ByClient c took state commands ended)
 client_alone c took state commands ended one same =
-    let is = behind (codes " client ") (decimal c ++ (took_text state took commands ++ [])) refl
-    (behind (decimal c) (took_text state took commands ++ []) (number c) (closed (took_text state took commands) one)) in
+    let is = after_part (codes " client ") (decimal c ++ (took_text state took commands ++ [])) refl
+    (after_part (decimal c) (took_text state took commands ++ []) (number c) (closed (took_text state took commands) one)) in
     let rest : List ℕ = codes "client " ++ (decimal c ++ one.line) in
     let by_client = next_is (codes "client") rest in
     let by_server = next_is (codes "server") rest in
@@ -76,10 +76,10 @@ client_alone c took state commands ended one same =
     (join (client_text state c took commands) (ended_text ended) (is.line ∷ []) ended_is.lines is.spelled ended_is.spelled) (sym same)
 
 client_illegible : (word : List ℕ) → lacks 10 word ≡ true → (n : Option ℕ) → OneLine (client_lines.illegible_text word n)
-client_illegible word plain None = behind (codes " illegible ") (word ++ codes "\n") refl (whole word plain)
+client_illegible word plain None = after_part (codes " illegible ") (word ++ codes "\n") refl (whole word plain)
 client_illegible word plain (Some n) =
-    behind (codes " illegible ") (word ++ (codes " " ++ (decimal n ++ codes "\n"))) refl
-    (behind word (codes " " ++ (decimal n ++ codes "\n")) plain (behind (codes " ") (decimal n ++ codes "\n") refl (whole (decimal n) (number n))))
+    after_part (codes " illegible ") (word ++ (codes " " ++ (decimal n ++ codes "\n"))) refl
+    (after_part word (codes " " ++ (decimal n ++ codes "\n")) plain (after_part (codes " ") (decimal n ++ codes "\n") refl (whole (decimal n) (number n))))
 
 client_applied : (c : ℕ) (applied : Applied) (state : AppliedState) (commands : List Command) (ended : Bool) → TakingLines (ByClient c (ClientApplied applied) state commands ended)
 client_applied c applied state commands ended =
@@ -129,25 +129,25 @@ server_alone : (server : ServerTook) (run : Run) (rest : List ℕ) → Spelled (
     → TakingLines (ByServer server run)
 server_alone server run rest spelled same = taking_alone (ByServer server run) rest spelled same
 
--- behind the slot's number
+-- after the slot's number
 abbrev slot_line : (slot : ℕ) (text : List ℕ) → OneLine text → OneLine (codes " server " ++ (decimal slot ++ text))
-slot_line slot text one = behind (codes " server ") (decimal slot ++ text) refl (behind (decimal slot) text (number slot) one)
+slot_line slot text one = after_part (codes " server ") (decimal slot ++ text) refl (after_part (decimal slot) text (number slot) one)
 
 abbrev slot_word : (word : List ℕ) → lacks 10 word ≡ true → OneLine (codes " " ++ (word ++ codes "\n"))
-slot_word word plain = behind (codes " ") (word ++ codes "\n") refl (whole word plain)
+slot_word word plain = after_part (codes " ") (word ++ codes "\n") refl (whole word plain)
 
 abbrev pub slot_number : (word : List ℕ) (n : ℕ) → lacks 10 word ≡ true → OneLine (word ++ (decimal n ++ codes "\n"))
-slot_number word n plain = behind word (decimal n ++ codes "\n") plain (whole (decimal n) (number n))
+slot_number word n plain = after_part word (decimal n ++ codes "\n") plain (whole (decimal n) (number n))
 
 server_illegible : (slot : ℕ) (word : List ℕ) → lacks 10 word ≡ true → (n : Option ℕ)
     → (rest : List ℕ) × Spelled (server_lines.illegible_text slot word n) ((32 ∷ rest) ∷ [])
 server_illegible slot word plain None =
-    let is = slot_line slot (codes " illegible " ++ (word ++ codes "\n")) (behind (codes " illegible ") (word ++ codes "\n") refl (whole word plain)) in
+    let is = slot_line slot (codes " illegible " ++ (word ++ codes "\n")) (after_part (codes " illegible ") (word ++ codes "\n") refl (whole word plain)) in
     (codes "server " ++ (decimal slot ++ (codes " illegible " ++ (word ++ []))), is.spelled)
 server_illegible slot word plain (Some n) =
     let is = slot_line slot (codes " illegible " ++ (word ++ (codes " " ++ (decimal n ++ codes "\n"))))
-    (behind (codes " illegible ") (word ++ (codes " " ++ (decimal n ++ codes "\n"))) refl
-    (behind word (codes " " ++ (decimal n ++ codes "\n")) plain (slot_word (decimal n) (number n)))) in
+    (after_part (codes " illegible ") (word ++ (codes " " ++ (decimal n ++ codes "\n"))) refl
+    (after_part word (codes " " ++ (decimal n ++ codes "\n")) plain (slot_word (decimal n) (number n)))) in
     (codes "server " ++ (decimal slot ++ (codes " illegible " ++ (word ++ (codes " " ++ (decimal n ++ []))))), is.spelled)
 
 run_beneath : (run : Run) → Beneath false true (run_text run) (plus (counts_each false true false false true false (length run.commands)) (plus no_counts (plus (counts_each false true false false false true (length run.moves)) no_counts)))

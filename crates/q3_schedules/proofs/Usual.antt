@@ -61,7 +61,7 @@ usual_in ring accepted base section is = inl refl
 has_place : (clients : List (Option Place)) (c : ℕ) (place : Place) → get_or clients c None ≡ Some place → c < length clients
 has_place [] c place e = absurd cc
 has_place (x ∷ clients) zero place e = omega arith
-has_place (x ∷ clients) (suc c) place e = let behind = has_place clients c place e in omega (arith, behind)
+has_place (x ∷ clients) (suc c) place e = let after = has_place clients c place e in omega (arith, after)
 
 pub usual_never_skips : BytesFollowTags → Layers → AppliedWasBuilt → UsualNeverSkips
 usual_never_skips law below applied_so profile all number c applied commands is are room e =

@@ -11,13 +11,13 @@ use Rattle.q3_world.specs.Kept.{opening_kept}
 use Rattle.q3_world.specs.Files.{acts_from}
 use Rattle.q3_schedules.specs.NodeRecorded.{NamesOnce}
 
--- acts ended early: behind the first of them, or within the next
+-- acts ended early: after the first of them, or within the next
 abbrev pub EndsWithin : Told → List FileAct → Told → Type 0
 EndsWithin told acts now =
     ((first : List FileAct) × (rest : List FileAct) × (acts ≡ first ++ rest) × (now ≡ after_acts told first))
     ⊎ ActsOn (Some told) (Some now) acts (Err (record {}))
 
--- the file of a name holds what it held before, or a front of what it holds behind all
+-- the file of a name holds what it held before, or a front of what it holds after all of them
 abbrev pub HoldsFront : List ℕ → Told → Told → Told → Type 0
 HoldsFront name told now whole =
     (contents_of now.files name ≡ contents_of told.files name)

@@ -82,7 +82,7 @@ NamesOnce name [] = Unit {0}
 NamesOnce name (event ∷ events) = (MakesOther name event × NamesOnce name events) ⊎ AllByRecursion (MakesOther name) events
 
 -- what a client's node leaves in the file of a name that at most one of its `record` lines has, whatever arrives, and whatever files there
--- were: the recording of the messages that the client applied behind that line, up to its end, where it has one by then; and where no
+-- were: the recording of the messages that the client applied after that line, up to its end, where it has one by then; and where no
 -- recording into it begins, it stays
 abbrev pub NodeRecordsItsMessages : Type 0
 NodeRecordsItsMessages = (count : ℕ) (end : ClientEnd) (events : List Event) (readings : List ℕ) (arrivals : List (Option Parcel)) (told : Told) (name : List ℕ)

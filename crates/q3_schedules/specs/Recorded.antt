@@ -69,7 +69,7 @@ MakesOther name (events.RecordTo c other) = other ≢ name
 MakesOther name other = Unit {0}
 
 -- the file that exactly one `record` line of a replay names, which is answered `ok`, holds in the end the recording of the messages that the
--- client applied behind that line, whatever bytes arrive, and whatever files there were
+-- client applied after that line, whatever bytes arrive, and whatever files there were
 abbrev pub RecordingIsItsMessages : Type 0
 RecordingIsItsMessages = (profile : Profile) (first rest : List Event) (c : ℕ) (name : List ℕ) (told : Told)
     → AllByRecursion (MakesOther name) first → AllByRecursion (MakesOther name) rest

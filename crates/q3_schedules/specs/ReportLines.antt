@@ -32,7 +32,7 @@ names_datagram words = bytes_eq (codes "datagram") (slice_index_or (reverse word
 abbrev pub has_datagram : List ℕ → Bool
 has_datagram line = (begins (codes "serve ") line || begins (codes "send ") line) && names_datagram (words_of line)
 
--- the word that tells the end that took bytes: the second behind `arrive`, the third behind any other word and its number
+-- the word that tells the end that took bytes: the second, after `arrive`; the third, after any other word and its number
 abbrev pub taker_of : List (List ℕ) → List ℕ
 taker_of words = slice_index_or words (if bytes_eq (slice_index_or words 0 []) (codes "arrive") then 1 else 2) []
 

@@ -158,7 +158,7 @@ KeysAgree = (profile : Profile) (all : List Event) (c : ℕ) (slot : SlotState) 
     → text_at slot.issued (said_at (history_then profile all c).said n).message.command ≡ (said_at (history_then profile all c).said n).key.text)
 
 -- what an event prints as executed, at a client or at the server, goes on where that end stood: its numbers follow on the count of
--- all executed before, and its texts are noted behind them
+-- all executed before, and its texts are noted after them
 abbrev pub ExecutedGoesOn : Type 0
 ExecutedGoesOn = (profile : Profile) (all : List Event) (number : ℕ) (tag : Tag) → IsChecked profile → AllByRecursion IsScheduled all
     → IsScheduled (events.Deliver number) → slice_get (whole_then profile all).sent (number - 1) ≡ Some tag
@@ -262,7 +262,7 @@ Shows ends c n built = (snapshot : Snapshot) × (newest (client_at ends c) ≡ S
 
 -- where a client that takes datagrams by their bytes applies one, the datagram was made for it, of a message whose number is above
 -- every number that it took before; what it answers is told by the message that was built under that number and by what it accepted;
--- where it accepts the snapshot, its newest is the one that the server built for it under that number; and behind the delivery the
+-- where it accepts the snapshot, its newest is the one that the server built for it under that number; and after the delivery the
 -- client there has that number
 abbrev pub AppliedWasBuilt : Type 0
 AppliedWasBuilt = (profile : Profile) (all : List Event) (number c : ℕ) (applied : AppliedSo) (commands : List Command) → IsChecked profile

@@ -7,7 +7,7 @@ use Rattle.q3_words.specs.declared.cause.LineCause.{LineCause}
 use Rattle.q3_bits.specs.ResultBind.{◌>>=◌}
 use Rattle.q3_words.specs.declared.cause.LineCause.TheVariants.{Order}
 use Rattle.q3_script.specs.declared.cause.ScriptKind.{ScriptKind}
-use Rattle.q3_script.specs.Script.{BadLine, Course, is_passed_over, event_at, course_behind, is_complete, events_from}
+use Rattle.q3_script.specs.Script.{BadLine, Course, is_passed_over, event_at, course_after, is_complete, events_from}
 
 -- the events before, and those of the lines that are left
 abbrev pub with_front : List Event → Result (List Event) BadLine → Result (List Event) BadLine
@@ -28,14 +28,14 @@ gone course = Ok course
 abbrev stopped : LineCause → Result Course LineCause
 stopped cause = Err cause
 
--- what a course answered, with where it stands behind
+-- what a course answered, with where it stands then
 pub went : {T : Type 0} {course : Course} {answer : Result T LineCause} {told : Result Course LineCause} {x : T} → result_map_both (λ _. course) (λ cause. cause) answer ≡ told → answer ≡ Ok x → gone course ≡ told
 went {T} {course} {answer} {told} {x} e is = sym (ap (λ (r : Result T LineCause). result_map_both (λ _. course) (λ cause. cause) r) is) ∙ e
 
 pub held : {T : Type 0} {answer : Result T LineCause} {told : Result Course LineCause} {cause : LineCause} (course : Course) → result_map_both (λ _. course) (λ cause. cause) answer ≡ told → answer ≡ Err cause → stopped cause ≡ told
 held {T} {answer} {told} {cause} course e is = sym (ap (λ (r : Result T LineCause). result_map_both (λ _. course) (λ cause. cause) r) is) ∙ e
 
--- where a loop over the lines stands: the lines behind n of them are still to be read, on this course
+-- where a loop over the lines stands: the lines after n of them are still to be read, on this course
 pub record Reached (kind : ScriptKind) (past : ℕ) (lines : List (List ℕ)) (n : ℕ) (front : List Event) (course : Course) (total : Result (List Event) BadLine) : Type 0 where
   pub told : with_front front (events_from kind past (n + 1) (length front) course (drop n lines)) ≡ total
 
@@ -61,7 +61,7 @@ regroup front event (Ok events) = ap (λ (x : List Event). Ok x) (simp append_as
 regroup front event (Err bad) = refl
 
 -- a line that spells an event which may stand there
-pub adds : {kind : ScriptKind} {past : ℕ} {lines : List (List ℕ)} {n : ℕ} {front : List Event} {course after : Course} {total : Result (List Event) BadLine} {line : List ℕ} {event : Event} → Reached kind past lines n front course total → Next lines n line → is_passed_over line ≡ false → done event ≡ event_at kind (length front) line → gone after ≡ course_behind kind course event
+pub adds : {kind : ScriptKind} {past : ℕ} {lines : List (List ℕ)} {n : ℕ} {front : List Event} {course after : Course} {total : Result (List Event) BadLine} {line : List ℕ} {event : Event} → Reached kind past lines n front course total → Next lines n line → is_passed_over line ≡ false → done event ≡ event_at kind (length front) line → gone after ≡ course_after kind course event
     → Reached kind past lines (n + 1) (front ++ event ∷ []) after total
 unfolding events_from
 adds {kind} {past} {lines} {n} {front} {course} {after} {total} {line} {event} reached next over spells goes =
@@ -77,7 +77,7 @@ refuses {kind} {past} {lines} {n} {front} {course} {total} {line} {cause} reache
     sym reached.told ∙ ap (with_front front) one
 
 -- a line that can't stand there
-pub stops : {kind : ScriptKind} {past : ℕ} {lines : List (List ℕ)} {n : ℕ} {front : List Event} {course : Course} {total : Result (List Event) BadLine} {line : List ℕ} {event : Event} {cause : LineCause} → Reached kind past lines n front course total → Next lines n line → is_passed_over line ≡ false → done event ≡ event_at kind (length front) line → stopped cause ≡ course_behind kind course event
+pub stops : {kind : ScriptKind} {past : ℕ} {lines : List (List ℕ)} {n : ℕ} {front : List Event} {course : Course} {total : Result (List Event) BadLine} {line : List ℕ} {event : Event} {cause : LineCause} → Reached kind past lines n front course total → Next lines n line → is_passed_over line ≡ false → done event ≡ event_at kind (length front) line → stopped cause ≡ course_after kind course event
     → total ≡ Err (record { line = n + 1; cause = cause })
 unfolding events_from
 stops {kind} {past} {lines} {n} {front} {course} {total} {line} {event} {cause} reached next over spells stands =

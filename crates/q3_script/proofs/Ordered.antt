@@ -11,18 +11,18 @@ use Rattle.q3_words.specs.declared.cause.LineCause.{LineCause}
 use Rattle.q3_words.specs.declared.cause.LineCause.TheVariants.{Order}
 use Rattle.q3_script.specs.declared.cause.ScriptKind.{ScriptKind}
 use Rattle.q3_script.specs.declared.cause.ScriptKind.TheVariants as kinds
-use Rattle.q3_script.specs.Script.{Course, no_course, timed, node_behind, is_of, first_behind, client_behind, course_behind, is_complete}
+use Rattle.q3_script.specs.Script.{Course, no_course, timed, node_after, is_of, first_after, client_course_after, course_after, is_complete}
 use Rattle.q3_script.specs.Grammar.{TimesRise, EndsLast, IsOfClient, IsOneClient, AreOrdered}
 use Rattle.q3_words.proofs.NumberWords.{ok_is}
 
--- from a course on, each event may stand where it does, and the script may end behind the last
+-- from a course on, each event may stand where it does, and the script may end after the last
 abbrev pub Goes : ScriptKind → Course → List Event → Type 0
 Goes kind course [] = is_complete kind course ≡ true
-Goes kind course (event ∷ events) = (next : Course) × (course_behind kind course event ≡ Ok next) × Goes kind next events
+Goes kind course (event ∷ events) = (next : Course) × (course_after kind course event ≡ Ok next) × Goes kind next events
 
 -- a course, and a refusal
-abbrev behind : Course → Result Course LineCause
-behind course = Ok course
+abbrev goes_to : Course → Result Course LineCause
+goes_to course = Ok course
 
 abbrev refused : Result Course LineCause
 refused = Err Order
@@ -41,7 +41,7 @@ guard_else false e r y is = absurd cc
 -- from a course on, each event may stand where it does in a node's script, and the last is `end`
 abbrev NodeGoes : Course → List Event → Type 0
 NodeGoes course [] = course.ended ≡ true
-NodeGoes course (event ∷ events) = (next : Course) × (course.ended ≡ false) × (node_behind course event ≡ Ok next) × NodeGoes next events
+NodeGoes course (event ∷ events) = (next : Course) × (course.ended ≡ false) × (node_after course event ≡ Ok next) × NodeGoes next events
 
 -- a time that isn't refused
 record IsTimed (course : Course) (ms : ℕ) (next : Course) : Type 0 where
@@ -50,7 +50,7 @@ record IsTimed (course : Course) (ms : ℕ) (next : Course) : Type 0 where
 
 timed-ok : (course : Course) (ms : ℕ) (next : Course) → timed course ms ≡ Ok next → IsTimed course ms next
 timed-ok course ms next e =
-    let parts = guard_ok (ltb ms course.time) Order (behind (record course { time = ms })) next e in
+    let parts = guard_ok (ltb ms course.time) Order (goes_to (record course { time = ms })) next e in
     record { least = ltb-false ms course.time parts.0; is = ok_is (record course { time = ms }) next parts.1 }
 
 timed-is : (course : Course) (ms : ℕ) → course.time ≤ ms → timed course ms ≡ Ok (record course { time = ms })
@@ -58,7 +58,7 @@ timed-is course ms least = rw (le-ltb _ _ least) refl
 
 -- an event that is no time
 record IsNoTime (event : Event) : Type 0 where
-  stays : (course : Course) → node_behind course event ≡ Ok course
+  stays : (course : Course) → node_after course event ≡ Ok course
   rise : (least : ℕ) (events : List Event) → TimesRise least events → TimesRise least (event ∷ events)
   risen : (least : ℕ) (events : List Event) → TimesRise least (event ∷ events) → TimesRise least events
   ends : (events : List Event) → EndsLast events → EndsLast (event ∷ events)
@@ -96,7 +96,7 @@ by_time (Toserver c bytes) = inr (inr (record { stays = λ course. refl; rise = 
 by_time (At ms) = inl (ms, refl)
 by_time (End ms) = inr (inl (ms, refl))
 
--- nothing stands behind the end
+-- nothing follows the end
 closed : (course : Course) (events : List Event) → course.ended ≡ true → NodeGoes course events → events ≡ []
 closed course [] shut goes = refl
 closed course (event ∷ events) shut goes = absurd (both_ways course.ended goes.1 shut)
@@ -115,14 +115,14 @@ node_ordered course [] going goes = absurd (both_ways course.ended going goes)
 node_ordered course (event ∷ events) going goes =
     elim (by_time event) [
       | inl at ↦
-          let is = timed-ok course at.0 goes.0 (ap (λ (x : Event). node_behind course x) (sym at.1) ∙ goes.2) in
+          let is = timed-ok course at.0 goes.0 (ap (λ (x : Event). node_after course x) (sym at.1) ∙ goes.2) in
           let rest = node_ordered goes.0 events (ap (λ (x : Course). x.ended) (sym is.is) ∙ going) goes.3 in
           let rise : TimesRise at.0 events = subst (λ (x : Course). TimesRise x.time events) (sym is.is) rest.0 in
           let whole : IsOrdered course.time (At at.0 ∷ events) = ((is.least, rise), rest.1) in
           subst (λ (x : Event). IsOrdered course.time (x ∷ events)) (sym at.1) whole
       | inr late ↦ elim late [
         | inl end ↦
-            let is = timed-ok (record course { ended = true }) end.0 goes.0 (ap (λ (x : Event). node_behind course x) (sym end.1) ∙ goes.2) in
+            let is = timed-ok (record course { ended = true }) end.0 goes.0 (ap (λ (x : Event). node_after course x) (sym end.1) ∙ goes.2) in
             let none = closed goes.0 events (ap (λ (x : Course). x.ended) (sym is.is)) goes.3 in
             subst (λ (x : Event). IsOrdered course.time (x ∷ events)) (sym end.1) (end_ordered course.time end.0 events is.least none)
         | inr other ↦
@@ -140,13 +140,13 @@ node_goes course (event ∷ events) going rise ends =
       | inl at ↦
           let rise' = subst (λ (x : Event). TimesRise course.time (x ∷ events)) at.1 rise in
           let ends' = subst (λ (x : Event). EndsLast (x ∷ events)) at.1 ends in
-          (record course { time = at.0 }, going, ap (λ (x : Event). node_behind course x) at.1 ∙ timed-is course at.0 rise'.0, node_goes (record course { time = at.0 }) events going rise'.1 ends')
+          (record course { time = at.0 }, going, ap (λ (x : Event). node_after course x) at.1 ∙ timed-is course at.0 rise'.0, node_goes (record course { time = at.0 }) events going rise'.1 ends')
       | inr late ↦ elim late [
         | inl end ↦
             let rise' = subst (λ (x : Event). TimesRise course.time (x ∷ events)) end.1 rise in
             let none = subst (λ (x : Event). EndsLast (x ∷ events)) end.1 ends in
             let last : Course = record (record course { ended = true }) { time = end.0 } in
-            (last, going, ap (λ (x : Event). node_behind course x) end.1 ∙ timed-is (record course { ended = true }) end.0 rise'.0, subst (λ (x : List Event). NodeGoes last x) (sym none) refl)
+            (last, going, ap (λ (x : Event). node_after course x) end.1 ∙ timed-is (record course { ended = true }) end.0 rise'.0, subst (λ (x : List Event). NodeGoes last x) (sym none) refl)
         | inr other ↦ (course, going, other.stays course, node_goes course events going (other.risen course.time events rise) (other.ended events ends))
       ]
     ]
@@ -156,7 +156,7 @@ node_goes course (event ∷ events) going rise ends =
 serve_node : (course : Course) (events : List Event) → Goes kinds.Serve course events → NodeGoes course events
 serve_node course [] goes = goes
 serve_node course (event ∷ events) goes =
-    let parts = guard_ok course.ended Order (node_behind course event) goes.0 goes.1 in
+    let parts = guard_ok course.ended Order (node_after course event) goes.0 goes.1 in
     (goes.0, parts.0, parts.1, serve_node goes.0 events goes.2)
 
 -- a test that doesn't refuse
@@ -165,20 +165,20 @@ open_is b r next going is = rw going is
 
 node_serve : (course : Course) (events : List Event) → NodeGoes course events → Goes kinds.Serve course events
 node_serve course [] goes = goes
-node_serve course (event ∷ events) goes = (goes.0, open_is course.ended (node_behind course event) goes.0 goes.1 goes.2, node_serve goes.0 events goes.3)
+node_serve course (event ∷ events) goes = (goes.0, open_is course.ended (node_after course event) goes.0 goes.1 goes.2, node_serve goes.0 events goes.3)
 
 -- ---- a client's script
 
 -- the client stays
-same_client : (course : Course) (event : Event) (next : Course) → node_behind course event ≡ Ok next → next.client ≡ course.client
+same_client : (course : Course) (event : Event) (next : Course) → node_after course event ≡ Ok next → next.client ≡ course.client
 same_client course event next e =
     elim (by_time event) [
       | inl at ↦
-          let is = timed-ok course at.0 next (ap (λ (x : Event). node_behind course x) (sym at.1) ∙ e) in
+          let is = timed-ok course at.0 next (ap (λ (x : Event). node_after course x) (sym at.1) ∙ e) in
           ap (λ (x : Course). x.client) (sym is.is)
       | inr late ↦ elim late [
         | inl end ↦
-            let is = timed-ok (record course { ended = true }) end.0 next (ap (λ (x : Event). node_behind course x) (sym end.1) ∙ e) in
+            let is = timed-ok (record course { ended = true }) end.0 next (ap (λ (x : Event). node_after course x) (sym end.1) ∙ e) in
             ap (λ (x : Course). x.client) (sym is.is)
         | inr other ↦ let same : course ≡ next = ok_is course next (sym (other.stays course) ∙ e) in ap (λ (x : Course). x.client) (sym same)
       ]
@@ -214,9 +214,9 @@ is_of-Decides c (End ms) = (λ e. tt, λ is. refl)
 join_node : (c : ℕ) (course : Course) (events : List Event) → course.client ≡ Some c → Goes kinds.Join course events → NodeGoes course events × AllByRecursion (IsOfClient c) events
 join_node c course [] client goes = (goes, tt)
 join_node c course (event ∷ events) client goes =
-    let parts = guard_ok course.ended Order (client_behind course course.client event) goes.0 goes.1 in
-    let told : client_behind course (Some c) event ≡ Ok goes.0 = ap (λ (o : Option ℕ). client_behind course o event) (sym client) ∙ parts.1 in
-    let of = guard_else (is_of c event) Order (node_behind course event) goes.0 told in
+    let parts = guard_ok course.ended Order (client_course_after course course.client event) goes.0 goes.1 in
+    let told : client_course_after course (Some c) event ≡ Ok goes.0 = ap (λ (o : Option ℕ). client_course_after course o event) (sym client) ∙ parts.1 in
+    let of = guard_else (is_of c event) Order (node_after course event) goes.0 told in
     let rest = join_node c goes.0 events (same_client course event goes.0 of.1 ∙ client) goes.2 in
     ((goes.0, parts.0, of.1, rest.0), ((is_of-Decides c event).0 of.0, rest.1))
 
@@ -224,9 +224,9 @@ node_join : (c : ℕ) (course : Course) (events : List Event) → course.client 
 node_join c course [] client goes all = goes
 node_join c course (event ∷ events) client goes all =
     let of : is_of c event ≡ true = (is_of-Decides c event).1 all.0 in
-    let told : client_behind course (Some c) event ≡ Ok goes.0 = rw of goes.2 in
-    let is : client_behind course course.client event ≡ Ok goes.0 = ap (λ (o : Option ℕ). client_behind course o event) client ∙ told in
-    (goes.0, open_is course.ended (client_behind course course.client event) goes.0 goes.1 is, node_join c goes.0 events (same_client course event goes.0 goes.2 ∙ client) goes.3 all.1)
+    let told : client_course_after course (Some c) event ≡ Ok goes.0 = rw of goes.2 in
+    let is : client_course_after course course.client event ≡ Ok goes.0 = ap (λ (o : Option ℕ). client_course_after course o event) client ∙ told in
+    (goes.0, open_is course.ended (client_course_after course course.client event) goes.0 goes.1 is, node_join c goes.0 events (same_client course event goes.0 goes.2 ∙ client) goes.3 all.1)
 
 -- a client that joins
 record IsClient (event : Event) : Type 0 where
@@ -239,7 +239,7 @@ record IsClient (event : Event) : Type 0 where
 
 -- and any other event, which can't be the first
 record IsNoClient (event : Event) : Type 0 where
-  refuses : first_behind no_course event ≡ refused
+  refuses : first_after no_course event ≡ refused
   never : (events : List Event) → IsOneClient (event ∷ events) → ⊥
 
 by_client : (event : Event) → IsClient event ⊎ IsNoClient event
@@ -268,7 +268,7 @@ by_client (Toserver c bytes) = inr (record { refuses = refl; never = λ events i
 by_client (At ms) = inr (record { refuses = refl; never = λ events is. is })
 by_client (End ms) = inr (record { refuses = refl; never = λ events is. is })
 
--- behind the client's line
+-- after the client's line
 abbrev joined : ℕ → Course
 joined c = record no_course { client = Some c }
 
@@ -277,12 +277,12 @@ join_ordered [] goes = absurd cc
 join_ordered (event ∷ events) goes =
     elim (by_client event) [
       | inl first ↦
-          let same : joined first.c ≡ goes.0 = ok_is (joined first.c) goes.0 (ap (λ (x : Event). first_behind no_course x) (sym first.is) ∙ goes.1) in
+          let same : joined first.c ≡ goes.0 = ok_is (joined first.c) goes.0 (ap (λ (x : Event). first_after no_course x) (sym first.is) ∙ goes.1) in
           let rest = join_node first.c (joined first.c) events refl (subst (λ (x : Course). Goes kinds.Join x events) (sym same) goes.2) in
           let ordered = node_ordered (joined first.c) events refl rest.0 in
           let whole : AreOrdered kinds.Join (Client first.c first.challenge first.qport first.dup first.address ∷ events) = (ordered.0, ordered.1, rest.1) in
           subst (λ (x : Event). AreOrdered kinds.Join (x ∷ events)) (sym first.is) whole
-      | inr other ↦ let none : refused ≡ behind goes.0 = sym other.refuses ∙ goes.1 in absurd cc
+      | inr other ↦ let none : refused ≡ goes_to goes.0 = sym other.refuses ∙ goes.1 in absurd cc
     ]
 
 join_goes : (events : List Event) → AreOrdered kinds.Join events → Goes kinds.Join no_course events
@@ -292,7 +292,7 @@ join_goes (event ∷ events) ordered =
       | inl first ↦
           let whole : AreOrdered kinds.Join (Client first.c first.challenge first.qport first.dup first.address ∷ events) = subst (λ (x : Event). AreOrdered kinds.Join (x ∷ events)) first.is ordered in
           let goes = node_join first.c (joined first.c) events refl (node_goes (joined first.c) events refl whole.0 whole.1) whole.2 in
-          (joined first.c, ap (λ (x : Event). first_behind no_course x) first.is, goes)
+          (joined first.c, ap (λ (x : Event). first_after no_course x) first.is, goes)
       | inr other ↦ absurd (other.never events ordered.2)
     ]
 

@@ -9,10 +9,10 @@ use Rattle.q3_words.specs.declared.cause.LineCause.TheVariants as causes
 use Rattle.q3_text.specs.Decimals.{number_at}
 use Rattle.q3_text.proofs.Cuts.{lacks}
 use Rattle.q3_text.proofs.Numerals.{number_at-spelled, number_at-again, lacks-decimal}
-use Rattle.q3_words.specs.Words.{behind}
+use Rattle.q3_words.specs.Words.{after_prefix}
 use Rattle.q3_script.specs.Lines.{signed_byte_at, signed_byte_word}
 use Rattle.q3_clmsg.specs.Moves.{IsSignedByte}
-use Rattle.q3_words.proofs.Prefixes.{behind-spelled, behind-again}
+use Rattle.q3_words.proofs.Prefixes.{after_prefix-spelled, after_prefix-again}
 use Rattle.q3_words.proofs.NumberWords.{ok_or-ok}
 
 -- the value of a step that found something
@@ -30,17 +30,17 @@ below_zero : (n : ℕ) → 1 ≤ n → n ≤ 128 → SpellsSignedByte (codes "-"
 below_zero zero some few = absurd (omega arith)
 below_zero (suc n) some few = record { fits = (omega (arith, ints), omega (arith, ints)); whole = refl }
 
--- the steps of reading a value, by what stands behind a `-`
+-- the steps of reading a value, by what follows a `-`
 abbrev value_of : List ℕ → Option (List ℕ) → Option ℤ
 value_of word (Some digits) = option_map (λ size. neg_ℤ (pos size)) (number_at 1 128 digits)
 value_of word None = option_map pos (number_at 0 127 word)
 
 -- a value that is read so was spelled so
-value_is : (word : List ℕ) (o : Option (List ℕ)) (value : ℤ) → behind (codes "-") word ≡ o → value_of word o ≡ Some value → SpellsSignedByte word value
+value_is : (word : List ℕ) (o : Option (List ℕ)) (value : ℤ) → after_prefix (codes "-") word ≡ o → value_of word o ≡ Some value → SpellsSignedByte word value
 value_is word (Some digits) value front e =
     let n = map_some (λ (size : ℕ). neg_ℤ (pos size)) (number_at 1 128 digits) value e in
     let is = number_at-spelled 1 128 digits n.0 (omega arith) n.1 in
-    let text : word ≡ codes "-" ++ decimal n.0 = behind-spelled (codes "-") word digits front ∙ ap (λ (x : List ℕ). codes "-" ++ x) is.2 in
+    let text : word ≡ codes "-" ++ decimal n.0 = after_prefix-spelled (codes "-") word digits front ∙ ap (λ (x : List ℕ). codes "-" ++ x) is.2 in
     subst (λ (x : ℤ). SpellsSignedByte word x) n.2 (subst (λ (w : List ℕ). SpellsSignedByte w (neg_ℤ (pos n.0))) (sym text) (below_zero n.0 is.0 is.1))
 value_is word None value front e =
     let n = map_some pos (number_at 0 127 word) value e in
@@ -48,9 +48,9 @@ value_is word None value front e =
     subst (λ (x : ℤ). SpellsSignedByte word x) n.2 (record { fits = (omega (arith, ints), omega (arith, ints)); whole = is.2 })
 
 -- a value in those steps
-signed_byte_at-is : (word : List ℕ) → signed_byte_at word ≡ value_of word (behind (codes "-") word)
+signed_byte_at-is : (word : List ℕ) → signed_byte_at word ≡ value_of word (after_prefix (codes "-") word)
 unfolding signed_byte_at
-signed_byte_at-is word = of_front (behind (codes "-") word)
+signed_byte_at-is word = of_front (after_prefix (codes "-") word)
   where
     of_front : (o : Option (List ℕ)) → option_map_or (λ digits. option_map (λ size. neg_ℤ (pos size)) (number_at 1 128 digits)) o (option_map pos (number_at 0 127 word)) ≡ value_of word o
     of_front (Some digits) = refl
@@ -59,13 +59,13 @@ signed_byte_at-is word = of_front (behind (codes "-") word)
 -- a word that is read as a signed value was spelled so
 pub signed_byte_word-spelled : (word : List ℕ) (value : ℤ) → signed_byte_word word ≡ Ok value → SpellsSignedByte word value
 signed_byte_word-spelled word value e =
-    value_is word (behind (codes "-") word) value refl (sym (signed_byte_at-is word) ∙ ok_or-ok (signed_byte_at word) causes.Number value e)
+    value_is word (after_prefix (codes "-") word) value refl (sym (signed_byte_at-is word) ∙ ok_or-ok (signed_byte_at word) causes.Number value e)
 
 -- decimals have no `-` in front
-no_front : (word : List ℕ) (o : Option (List ℕ)) → behind (codes "-") word ≡ o → lacks 45 word ≡ true → o ≡ None
+no_front : (word : List ℕ) (o : Option (List ℕ)) → after_prefix (codes "-") word ≡ o → lacks 45 word ≡ true → o ≡ None
 no_front word None front e = refl
 no_front word (Some rest) front e =
-    let text = behind-spelled (codes "-") word rest front in
+    let text = after_prefix-spelled (codes "-") word rest front in
     let has : lacks 45 (codes "-" ++ rest) ≡ true = rw text at e in
     absurd cc
 
@@ -73,9 +73,9 @@ no_front word (Some rest) front e =
 pub signed_byte_word-again : (value : ℤ) → IsSignedByte value → signed_byte_word (signed_decimal value) ≡ Ok value
 signed_byte_word-again (pos n) fits =
     let few : n ≤ 127 = omega (arith, ints) in
-    let none = no_front (decimal n) (behind (codes "-") (decimal n)) refl (lacks-decimal 45 n refl (omega arith)) in
+    let none = no_front (decimal n) (after_prefix (codes "-") (decimal n)) refl (lacks-decimal 45 n refl (omega arith)) in
     rw (signed_byte_at-is (decimal n), none, number_at-again 0 127 n (omega arith) (omega arith) few) refl
 signed_byte_word-again (negsuc n) fits =
     let few : suc n ≤ 128 = omega (arith, ints) in
-    let some : behind (codes "-") (45 ∷ decimal (suc n)) ≡ Some (decimal (suc n)) = behind-again (codes "-") (decimal (suc n)) in
+    let some : after_prefix (codes "-") (45 ∷ decimal (suc n)) ≡ Some (decimal (suc n)) = after_prefix-again (codes "-") (decimal (suc n)) in
     rw (signed_byte_at-is (45 ∷ decimal (suc n)), some, number_at-again 1 128 (suc n) (omega arith) (omega arith) few) refl

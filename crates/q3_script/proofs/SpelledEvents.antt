@@ -347,7 +347,7 @@ hand_at-again c bytes last small few each spelled = rw (number_word-again 0 last
 word_is : (word text : List ℕ) (others : List (List ℕ)) (event : Event) → bytes_eq text word ≡ true → IsLine (text ∷ others) event → IsLine (word ∷ others) event
 word_is word text others event same spelled = subst (λ (w : List ℕ). IsLine (w ∷ others) event) ((bytes_eq-Decides text word).0 same) spelled
 
--- what is left of a line, read as an event, was spelled so behind the line's first word
+-- what is left of a line, read as an event, was spelled so after the line's first word
 abbrev ReadIsSpelled : List ℕ × (List (List ℕ) → Result Event LineCause) → Type 0
 ReadIsSpelled line = (others : List (List ℕ)) (event : Event) → AreLeft others → line.1 others ≡ Ok event → IsLine (line.0 ∷ others) event
 
@@ -374,7 +374,7 @@ each_line kinds.Replay = (of_any (codes "client") client_line client_line-spelle
 each_line kinds.Serve = (of_any (codes "client") client_line client_line-spelled, (of_any (codes "map") map_line map_line-spelled, (of_any (codes "entity") entity_line entity_line-spelled, (of_any (codes "remove") remove_line remove_line-spelled, (of_any (codes "baseline") baseline_line baseline_line-spelled, (of_any (codes "player") player_line player_line-spelled, (of_any (codes "area") area_line area_line-spelled, (of_any (codes "time") time_line time_line-spelled, (config_line-spelled, (say_line-spelled, (of_any (codes "serve") serve_line serve_line-spelled, (of_any (codes "at") at_line at_line-spelled, (of_any (codes "end") end_line end_line-spelled, tt)))))))))))))
 each_line kinds.Join = (of_any (codes "client") client_line client_line-spelled, (type_line-spelled, (of_any (codes "move") move_line move_line-spelled, (of_any (codes "send") send_line send_line-spelled, (of_any (codes "record") record_line record_line-spelled, (of_any (codes "stop") stop_line stop_line-spelled, (of_any (codes "show") show_line show_line-spelled, (of_any (codes "at") at_line at_line-spelled, (of_any (codes "end") end_line end_line-spelled, tt)))))))))
 
--- what is read of words behind a first one was spelled so
+-- what is read of words after a first one was spelled so
 others_spelled : (kind : ScriptKind) (word : List ℕ) (others : List (List ℕ)) (event : Event) → AreLeft others → line_at kind (word ∷ others) ≡ Ok event → IsLine (word ∷ others) event
 unfolding line_at
 others_spelled kind word others event left e = found (lines_taken kind) word others event (each_line kind) left e

@@ -13,7 +13,7 @@ use Rattle.q3_script.specs.declared.cause.ScriptError.{ScriptError}
 use Rattle.q3_bits.specs.ResultBind.{◌>>=◌, bind_ok}
 use Rattle.q3_words.specs.Words.{words_of}
 use Rattle.q3_script.specs.Lines.{line_at}
-use Rattle.q3_script.specs.Script.{longest_script, most_events, lines_of, line_behind, is_passed_over, BadLine, Course, no_course, event_at, course_behind, is_complete, in_line, events_from, script_at, with_items, Reads}
+use Rattle.q3_script.specs.Script.{longest_script, most_events, lines_of, line_after, is_passed_over, BadLine, Course, no_course, event_at, course_after, is_complete, in_line, events_from, script_at, with_items, Reads}
 use Rattle.q3_script.specs.Grammar.{SpellEvents, SpellsScript, IsEventOf}
 use Rattle.q3_words.proofs.NumberWords.{ok_is}
 use Rattle.q3_script.proofs.SpelledEvents.{line_at-spelled, line_at-again}
@@ -52,16 +52,16 @@ events_from-spelled kind past number before course (line ∷ lines) events e =
           let rest = events_from-spelled kind past (number + 1) before course lines events (rw over at e) in
           record { spelled = rw over rest.spelled; few = rest.few; goes = rest.goes }
       | inr read ↦
-          let event = bind_ok (in_line number (event_at kind before line)) (λ event. in_line number (course_behind kind course event) >>= λ next. events_from kind past (number + 1) (before + 1) next lines >>= λ events. Ok (event ∷ events)) events (rw read at e) in
+          let event = bind_ok (in_line number (event_at kind before line)) (λ event. in_line number (course_after kind course event) >>= λ next. events_from kind past (number + 1) (before + 1) next lines >>= λ events. Ok (event ∷ events)) events (rw read at e) in
           let room = guard_ok (leb most_events before) Many (line_at kind (words_of line)) event.0 (in_line-ok number (event_at kind before line) event.0 event.1) in
-          let next = bind_ok (in_line number (course_behind kind course event.0)) (λ next. events_from kind past (number + 1) (before + 1) next lines >>= λ events. Ok (event.0 ∷ events)) events event.2 in
+          let next = bind_ok (in_line number (course_after kind course event.0)) (λ next. events_from kind past (number + 1) (before + 1) next lines >>= λ events. Ok (event.0 ∷ events)) events event.2 in
           let rest = bind_ok (events_from kind past (number + 1) (before + 1) next.0 lines) (λ events. Ok (event.0 ∷ events)) events next.2 in
           let others = events_from-spelled kind past (number + 1) (before + 1) next.0 lines rest.0 rest.1 in
           let below = leb-false most_events before room.0 in
           let whole : WereEvents kind before course (line ∷ lines) (event.0 ∷ rest.0) = record {
             spelled = rw read (line_at-spelled kind line event.0 room.1, others.spelled);
             few = λ le. (let few = others.few (omega arith) in omega arith);
-            goes = (next.0, in_line-ok number (course_behind kind course event.0) next.0 next.1, others.goes);
+            goes = (next.0, in_line-ok number (course_after kind course event.0) next.0 next.1, others.goes);
           } in
           subst (λ (x : List Event). WereEvents kind before course (line ∷ lines) x) (ok_is (event.0 ∷ rest.0) events rest.2) whole
     ]
@@ -95,7 +95,7 @@ script_at-spelled kind bytes events e =
     elim (cases_Bool (ltb longest_script (length bytes))) [
       | inl large ↦ let refused : bad (record { line = 0; cause = Large }) ≡ events_are events = rw large at e in absurd cc
       | inr small ↦
-          let were = events_from-spelled kind (line_behind bytes) 1 0 no_course (lines_of bytes) events (rw small at e) in
+          let were = events_from-spelled kind (line_after bytes) 1 0 no_course (lines_of bytes) events (rw small at e) in
           record {
             small = ltb-false longest_script (length bytes) small;
             few = (let few = were.few (omega arith) in omega arith);
@@ -109,7 +109,7 @@ pub script_at-again : (kind : ScriptKind) (bytes : List ℕ) (events : List Even
 unfolding script_at
 script_at-again kind bytes events script =
     let small : ltb longest_script (length bytes) ≡ false = le-ltb _ _ script.small in
-    rw small (events_from-again kind (line_behind bytes) 1 0 no_course (lines_of bytes) events script.spelled (let few = script.few in omega arith) (ordered_goes kind events script.ordered))
+    rw small (events_from-again kind (line_after bytes) 1 0 no_course (lines_of bytes) events script.spelled (let few = script.few in omega arith) (ordered_goes kind events script.ordered))
 
 -- ---- events of a kind
 

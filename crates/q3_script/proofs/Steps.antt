@@ -75,14 +75,14 @@ unfolding player_line
 player_steps [] = refl
 player_steps (c ∷ fields) = refl
 
--- a config string: a word, and the text behind it, then each of them
+-- a config string: a word, and the text after it, then each of them
 pub config_steps : (words : List (List ℕ)) → config_at words ≡ (ok_or (next_of words) Count >>= λ index. ok_or (text_from index.1) Count >>= λ text. number_word 0 4294967295 index.0 >>= λ index. bytes_word most_config text >>= λ text. Ok (index, text))
 unfolding config_at
 config_steps [] = refl
 config_steps (index ∷ []) = refl
 config_steps (index ∷ first ∷ rest) = refl
 
--- a command: a word, and the text behind it, then each of them
+-- a command: a word, and the text after it, then each of them
 pub command_steps : (words : List (List ℕ)) → command_at words ≡ (ok_or (next_of words) Count >>= λ c. ok_or (text_from c.1) Count >>= λ text. client_word c.0 >>= λ c. text_word text >>= λ text. Ok (c, text))
 unfolding command_at
 command_steps [] = refl

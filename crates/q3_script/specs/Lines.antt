@@ -12,7 +12,7 @@ use Rattle.q3_words.specs.declared.cause.LineCause.TheVariants as causes
 use Rattle.q3_script.specs.declared.cause.ScriptKind.{ScriptKind}
 use Rattle.q3_script.specs.declared.cause.ScriptKind.TheVariants as kinds
 use Rattle.q3_words.specs.Numbers.{last_client, last_entity, number_word, entity_word, client_word}
-use Rattle.q3_words.specs.Words.{behind}
+use Rattle.q3_words.specs.Words.{after_prefix}
 use Rattle.q3_text.specs.Decimals.{number_at}
 use Rattle.q3_words.specs.Addresses.{address_at}
 use Rattle.q3_words.specs.Hex.{area_at, handed_at}
@@ -131,7 +131,7 @@ type_line words = do
 unfoldable pub signed_byte_at : List ℕ → Option ℤ
 signed_byte_at word =
     option_map_or (λ digits. option_map (λ size. neg_ℤ (pos size)) (number_at 1 128 digits))
-    (behind (codes "-") word) (option_map pos (number_at 0 127 word))
+    (after_prefix (codes "-") word) (option_map pos (number_at 0 127 word))
 
 -- how fast a player walks or rises
 abbrev pub signed_byte_word : List ℕ → Result ℤ LineCause

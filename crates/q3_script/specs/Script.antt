@@ -54,10 +54,10 @@ abbrev pub timed : Course → ℕ → Result Course LineCause
 timed course ms = if nat_lt ms course.time then Err Order else Ok (record course { time = ms })
 
 -- after a line of a node
-abbrev pub node_behind : Course → Event → Result Course LineCause
-node_behind course (events.At ms) = timed course ms
-node_behind course (events.End ms) = timed (record course { ended = true }) ms
-node_behind course other = Ok course
+abbrev pub node_after : Course → Event → Result Course LineCause
+node_after course (events.At ms) = timed course ms
+node_after course (events.End ms) = timed (record course { ended = true }) ms
+node_after course other = Ok course
 
 -- whether a line after `client` is of that client
 abbrev pub is_of : ℕ → Event → Bool
@@ -71,19 +71,19 @@ is_of c (events.Show d) = d == c
 is_of c other = true
 
 -- after the first line of a client's script, and after a later one
-abbrev pub first_behind : Course → Event → Result Course LineCause
-first_behind course (events.Client c challenge qport dup address) = Ok (record course { client = Some c })
-first_behind course other = Err Order
+abbrev pub first_after : Course → Event → Result Course LineCause
+first_after course (events.Client c challenge qport dup address) = Ok (record course { client = Some c })
+first_after course other = Err Order
 
-abbrev pub client_behind : Course → Option ℕ → Event → Result Course LineCause
-client_behind course None event = first_behind course event
-client_behind course (Some c) event = if is_of c event then node_behind course event else Err Order
+abbrev pub client_course_after : Course → Option ℕ → Event → Result Course LineCause
+client_course_after course None event = first_after course event
+client_course_after course (Some c) event = if is_of c event then node_after course event else Err Order
 
 -- after a line of a script of a kind, if it may stand there; nothing follows `end`
-abbrev pub course_behind : ScriptKind → Course → Event → Result Course LineCause
-course_behind Replay course event = Ok course
-course_behind Serve course event = if course.ended then Err Order else node_behind course event
-course_behind Join course event = if course.ended then Err Order else client_behind course course.client event
+abbrev pub course_after : ScriptKind → Course → Event → Result Course LineCause
+course_after Replay course event = Ok course
+course_after Serve course event = if course.ended then Err Order else node_after course event
+course_after Join course event = if course.ended then Err Order else client_course_after course course.client event
 
 -- whether a script may end there
 abbrev pub is_complete : ScriptKind → Course → Bool
@@ -92,8 +92,8 @@ is_complete Serve course = course.ended
 is_complete Join course = course.ended
 
 -- the number after that of the last line: what follows the last newline is a line unless it is empty
-abbrev pub line_behind : List ℕ → ℕ
-line_behind bytes = if (length bytes == 0) || ends_with eqb bytes (codes "\n") then length (lines_of bytes) else length (lines_of bytes) + 1
+abbrev pub line_after : List ℕ → ℕ
+line_after bytes = if (length bytes == 0) || ends_with eqb bytes (codes "\n") then length (lines_of bytes) else length (lines_of bytes) + 1
 
 -- an answer, where a cause is that of this line
 abbrev pub in_line : {A : Type 0} → ℕ → Result A LineCause → Result A BadLine
@@ -107,7 +107,7 @@ events_from kind past number before course (line ∷ lines) =
     if is_passed_over line then events_from kind past (number + 1) before course lines
     else (do
       event ← in_line number (event_at kind before line)
-      course ← in_line number (course_behind kind course event)
+      course ← in_line number (course_after kind course event)
       events ← events_from kind past (number + 1) (before + 1) course lines
       Ok (event ∷ events))
 
@@ -115,7 +115,7 @@ events_from kind past number before course (line ∷ lines) =
 unfoldable pub script_at : ScriptKind → List ℕ → Result (List Event) BadLine
 script_at kind bytes =
     if nat_lt longest_script (length bytes) then Err (record { line = 0; cause = Large })
-    else events_from kind (line_behind bytes) 1 0 no_course (lines_of bytes)
+    else events_from kind (line_after bytes) 1 0 no_course (lines_of bytes)
 
 -- an answer with the events of its vector
 abbrev pub with_items : Result (Vec Event) ScriptError → Result (List Event) ScriptError

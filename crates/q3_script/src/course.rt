@@ -2,7 +2,7 @@
 
 ghost use Rattle.std.specs.Prelude.{◌≡◌};
 ghost use Rattle.std.specs.Result.{result_map_both};
-ghost use Rattle.q3_script.specs.Script.{no_course, timed, node_behind, is_of, first_behind, client_behind, course_behind, is_complete};
+ghost use Rattle.q3_script.specs.Script.{no_course, timed, node_after, is_of, first_after, client_course_after, course_after, is_complete};
 
 use crate::cause::ScriptKind;
 use crate::event::Event;
@@ -67,7 +67,7 @@ impl Course {
 
     /// Goes on after a line of a node.
     fn go_on_node(&mut self, event: &Event) -> Result<(), LineCause>
-        ensures { result_map_both (λ _. self.new) (λ cause. cause) result ≡ node_behind self.old event.now }
+        ensures { result_map_both (λ _. self.new) (λ cause. cause) result ≡ node_after self.old event.now }
     {
         match event {
             Event::At { ms } => self.go_to(*ms),
@@ -81,7 +81,7 @@ impl Course {
 
     /// Goes on after the first line of a client's script.
     fn go_on_first(&mut self, event: &Event) -> Result<(), LineCause>
-        ensures { result_map_both (λ _. self.new) (λ cause. cause) result ≡ first_behind self.old event.now }
+        ensures { result_map_both (λ _. self.new) (λ cause. cause) result ≡ first_after self.old event.now }
     {
         match event {
             Event::Client { c, .. } => {
@@ -95,7 +95,7 @@ impl Course {
     /// Goes on after a line of a client's script.
     fn go_on_client(&mut self, event: &Event) -> Result<(), LineCause>
         ensures { result_map_both (λ _. self.new) (λ cause. cause) result
-            ≡ client_behind self.old self.old.client event.now }
+            ≡ client_course_after self.old self.old.client event.now }
     {
         match self.client {
             None => self.go_on_first(event),
@@ -106,7 +106,7 @@ impl Course {
 
     /// Goes on after a line of a script of a kind, if it may stand there.
     pub(crate) fn go_on(&mut self, kind: ScriptKind, event: &Event) -> Result<(), LineCause>
-        ensures { result_map_both (λ _. self.new) (λ cause. cause) result ≡ course_behind kind self.old event.now }
+        ensures { result_map_both (λ _. self.new) (λ cause. cause) result ≡ course_after kind self.old event.now }
     {
         match kind {
             ScriptKind::Replay => Ok(()),

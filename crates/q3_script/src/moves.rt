@@ -7,7 +7,7 @@ ghost use Rattle.q3_script.specs.Lines.{signed_byte_word, angles_at, steps_at, m
 
 use crate::event::Event;
 use q3_clmsg::Move;
-use q3_words::words::{behind, next_three, only_word};
+use q3_words::words::{after_prefix, next_three, only_word};
 use q3_words::{LineCause, client_word, number_word};
 
 /// The number so far below 0.
@@ -23,7 +23,7 @@ fn negative(size: u32) -> i8
 fn signed_byte(word: &[u8]) -> Result<i8, LineCause>
     ensures { result ≡ signed_byte_word word.now }
 {
-    if let Some(digits) = behind(b"-", word) {
+    if let Some(digits) = after_prefix(b"-", word) {
         let size = number_word(digits, 1, 128)?;
         return Ok(negative(size));
     }

@@ -60,7 +60,7 @@ says : (server : ServerState) (c d : ℕ) (text : List ℕ) (found : Option Slot
 says server c d text None ne = stays d server server refl refl
 says server c d text (Some slot) ne = stays d server (say_to server c text (Some slot)).server (get_or-set_other server.slots c d _ None ne) refl
 
--- the frames behind an emission: a frame is built for its slot alone
+-- the frames after an emission: a frame is built for its slot alone
 builds : HeldWasBuilt → (frames : FramesState) (c d : ℕ) (snapshot : Snapshot) → d ≢ c → KeepsFrames d frames (build_at frames c snapshot)
 builds held frames c d snapshot ne = λ number frame is. elim (held frames c d number snapshot frame is) [
   | inl own ↦ absurd (ne own.0)

@@ -24,9 +24,9 @@ use Rattle.q3_slot.specs.declared.stage.ClientStage.{ClientStage}
 use Rattle.q3_slot.specs.declared.stage.ClientStage.TheVariants.{Connected, Primed, Active}
 use Rattle.q3_built.specs.Built.{Built, IsHeld, is_unclear, built_bits}
 use Rattle.q3_slot.specs.Slot.{SlotState, new_slot, is_active, is_connected, on_new_map, with_player, with_area, with_delayed}
-use Rattle.q3_slot.specs.Slots.{changes_own, say_slot, slot_saying, tells, slot_behind, slot_after, map_after, emission_of}
+use Rattle.q3_slot.specs.Slots.{changes_own, say_slot, slot_saying, tells, slot_after_datagram, slot_after, map_after, emission_of}
 use Rattle.q3_slot.specs.Taking as took
-use Rattle.q3_slot.specs.Taking.{Came, OfMap, OfOther, Leading, asks_game, is_behind_game, moves_on, goes_on, run_unless, run_read, said_by, take_slot}
+use Rattle.q3_slot.specs.Taking.{Came, OfMap, OfOther, Leading, asks_game, is_after_game, moves_on, goes_on, run_unless, run_read, said_by, take_slot}
 use Rattle.q3_slot.specs.Emitting.{SlotEmission, is_overlong, most_placed, next_frames, begun_next, next_game_built, emit_built, emit_game, emit_new, emit_slot}
 use Rattle.q3_chan.specs.Datagrams.{sequence_end}
 use Rattle.q3_server.specs.Standing.{IsMap, IsJoined, AreJoined, IsServer, Below}
@@ -95,7 +95,7 @@ module _ (profile : Profile) (map : MapState) (c : ℕ) where
   -- a gamestate is owed on a map alone
   asks_on_map : (slot : SlotState) (heads : Leading) → asks_game map slot heads ≡ true → map.id ≡ 0 → ⊥
   asks_on_map slot heads asks =
-      let two = and_parts (not (map.id == 0) && not (is_active slot.stage)) (is_behind_game heads.acknowledged slot.game) asks in
+      let two = and_parts (not (map.id == 0) && not (is_active slot.stage)) (is_after_game heads.acknowledged slot.game) asks in
       eqb-false map.id 0 (not-true (map.id == 0) (and_parts (not (map.id == 0)) (not (is_active slot.stage)) two.0).0)
 
   owes_on_map : (slot : SlotState) (heads : Leading) (owed : Bool) → (owed ≡ true → map.id ≡ 0 → ⊥) → (owed || asks_game map slot heads) ≡ true → map.id ≡ 0 → ⊥
@@ -210,9 +210,9 @@ nobody profile id count = record { each = none count }
 -- ---- the same of each call
 
 -- a slot emits
-pub server_behind : (profile : Profile) (map : MapState) (slots : List (Option SlotState)) (frames : FramesState) (c : ℕ) (slot : SlotState) → IsJoined profile map.id slot
+pub server_goes_on : (profile : Profile) (map : MapState) (slots : List (Option SlotState)) (frames : FramesState) (c : ℕ) (slot : SlotState) → IsJoined profile map.id slot
     → IsServer profile map slots → IsServer profile (emission_of profile map frames c slot).map (set slots c (Some (emission_of profile map frames c slot).slot))
-server_behind profile map slots frames c slot here is =
+server_goes_on profile map slots frames c slot here is =
     let emits = emits_slot profile map frames c slot is.is_map here slot.sending.under_way in
     let now : Option SlotState = Some (emission_of profile map frames c slot).slot in
     record {
@@ -245,7 +245,7 @@ module _ (profile : Profile) (map : MapState) (slots : List (Option SlotState)) 
   server_said text after =
       record { codec = is.codec; is_map = is.is_map; clients = placed_after (λ slot. (say_slot slot text).slot) (joined_issued profile map.id text) after }
 
-  pub server_took : (from : Address) (datagram : List ℕ) → now ≡ slot_behind profile map c from datagram found → IsServer profile map (set slots c now)
+  pub server_took : (from : Address) (datagram : List ℕ) → now ≡ slot_after_datagram profile map c from datagram found → IsServer profile map (set slots c now)
   server_took from datagram after =
       record { codec = is.codec; is_map = is.is_map; clients = placed_after (λ slot. (take_slot profile map c from datagram slot).slot) (joined_took profile map c from datagram) after }
 
@@ -257,7 +257,7 @@ module _ (profile : Profile) (map : MapState) (slots : List (Option SlotState)) 
       of_found None now after here =
           record { codec = is.codec; is_map = is.is_map; clients = place_set profile map.id slots c now (subst (IsPlace profile map.id) (sym after) tt) is.clients }
       of_found (Some slot) now after here =
-          subst (λ (n : Option SlotState). IsServer profile (map_after profile map frames c (Some slot)) (set slots c n)) (sym after) (server_behind profile map slots frames c slot here is)
+          subst (λ (n : Option SlotState). IsServer profile (map_after profile map frames c (Some slot)) (set slots c n)) (sym after) (server_goes_on profile map slots frames c slot here is)
 
 -- a client joins
 pub server_joined : Below → (profile : Profile) (map : MapState) (slots : List (Option SlotState)) (c protocol challenge qport : ℕ) (address : Address) (now : Option SlotState)

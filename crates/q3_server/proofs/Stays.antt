@@ -30,7 +30,7 @@ use Rattle.q3_server.specs.Server.{ServerState, Handed, own_string, slot_at, wit
 use Rattle.q3_server.specs.Taking.{sender_of, take_by, take_from, take_headed, take_at}
 use Rattle.q3_server.specs.Standing.{IsServer, IsJoined, IsServerState, Below}
 use Rattle.q3_server.proofs.KeepsMap.{map_none, map_new}
-use Rattle.q3_server.proofs.KeepsClients.{nobody, joined_new, joined_player, joined_area, joined_delayed, joined_issued, joined_took, at_place, place_set, server_behind, server_on_map}
+use Rattle.q3_server.proofs.KeepsClients.{nobody, joined_new, joined_player, joined_area, joined_delayed, joined_issued, joined_took, at_place, place_set, server_goes_on, server_on_map}
 use Rattle.q3_server.proofs.KeepsServer.{server_timed, server_entered, server_removed, server_baselined, server_configured}
 
 -- with no client, before the first map
@@ -95,7 +95,7 @@ module _ (below : Below) (server : ServerState) (is : IsServerState server) wher
     where
       of_found : (found : Option SlotState) → IfSome found (IsJoined server.profile server.map.id) → IsServerState (emit_from server c found).server
       of_found None joined = is
-      of_found (Some slot) joined = server_behind server.profile server.map server.slots server.frames c slot joined is
+      of_found (Some slot) joined = server_goes_on server.profile server.map server.slots server.frames c slot joined is
 
   pub takes_stay : (from : Address) (datagram : List ℕ) → IsServerState (take_at server from datagram).server
   unfolding take_at

@@ -21,16 +21,16 @@ whole_runs : (map : MapState) (slot : SlotState) (c number count : ℕ) (took : 
 whole_runs map slot c number count took read e = ap (λ (answer : Gathered). take_answer map (record slot { gathering = took.gathering }) c answer read) e
 
 -- by the parts of a slot: the client that took over the address, what was gathered, the bytes of the message, and what was read
-pub whole_is_taken : (profile : Profile) (map : MapState) (c : ℕ) (from : Address) (datagram : List ℕ) (sending : Sending) (gathering behind : Gathering)
+pub whole_is_taken : (profile : Profile) (map : MapState) (c : ℕ) (from : Address) (datagram : List ℕ) (sending : Sending) (gathering after : Gathering)
     (issued : OutgoingState) (client moved : Joined) (number count : ℕ) (bytes : List ℕ) (read : Result Came ClientIllegible)
     → moved ≡ record client { address = from }
-    → behind ≡ (gathered_of gathering datagram).gathering
+    → after ≡ (gathered_of gathering datagram).gathering
     → (gathered_of gathering datagram).answer ≡ gathered.Whole number count
     → bytes ≡ (gathered_of gathering datagram).message
     → read ≡ said_by profile map (slot_with issued moved) bytes
-    → take_slot profile map c from datagram (slot_of sending gathering issued client) ≡ run_read map (slot_of sending behind issued moved) c number read
-whole_is_taken profile map c from datagram sending gathering behind issued client moved number count bytes read moved_is behind_is whole bytes_are read_is =
+    → take_slot profile map c from datagram (slot_of sending gathering issued client) ≡ run_read map (slot_of sending after issued moved) c number read
+whole_is_taken profile map c from datagram sending gathering after issued client moved number count bytes read moved_is rest_is whole bytes_are read_is =
     let slot = slot_of sending gathering issued client in
-    rw (read_is, bytes_are, moved_is, behind_is)
+    rw (read_is, bytes_are, moved_is, rest_is)
     (whole_runs map (record slot { address = from }) c number count (gathered_of gathering datagram)
     (λ number. said_by profile map slot (gathered_of gathering datagram).message) whole)

@@ -71,7 +71,7 @@ all_texts index text =
     let count : piece_count (length text) - 0 ≡ piece_count (length text) = omega arith in
     ap (λ (count : ℕ). map (λ k. change_text (config_piece index text k)) (range_with_len 0 count)) count
 
--- the texts of the pieces from an index on fit, and behind those that were issued they are all
+-- the texts of the pieces from an index on fit, and after those that were issued they are all
 pub record AreLeft (start window : OutgoingState) (index : ℕ) (text : List ℕ) (k : ℕ) : Type 0 where
   pub room : fits window (length (texts_from index text k)) (total_of (texts_from index text k)) ≡ true
   pub same : with_texts window (texts_from index text k) ≡ with_texts start (piece_texts index text)

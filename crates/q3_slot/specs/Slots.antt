@@ -170,8 +170,8 @@ came_of message (Ok (origins.Other heads)) = Ok (OfOther (leading_of heads))
 came_of message (Err cause) = Err cause
 
 -- the slot after a datagram
-abbrev pub slot_behind : Profile → MapState → ℕ → Address → List ℕ → Option SlotState → Option SlotState
-slot_behind profile map c from datagram found = option_map (λ slot. (take_slot profile map c from datagram slot).slot) found
+abbrev pub slot_after_datagram : Profile → MapState → ℕ → Address → List ℕ → Option SlotState → Option SlotState
+slot_after_datagram profile map c from datagram found = option_map (λ slot. (take_slot profile map c from datagram slot).slot) found
 
 -- what a take answers and runs
 pub record Run : Type 0 where

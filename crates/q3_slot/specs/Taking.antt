@@ -46,8 +46,8 @@ abbrev pub asked_with : ℕ → Message → List Move → ℕ
 asked_with before message [] = before
 asked_with before message (one ∷ moves) = if message.delta then message.acknowledged else 0
 
-abbrev pub delta_behind : ℕ → Message → ℕ
-delta_behind before message = asked_with before message message.moves
+abbrev pub delta_after : ℕ → Message → ℕ
+delta_after before message = asked_with before message message.moves
 
 -- what the moves of a message do: how far its client comes, the number of the snapshot that it asks for then, the time of the
 -- last move run, that of the move with which it enters the map, if it does, and the moves that are run
@@ -62,7 +62,7 @@ pub record Playing : Type 0 where
 abbrev pub plays : SlotState → Message → Playing
 plays slot message = record {
   stage = Active;
-  delta = delta_behind slot.delta message;
+  delta = delta_after slot.delta message;
   last_run = last_run_of slot.last_run message.moves;
   entered = None;
   moves = runs slot.last_run message.moves;
@@ -136,14 +136,14 @@ abbrev pub answers : SlotState → ServerTook → SlotTaken
 answers slot answer = record { slot = slot; answer = answer; commands = []; moves = []; entered = None; owed = slot.owed }
 
 -- whether a message number is above that of the last gamestate of the map, if one was begun
-abbrev pub is_behind_game : ℕ → Option ℕ → Bool
-is_behind_game number None = true
-is_behind_game number (Some game) = nat_lt game number
+abbrev pub is_after_game : ℕ → Option ℕ → Bool
+is_after_game number None = true
+is_after_game number (Some game) = nat_lt game number
 
 -- whether a message of another map makes a gamestate owed: where there is a map that its client doesn't play, and it came after
 -- the last gamestate
 abbrev pub asks_game : MapState → SlotState → Leading → Bool
-asks_game map slot heads = not (map.id == 0) && not (is_active slot.stage) && is_behind_game heads.acknowledged slot.game
+asks_game map slot heads = not (map.id == 0) && not (is_active slot.stage) && is_after_game heads.acknowledged slot.game
 
 -- a message of another map runs nothing, but its acknowledgement is taken, and a gamestate may be owed from then on
 abbrev pub ignores : MapState → SlotState → ℕ → Leading → SlotTaken

@@ -20,11 +20,11 @@ ghost use Rattle.q3_slot.specs.declared.stage.ClientStage.TheVariants.{Connected
 ghost use Rattle.q3_slot.specs.Emitting.{next_snapshot, snapshot_flags};
 ghost use Rattle.q3_slot.specs.Slot.{asked};
 ghost use Rattle.q3_slot.specs.Slots.{slot_of, slot_with, came_of, goes_with, played};
-ghost use Rattle.q3_slot.specs.Taking.{asks_game, delta_behind, ignores, is_behind_game, last_run_of, leading_of, run_read, runs, said_by};
+ghost use Rattle.q3_slot.specs.Taking.{asks_game, delta_after, ignores, is_after_game, last_run_of, leading_of, run_read, runs, said_by};
 
 use crate::stage::ClientStage;
 use crate::taking::{
-    Heard, Origin, ServerTook, check_ack, delta_behind, execute_commands, gap_before, read_behind,
+    Heard, Origin, ServerTook, check_ack, delta_after, execute_commands, gap_before, read_after,
     run_moves,
 };
 use arrayvec::ArrayVec;
@@ -160,7 +160,7 @@ impl Joined {
         let heads = read_heads(&profile.code, bytes)?;
         check_ack(issued, heads.command)?;
         let text = issued.text(heads.command);
-        read_behind(profile, map, self.challenge, heads, text, bytes, into)
+        read_after(profile, map, self.challenge, heads, text, bytes, into)
     }
 
     /// Runs what was read of a message of the client in a slot, under a number. The answer is the first that fits:
@@ -233,13 +233,13 @@ impl Joined {
     {
         // it was within the window where the message was read
         let _ = issued.acknowledge(heads.command);
-        self.owed = self.owes_behind(map, heads);
+        self.owed = self.owes_after(map, heads);
         heard.owed = self.owed;
         ServerTook::Ignored { slot, id: heads.id }
     }
 
     /// Whether a gamestate is owed after a message of another map.
-    fn owes_behind(&self, map: &Map, heads: Heads) -> bool
+    fn owes_after(&self, map: &Map, heads: Heads) -> bool
         ensures { result ≡ (self.now.owed || asks_game map.now (slot_with new_outgoing self.now) (leading_of heads)) }
     {
         self.owed || self.asks_game(map, heads)
@@ -249,12 +249,12 @@ impl Joined {
     fn asks_game(&self, map: &Map, heads: Heads) -> bool
         ensures { result ≡ asks_game map.now (slot_with new_outgoing self.now) (leading_of heads) }
     {
-        map.has_map() && !self.stage.is_active() && self.is_behind_game(heads.acknowledged)
+        map.has_map() && !self.stage.is_active() && self.is_after_game(heads.acknowledged)
     }
 
     /// Whether a message number is above that of the last gamestate of the map, if one was begun.
-    fn is_behind_game(&self, number: u32) -> bool
-        ensures { result ≡ is_behind_game number self.now.game }
+    fn is_after_game(&self, number: u32) -> bool
+        ensures { result ≡ is_after_game number self.now.game }
     {
         match self.game {
             Some(game) => game < number,
@@ -331,7 +331,7 @@ impl Joined {
     fn go_on(&mut self, message: &ClientMessage, heard: &mut Heard)
         requires no_moves { heard.old.moves.items ≡ [] }
         ensures client { self.new ≡ record self.old {
-          delta = delta_behind self.old.delta (said_of message.now);
+          delta = delta_after self.old.delta (said_of message.now);
           last_run = last_run_of self.old.last_run (said_of message.now).moves;
         } }
         ensures moves { heard.new.moves.items ≡ runs self.old.last_run (said_of message.now).moves }
@@ -339,7 +339,7 @@ impl Joined {
         ensures commands { heard.new.commands ≡ heard.old.commands }
         ensures owed { heard.new.owed ≡ heard.old.owed }
     {
-        self.delta = delta_behind(self.delta, message);
+        self.delta = delta_after(self.delta, message);
         self.last_run = run_moves(self.last_run, &message.moves, &mut heard.moves);
     }
 

@@ -15,7 +15,7 @@ ghost use Rattle.q3_config.specs.Laws.{piece_texts};
 ghost use Rattle.q3_window.specs.Outgoing.{fits, total_of, with_texts};
 ghost use Rattle.q3_slot.specs.Slot.{SlotState, is_of, new_slot, on_new_map, sending_of, with_area, with_delayed, with_player};
 ghost use Rattle.q3_slot.specs.Standing.{IsSlot};
-ghost use Rattle.q3_slot.specs.Slots.{HoldLists, game_emission, given, changes_own, slot_saying, said_of_slot, lacks_places, lacks_room, tells, slot_after, map_after, frames_after, answer_of, piece_of, slot_behind, taken_of};
+ghost use Rattle.q3_slot.specs.Slots.{HoldLists, game_emission, given, changes_own, slot_saying, said_of_slot, lacks_places, lacks_room, tells, slot_after, map_after, frames_after, answer_of, piece_of, slot_after_datagram, taken_of};
 
 use crate::answer::{Emitted, NoClient, SayError};
 use crate::beginning::{begin_game, begin_snapshot};
@@ -281,7 +281,7 @@ impl Slot {
         requires no_moves { heard.old.moves.items ≡ [] }
         requires no_entered { heard.old.entered ≡ None }
         requires not_owed { heard.old.owed ≡ false }
-        ensures slot { self.new ≡ slot_behind profile.now map.now slot from datagram.now self.old }
+        ensures slot { self.new ≡ slot_after_datagram profile.now map.now slot from datagram.now self.old }
         ensures answer { result ≡ (taken_of profile.now map.now slot from datagram.now self.old).answer }
         ensures commands { heard.new.commands ≡ (taken_of profile.now map.now slot from datagram.now
             self.old).commands }

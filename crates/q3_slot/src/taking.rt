@@ -11,7 +11,7 @@ ghost use Rattle.q3_clmsg.specs.Values.{said_of};
 ghost use Rattle.q3_window.specs.Incoming.{executes, fresh_of, gap_in};
 ghost use Rattle.q3_window.specs.Outgoing.{acknowledge_at, issued_of};
 ghost use Rattle.q3_slot.specs.Slots.{came_of};
-ghost use Rattle.q3_slot.specs.Taking.{ack_taken, came_under, said_under, with_heads, delta_behind, runs, last_run_of};
+ghost use Rattle.q3_slot.specs.Taking.{ack_taken, came_under, said_under, with_heads, delta_after, runs, last_run_of};
 
 use arrayvec::ArrayVec;
 use q3_bits::NoMemory;
@@ -120,7 +120,7 @@ pub(crate) fn check_ack(issued: &Outgoing, command: u32) -> Result<(), ClientIll
 }
 
 /// Reads what comes after these leading longs, by the text of the command that they acknowledge, where they are of the map.
-pub(crate) fn read_behind(
+pub(crate) fn read_after(
     profile: &Profile,
     map: &Map,
     challenge: u32,
@@ -213,8 +213,8 @@ pub(crate) fn run_moves(last: u32, moves: &[Move], into: &mut ArrayVec<Move, MOS
 
 /// The number of the snapshot that a client asks for after a message: the one that its message acknowledges, or 0; a message
 /// without moves doesn't say.
-pub(crate) fn delta_behind(before: u32, message: &ClientMessage) -> u32
-    ensures { result ≡ delta_behind before (said_of message.now) }
+pub(crate) fn delta_after(before: u32, message: &ClientMessage) -> u32
+    ensures { result ≡ delta_after before (said_of message.now) }
 {
     if message.moves.is_empty() {
         return before;

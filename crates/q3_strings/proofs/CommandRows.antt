@@ -1,4 +1,4 @@
--- One command more behind its operation: what is read was spelled so, and what is spelled so is read.
+-- One command more after its operation: what is read was spelled so, and what is spelled so is read.
 use Rattle.std.proofs.Common.{◌≡◌, ◌<◌, ◌≤◌, Bool, true, nat_lt, ltb, List, [], ◌∷◌, ◌++◌, length, Ok, refl, sym, ap, subst, arith, inl, inr}
 use Rattle.std.proofs.lemmas.Bool.{cases_Bool}
 use Rattle.std.proofs.lemmas.Bool.Decides.{nat_tests}
@@ -44,7 +44,7 @@ more_was_spelled law words code commands bits found e =
           })
     ]
 
--- what is behind it is no longer
+-- what follows it is no longer
 pub more_shorter : CommandReadIsSpelled → (words : List (List Bool)) → IsCode words → (commands : List Command) (bits : List Bool) (more : List Command) (rest : List Bool)
     → Ok (more, rest) ≡ commands_at words commands bits → length rest ≤ length bits
 more_shorter law words code commands bits more rest e =

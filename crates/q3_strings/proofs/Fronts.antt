@@ -9,7 +9,7 @@ use Rattle.q3_text.specs.Texts.{translated, IsTextByte}
 use Rattle.q3_strings.specs.declared.error.StringError.TheVariants.{Bits, Long}
 use Rattle.q3_strings.specs.Reading.{string_bytes_at, bounded_string_at}
 
--- bytes that are read, and what is behind them
+-- bytes that are read, and what follows them
 abbrev pub Read : Type 0 → Type 0
 Read E = Result (List ℕ × List Bool) E
 
@@ -46,9 +46,9 @@ front_more {E = E} start now next front left whole others y h words place is = r
 pub front_stops : {E : Type 0} (start now : Reading) (front : List ℕ) (left whole : Read E) (e : E) → HasFront start now front left whole → left ≡ Err e → Err e ≡ whole
 front_stops {E = E} start now front left whole e h is = ap (λ (read : Read E). with_front front read) (sym is) ∙ h.reads
 
-pub front_ends : {E : Type 0} (start now : Reading) (front : List ℕ) (left whole : Read E) (behind : List Bool) → HasFront start now front left whole → left ≡ Ok ([], behind)
-    → Ok (front ++ [], behind) ≡ whole
-front_ends {E = E} start now front left whole behind h is = ap (λ (read : Read E). with_front front read) (sym is) ∙ h.reads
+pub front_ends : {E : Type 0} (start now : Reading) (front : List ℕ) (left whole : Read E) (after : List Bool) → HasFront start now front left whole → left ≡ Ok ([], after)
+    → Ok (front ++ [], after) ≡ whole
+front_ends {E = E} start now front left whole after h is = ap (λ (read : Read E). with_front front read) (sym is) ∙ h.reads
 
 -- what is read by the words that are there is read by the words of the start
 by_words : (words same : List (List Bool)) (bits : List Bool) (answer : Result (ℕ × List Bool) ReadError) → same ≡ words → answer ≡ field_at same 8 bits

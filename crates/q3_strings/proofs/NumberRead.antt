@@ -10,7 +10,7 @@ use Rattle.q3_bits.specs.declared.reader.ReadError.{ReadError}
 abbrev pub Found : Type 0
 Found = Result (ℕ × List Bool) ReadError
 
--- what is read behind the low bytes of a number, as read with them
+-- what is read after the low bytes of a number, as read with them
 abbrev pub onto : ℕ → ℕ → Found → Found
 onto number scale (Ok found) = Ok (number + scale * found.0, found.1)
 onto number scale (Err e) = Err e

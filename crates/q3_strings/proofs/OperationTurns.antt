@@ -8,7 +8,7 @@ use Rattle.q3_strings.specs.declared.error.OperationError.TheVariants.{Bits, Bad
 use Rattle.q3_strings.specs.Operations.{commands_at, row_at, ending_at}
 use Rattle.q3_strings.specs.Laws.{TurnsAreTaken}
 
--- ---- behind the section
+-- ---- after the section
 
 -- a fault of bits
 pub ending_fault : (words : List (List Bool)) (end : ℕ) → TurnsAreTaken → IsCode words → (bits : List Bool) (e : ReadError) (turns : ℕ) → Err e ≡ field_at words 8 bits
@@ -56,10 +56,10 @@ module _ (words : List (List Bool)) (command : ℕ) (commands : List Command) (b
   row_done not_nop other = rw (is, ← read, not_nop, other) refl
 
   -- a command
-  pub row_command : (more : List Command) (behind : List Bool) → (byte == 1) ≡ false → (byte == command) ≡ true → Ok (more, behind) ≡ commands_at words commands rest
-      → row_at words command turns commands bits ≡ row_at words command left more behind
+  pub row_command : (more : List Command) (after : List Bool) → (byte == 1) ≡ false → (byte == command) ≡ true → Ok (more, after) ≡ commands_at words commands rest
+      → row_at words command turns commands bits ≡ row_at words command left more after
   unfolding row_at
-  row_command more behind not_nop here one = rw (is, ← read, not_nop, here, ← one) refl
+  row_command more after not_nop here one = rw (is, ← read, not_nop, here, ← one) refl
 
   pub row_command_fault : (e : OperationError) → (byte == 1) ≡ false → (byte == command) ≡ true → Err e ≡ commands_at words commands rest
       → row_at words command turns commands bits ≡ Err e

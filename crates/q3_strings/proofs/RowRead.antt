@@ -41,7 +41,7 @@ ending_is_read put turns_law words end most text rest code (nops, are_nops, whol
 -- ---- a row
 
 module _ (put : PutIsRead) (turns_law : TurnsAreTaken) (command_law : CommandSpelledIsRead) (words : List (List Bool)) (code : IsCode words) (command : ℕ) (not_nop : command ≢ 1) (fits : command < 256) where
-  -- the row behind a text that was read
+  -- the row after a text that was read
   record HasRest (turns : ℕ) (commands after : List Command) (bits rest : List Bool) : Type 0 where
     left : ℕ
     enough : length rest ≤ left

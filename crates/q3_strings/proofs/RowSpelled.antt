@@ -36,7 +36,7 @@ module _ (words : List (List Bool)) (command : ℕ) (commands : List Command) (b
   row_done : (operation : ℕ) → operation < 256 → operation ≢ 1 → operation ≢ command → bits ≡ row_bits words ((operation, 8) ∷ []) ++ left
       → ReadRow words command commands bits (record { commands = commands; operation = operation }, left)
   row_done operation fits not_nop not_command is =
-      let behind = row_bits words ((operation, 8) ∷ []) ++ left in
+      let after = row_bits words ((operation, 8) ∷ []) ++ left in
       record {
         added = [];
         text = [];
@@ -48,7 +48,7 @@ module _ (words : List (List Bool)) (command : ℕ) (commands : List Command) (b
         byte = fits;
         not_nop = not_nop;
         not_command = not_command;
-        parts = is ∙ row-none words behind;
+        parts = is ∙ row-none words after;
       }
 
   -- a nop
@@ -183,11 +183,11 @@ ending_was put words code end (suc most) bits found e =
           elim (cases_Bool (eqb operation.0.0 1)) [
             | inl nop ↦
                 let read = ending_was put words code end most left found (rw nop at next) in
-                let behind = row_bits words ((end, 8) ∷ []) ++ found.1 in
+                let after = row_bits words ((end, 8) ∷ []) ++ found.1 in
                 record {
                   count = suc read.count;
-                  parts = was.row (replicate read.count (1, 8)) behind read.parts
-                      ∙ ap (λ (n : ℕ). row_bits words ((n, 8) ∷ replicate read.count (1, 8)) ++ behind) (eqb-true operation.0.0 1 nop);
+                  parts = was.row (replicate read.count (1, 8)) after read.parts
+                      ∙ ap (λ (n : ℕ). row_bits words ((n, 8) ∷ replicate read.count (1, 8)) ++ after) (eqb-true operation.0.0 1 nop);
                 }
             | inr bad ↦ absurd (let wrong = rw bad at next in cc)
           ]

@@ -30,7 +30,7 @@ pub commands-next : (words same : List (List Bool)) (operation : ℕ) (commands 
     → commands_bits words operation (drop k commands) ≡ issued_bits same operation command ++ commands_bits words operation (drop (k + 1) commands)
 commands-next words same operation commands k command is more item = rw (is, drop_more commands k command more, ← item) refl
 
--- the commands of a run are those of its first piece, and behind them those of its second
+-- the commands of a run are those of its first piece, and after them those of its second
 pub commands-both : (words : List (List Bool)) (operation : ℕ) (run : CommandRun)
     → commands_bits words operation (commands_of run) ≡ commands_bits words operation run.head.now ++ commands_bits words operation run.tail.now
 commands-both words operation run = rw flat_map-append refl
@@ -41,7 +41,7 @@ bytes-append : (words : List (List Bool)) (xs ys : List ℕ) → bytes_row words
 unfolding row_bits
 bytes-append words xs ys = rw (map-append, flat_map-append) refl
 
--- bytes, and those behind a place of theirs
+-- bytes, and those after a place of theirs
 pub bytes-parts : (words : List (List Bool)) (bytes : List ℕ) (k : ℕ) → bytes_row words bytes ≡ bytes_row words (take k bytes) ++ bytes_row words (drop k bytes)
 bytes-parts words bytes k = ap (bytes_row words) (sym (take-append-drop k bytes)) ∙ bytes-append words (take k bytes) (drop k bytes)
 
@@ -55,10 +55,10 @@ fours-next words same bytes count k four is more text =
     let whole : 4 * count ≡ 4 * k + rest = omega arith in
     let first : take 4 (drop (4 * k) all) ≡ take 4 (drop (4 * k) bytes) =
     ap (λ (n : ℕ). take 4 (drop (4 * k) (take n bytes))) whole ∙ ap (take 4) (drop-take (4 * k) rest bytes) ∙ take-take 4 rest (drop (4 * k) bytes) (omega arith) in
-    let behind : drop 4 (drop (4 * k) all) ≡ drop (4 * (k + 1)) all = drop-drop 4 (4 * k) all ∙ ap (λ (n : ℕ). drop n all) (omega arith) in
+    let after : drop 4 (drop (4 * k) all) ≡ drop (4 * (k + 1)) all = drop-drop 4 (4 * k) all ∙ ap (λ (n : ℕ). drop n all) (omega arith) in
     bytes-parts words (drop (4 * k) all) 4
     ∙ ap (λ (xs : List ℕ). bytes_row words xs ++ bytes_row words (drop 4 (drop (4 * k) all))) first
-    ∙ ap (λ (xs : List ℕ). bytes_row words (take 4 (drop (4 * k) bytes)) ++ bytes_row words xs) behind
+    ∙ ap (λ (xs : List ℕ). bytes_row words (take 4 (drop (4 * k) bytes)) ++ bytes_row words xs) after
     ∙ ap (λ (bits : List Bool). bits ++ bytes_row words (drop (4 * (k + 1)) all)) (sym (text words) ∙ ap (λ (ws : List (List Bool)). field_bits ws 32 four) (sym is))
 
 pub fours-end : (words : List (List Bool)) (bytes : List ℕ) (count k : ℕ) → count ≤ k → bytes_row words (drop (4 * k) (take (4 * count) bytes)) ≡ []

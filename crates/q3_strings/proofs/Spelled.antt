@@ -167,7 +167,7 @@ record ReadCommand (words : List (List Bool)) (bits : List Bool) (found : Comman
   spells : SpellsCommand words found.0 text
   parts : bits ≡ text ++ found.1
 
--- its number, and its string behind it
+-- its number, and its string after it
 command_was : (words : List (List Bool)) (bits : List Bool) (number : ℕ × List Bool) (string : List ℕ × List Bool) → WasField words 32 bits number
     → All IsTextByte string.0 × (spelling : List Bool) × (number.1 ≡ spelling ++ string.1) × SpellsString words most_bytes string.0 spelling
     → ReadCommand words bits (record { number = number.0; text = string.0 }, string.1)

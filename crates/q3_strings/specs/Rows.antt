@@ -16,10 +16,10 @@ pub row-empty : (words : List (List Bool)) → [] ≡ row_bits words []
 row-empty words = row-none words [] ∙ append-nil (row_bits words [])
 
 -- a row after a field is a row
-pub row-behind : (words : List (List Bool)) (value width : ℕ) (fields : List (ℕ × ℕ)) (rest : List Bool)
+pub row-after : (words : List (List Bool)) (value width : ℕ) (fields : List (ℕ × ℕ)) (rest : List Bool)
     → row_bits words ((value, width) ∷ fields) ++ rest ≡ row_bits words ((value, width) ∷ []) ++ (row_bits words fields ++ rest)
 unfolding row_bits
-row-behind words value width fields rest =
+row-after words value width fields rest =
     append_assoc (field_bits words width value) (row_bits words fields) rest
     ∙ ap (λ (text : List Bool). text ++ (row_bits words fields ++ rest)) (sym (append-nil (field_bits words width value)))
 
@@ -60,11 +60,11 @@ pub operations-parts : (words : List (List Bool)) (command end : ℕ) (commands 
 operations-parts words command end commands section bits rest is =
     let text = is.text in
     let nops = is.nops in
-    let behind = is.of_ending.0 in
+    let after = is.of_ending.0 in
     let field = row_bits words ((end, 8) ∷ []) in
     ap (λ (bits : List Bool). bits ++ rest) is.whole
     ∙ append_assoc (text ++ nops ++ section) is.ending rest
     ∙ append_assoc (text ++ nops) section (is.ending ++ rest)
     ∙ append_assoc text nops (section ++ (is.ending ++ rest))
     ∙ ap (λ (ending : List Bool). text ++ (nops ++ (section ++ (ending ++ rest)))) is.of_ending.2
-    ∙ ap (λ (left : List Bool). text ++ (nops ++ (section ++ left))) (append_assoc behind field rest)
+    ∙ ap (λ (left : List Bool). text ++ (nops ++ (section ++ left))) (append_assoc after field rest)

@@ -14,7 +14,7 @@ use Rattle.q3_svmsg.specs.declared.error.Illegible.TheVariants.{Bits, Area}
 use Rattle.q3_svmsg.specs.Reading.{field_read, area_at}
 use Rattle.q3_svmsg.proofs.Fields.{field_was}
 
--- the area behind its count
+-- the area after its count
 pub record ReadArea (words : List (List Bool)) (bits : List Bool) (found : List ℕ × List Bool) : Type 0 where
   pub short : length found.0 ≤ 32
   pub each : All (λ byte. byte < 256) found.0

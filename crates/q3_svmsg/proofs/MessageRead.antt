@@ -18,7 +18,7 @@ use Rattle.q3_svmsg.proofs.Games.{game_is_read}
 use Rattle.q3_svmsg.proofs.MessageSpelled.{end}
 
 module _ (laws : IsRead) (profile : Profile) (context : Context) (number : ℕ) (code : IsCode profile.code) where
-  -- behind a section nops, and the end
+  -- after a section nops, and the end
   ended_is_read : (message : Message) (told : Told) (nops rest : List Bool) → SpellsNops profile.code nops
       → ended_at profile.code message (told, nops ++ (end profile.code ++ rest)) ≡ Ok (record message { section = told }, rest)
   unfolding ended_at
@@ -30,7 +30,7 @@ module _ (laws : IsRead) (profile : Profile) (context : Context) (number : ℕ) 
       let ends : ending_at words 8 (length behind) behind ≡ Ok (tt, rest) = ap (λ (bits : List Bool). ending_at words 8 (length bits) bits) (sym (append_assoc nops (end words) rest)) ∙ read in
       rw ends refl
 
-  -- commands, nops and another operation, and what is behind these
+  -- commands, nops and another operation, and what follows these
   row_is_read : (message : Message) (commands : List Command) (operation : ℕ) (text nops left : List Bool) → message.commands ≡ [] → length commands ≤ 64
       → SpellsCommands profile.code 5 commands text → SpellsNops profile.code nops → operation < 256 → operation ≢ 1 → operation ≢ 5
       → operations_at profile context number message (text ++ (nops ++ (row_bits profile.code ((operation, 8) ∷ []) ++ left)))
@@ -62,11 +62,11 @@ module _ (laws : IsRead) (profile : Profile) (context : Context) (number : ℕ) 
   told_is_read operation message bits told behind (inl (game, is)) = rw (game, ← is) refl
   told_is_read operation message bits told behind (inr (snapshot, is)) = rw (snapshot, ← is) refl
 
-  -- a section that is there, and what is behind it
+  -- a section that is there, and what follows it
   taken_is_read : (message : Message) (commands : List Command) (told : Told) (text nops section behind rest : List Bool) → message.commands ≡ [] → length commands ≤ 64
       → SpellsCommands profile.code 5 commands text → SpellsNops profile.code nops → TakenSection profile context number told section (behind ++ (end profile.code ++ rest)) → SpellsNops profile.code behind
       → operations_at profile context number message (text ++ (nops ++ (section ++ (behind ++ (end profile.code ++ rest))))) ≡ Ok (record message { commands = commands; section = told }, rest)
-  taken_is_read message commands told text nops section behind rest none few of_commands of_nops took of_behind =
+  taken_is_read message commands told text nops section behind rest none few of_commands of_nops took of_after =
       let words = profile.code in
       let after : Message = record message { commands = commands } in
       let ends = behind ++ (end words ++ rest) in
@@ -77,36 +77,36 @@ module _ (laws : IsRead) (profile : Profile) (context : Context) (number : ℕ) 
       ap (λ (left : List Bool). operations_at profile context number message (text ++ (nops ++ left))) same
       ∙ row_is_read message commands took.operation text nops left none few of_commands of_nops took.fits other.0 other.1
       ∙ told_is_read took.operation after left told ends took.reads
-      ∙ ended_is_read after told behind rest of_behind
+      ∙ ended_is_read after told behind rest of_after
 
   -- none, and the end
   none_is_read : (message : Message) (commands : List Command) (text nops behind rest : List Bool) → message.commands ≡ [] → length commands ≤ 64
       → SpellsCommands profile.code 5 commands text → SpellsNops profile.code nops → SpellsNops profile.code behind
       → operations_at profile context number message (text ++ (nops ++ (behind ++ (end profile.code ++ rest)))) ≡ Ok (record message { commands = commands }, rest)
-  none_is_read message commands text nops behind rest none few of_commands of_nops of_behind =
+  none_is_read message commands text nops behind rest none few of_commands of_nops of_after =
       let words = profile.code in
       ap (λ (left : List Bool). operations_at profile context number message (text ++ left)) (sym (append_assoc nops behind (end words ++ rest)))
-      ∙ row_is_read message commands 8 text (nops ++ behind) rest none few of_commands (laws.nops words nops behind of_nops of_behind) (omega arith) (λ e. omega (arith, e)) (λ e. omega (arith, e))
+      ∙ row_is_read message commands 8 text (nops ++ behind) rest none few of_commands (laws.nops words nops behind of_nops of_after) (omega arith) (λ e. omega (arith, e)) (λ e. omega (arith, e))
       ∙ done_is_read (record message { commands = commands }) rest
 
 operations_are_read : IsRead → (profile : Profile) (context : Context) (number : ℕ) → IsCodec profile → IsContext profile context → (message : Message) (commands : List Command) (told : Told)
     (text nops section behind rest : List Bool) → message.commands ≡ [] → message.section ≡ Nothing → length commands ≤ 64 → SpellsCommands profile.code 5 commands text → SpellsNops profile.code nops
     → SpellsSection profile context number told section → SpellsNops profile.code behind
     → operations_at profile context number message (text ++ (nops ++ (section ++ (behind ++ (end profile.code ++ rest))))) ≡ Ok (record message { commands = commands; section = told }, rest)
-operations_are_read laws profile context number codec is message commands Nothing text nops section behind rest no_commands none few of_commands of_nops s of_behind =
+operations_are_read laws profile context number codec is message commands Nothing text nops section behind rest no_commands none few of_commands of_nops s of_after =
     let ends = behind ++ (end profile.code ++ rest) in
     ap (λ (section : List Bool). operations_at profile context number message (text ++ (nops ++ (section ++ ends)))) s
-    ∙ none_is_read laws profile context number codec.code message commands text nops behind rest no_commands few of_commands of_nops of_behind
+    ∙ none_is_read laws profile context number codec.code message commands text nops behind rest no_commands few of_commands of_nops of_after
     ∙ ap (λ (told : Told). Ok (record message { commands = commands; section = told }, rest)) none
-operations_are_read laws profile context number codec is message commands (Game game) text nops section behind rest no_commands none few of_commands of_nops s of_behind =
+operations_are_read laws profile context number codec is message commands (Game game) text nops section behind rest no_commands none few of_commands of_nops s of_after =
     taken_is_read laws profile context number codec.code message commands (Game game) text nops section behind rest no_commands few of_commands of_nops
-    (game_is_read laws.game profile context number game section (behind ++ (end profile.code ++ rest)) codec s) of_behind
-operations_are_read laws profile context number codec is message commands (Snap base snap entities) text nops section behind rest no_commands none few of_commands of_nops s of_behind =
+    (game_is_read laws.game profile context number game section (behind ++ (end profile.code ++ rest)) codec s) of_after
+operations_are_read laws profile context number codec is message commands (Snap base snap entities) text nops section behind rest no_commands none few of_commands of_nops s of_after =
     taken_is_read laws profile context number codec.code message commands (Snap base snap entities) text nops section behind rest no_commands few of_commands of_nops
-    (snapshot_is_read laws.put laws.bytes laws.no_player laws.player laws.list profile context number base snap entities section (behind ++ (end profile.code ++ rest)) codec is s) of_behind
-operations_are_read laws profile context number codec is message commands (Skipped base) text nops section behind rest no_commands none few of_commands of_nops s of_behind =
+    (snapshot_is_read laws.put laws.bytes laws.no_player laws.player laws.list profile context number base snap entities section (behind ++ (end profile.code ++ rest)) codec is s) of_after
+operations_are_read laws profile context number codec is message commands (Skipped base) text nops section behind rest no_commands none few of_commands of_nops s of_after =
     taken_is_read laws profile context number codec.code message commands (Skipped base) text nops section behind rest no_commands few of_commands of_nops
-    (skipped_is_read laws.put laws.bytes laws.no_player laws.player laws.skipped profile context number base section (behind ++ (end profile.code ++ rest)) codec s) of_behind
+    (skipped_is_read laws.put laws.bytes laws.no_player laws.player laws.skipped profile context number base section (behind ++ (end profile.code ++ rest)) codec s) of_after
 
 pub message_is_read : IsRead → SpelledIsRead
 unfolding server_message_at

@@ -24,13 +24,13 @@ use Rattle.q3_svmsg.proofs.Games.{game_was_spelled}
 abbrev pub end : List (List Bool) → List Bool
 end words = row_bits words ((8, 8) ∷ [])
 
--- the operations that were read behind a message's front
+-- the operations that were read after a message's front
 record ReadOperations (profile : Profile) (context : Context) (number : ℕ) (message : Message) (bits : List Bool) (found : Message × List Bool) : Type 0 where
   added : List Command
   commands : List Bool
   nops : List Bool
   section : List Bool
-  behind : List Bool
+  nops_after : List Bool
   ack : found.0.ack ≡ message.ack
   all : found.0.commands ≡ message.commands ++ added
   few : length found.0.commands ≤ 64
@@ -40,8 +40,8 @@ record ReadOperations (profile : Profile) (context : Context) (number : ℕ) (me
   of_commands : SpellsCommands profile.code 5 added commands
   of_nops : SpellsNops profile.code nops
   of_section : SpellsSection profile context number found.0.section section
-  of_behind : SpellsNops profile.code behind
-  parts : bits ≡ commands ++ (nops ++ (section ++ (behind ++ (end profile.code ++ found.1))))
+  of_after : SpellsNops profile.code nops_after
+  parts : bits ≡ commands ++ (nops ++ (section ++ (nops_after ++ (end profile.code ++ found.1))))
 
 module _ (profile : Profile) (context : Context) (number : ℕ) (message : Message) (bits left : List Bool) (row : Row) (few : length message.commands ≤ 64) (was : WasRow profile.code 5 message.commands bits row left) where
   -- the row by its operation
@@ -54,14 +54,14 @@ module _ (profile : Profile) (context : Context) (number : ℕ) (message : Messa
       was.parts ∙ ap (λ (text : List Bool). text ++ left) was.spells.whole ∙ append_assoc (text ++ nops) last left ∙ append_assoc text nops (last ++ left)
       ∙ ap (λ (n : ℕ). text ++ (nops ++ (row_bits words ((n, 8) ∷ []) ++ left))) is
 
-  -- the end behind it
+  -- the end after it
   read_end : message.section ≡ Nothing → row.operation ≡ 8 → ReadOperations profile context number message bits (record message { commands = row.commands }, left)
   read_end none is = record {
     added = was.added;
     commands = was.spells.text;
     nops = was.spells.nops;
     section = [];
-    behind = [];
+    nops_after = [];
     ack = refl;
     all = was.all;
     few = was.few few;
@@ -71,11 +71,11 @@ module _ (profile : Profile) (context : Context) (number : ℕ) (message : Messa
     of_commands = was.spells.of_commands;
     of_nops = was.spells.of_nops;
     of_section = subst (λ told. SpellsSection profile context number told []) (sym none) refl;
-    of_behind = (0, row-empty profile.code);
+    of_after = (0, row-empty profile.code);
     parts = row_parts 8 is;
   }
 
-  -- a section behind it, and the end behind this
+  -- a section after it, and the end after this
   read_section : (operation : ℕ) (section : Told × List Bool) (rest : List Bool) → row.operation ≡ operation → ReadSection profile context number operation left section
       → (ending : List Bool) × (section.1 ≡ ending ++ rest) × SpellsEnding profile.code 8 ending
       → ReadOperations profile context number message bits (record message { commands = row.commands; section = section.0 }, rest)
@@ -86,7 +86,7 @@ module _ (profile : Profile) (context : Context) (number : ℕ) (message : Messa
         commands = was.spells.text;
         nops = was.spells.nops;
         section = read.text;
-        behind = spelled.0;
+        nops_after = spelled.0;
         ack = refl;
         all = was.all;
         few = was.few few;
@@ -96,7 +96,7 @@ module _ (profile : Profile) (context : Context) (number : ℕ) (message : Messa
         of_commands = was.spells.of_commands;
         of_nops = was.spells.of_nops;
         of_section = read.spells;
-        of_behind = spelled.1;
+        of_after = spelled.1;
         parts = row_parts operation is ∙ ap (λ (left : List Bool). was.spells.text ++ (was.spells.nops ++ left)) (read.parts ∙ ap (λ (left : List Bool). read.text ++ left) ends);
       }
 
@@ -163,10 +163,10 @@ message_was_spelled laws profile context number message bits rest codec is e =
     let was = field_was laws.put words 32 bits ack.0 codec.code ack.1 in
     let read = operations_were_spelled laws profile context number codec is (start ack.0.0) ack.0.1 (message, rest) refl (omega arith) ack.2 in
     let section = read.section in
-    let behind = read.behind in
+    let nops_after = read.nops_after in
     let low = subst (λ (n : ℕ). n < 2 ^ 32) (sym read.ack) was.fits in (
       λ fits. record { ack = low; few = read.few; commands = subst (All IsCommand) (sym read.all) read.each; section = read.is fits; number_is = read.number_is },
-      row_bits words ((message.ack, 32) ∷ []) ++ (read.commands ++ read.nops ++ section ++ (behind ++ end words)),
+      row_bits words ((message.ack, 32) ∷ []) ++ (read.commands ++ read.nops ++ section ++ (nops_after ++ end words)),
       was.row [] ack.0.1 (row-none words ack.0.1)
           ∙ ap (λ (n : ℕ). row_bits words ((n, 32) ∷ []) ++ ack.0.1) (sym read.ack)
           ∙ ap (λ (left : List Bool). row_bits words ((message.ack, 32) ∷ []) ++ left) read.parts
@@ -175,15 +175,15 @@ message_was_spelled laws profile context number message bits rest codec is e =
         ack = low;
         few = read.few;
         section = section;
-        operations = read.commands ++ read.nops ++ section ++ (behind ++ end words);
+        operations = read.commands ++ read.nops ++ section ++ (nops_after ++ end words);
         of_section = read.of_section;
         of_operations = record {
           text = read.commands;
           nops = read.nops;
-          ending = behind ++ end words;
+          ending = nops_after ++ end words;
           of_commands = subst (λ (commands : List Command). SpellsCommands words 5 commands read.commands) (sym read.all) read.of_commands;
           of_nops = read.of_nops;
-          of_ending = (behind, read.of_behind, refl);
+          of_ending = (nops_after, read.of_after, refl);
           whole = refl;
         };
         whole = refl;

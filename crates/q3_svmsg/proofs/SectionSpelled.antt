@@ -6,7 +6,7 @@ use Rattle.q3_bits.specs.ResultBind.{◌>>=◌, fault_as, bind_ok, map_err_ok}
 use Rattle.q3_bits.specs.Words.{row_bits}
 use Rattle.q3_bits.specs.Laws.{PutIsRead, ReadWasPut}
 use Rattle.q3_strings.specs.Texts.{bytes_row}
-use Rattle.q3_strings.specs.Rows.{row-behind, row-first}
+use Rattle.q3_strings.specs.Rows.{row-after, row-first}
 use Rattle.q3_strings.specs.Laws.{BytesWerePut, BytesAreRead}
 use Rattle.q3_player.specs.declared.state.PlayerState.{PlayerState}
 use Rattle.q3_player.specs.declared.head.SnapHead.{SnapHead}
@@ -55,7 +55,7 @@ record ReadStates (profile : Profile) (baselines : Baselines) (against : Option 
   spells : SpellsStates profile baselines against to entities text
   parts : bits ≡ text ++ found.1
 
--- two texts, one behind the other
+-- two texts, one after the other
 both_parts : (bits first second left rest : List Bool) → bits ≡ first ++ left → left ≡ second ++ rest → bits ≡ (first ++ second) ++ rest
 both_parts bits first second left rest a b = a ∙ ap (λ (left : List Bool). first ++ left) b ∙ sym (append_assoc first second rest)
 
@@ -99,8 +99,8 @@ states_are_read player_law list_law profile baselines against base head to entit
     rw (parts, player, list) refl
 
 -- the same, with what follows them
-texts_behind : (front first second rest : List Bool) → (front ++ (first ++ second)) ++ rest ≡ front ++ (first ++ (second ++ rest))
-texts_behind front first second rest = simp append_assoc
+texts_after : (front first second rest : List Bool) → (front ++ (first ++ second)) ++ rest ≡ front ++ (first ++ (second ++ rest))
+texts_after front first second rest = simp append_assoc
 
 -- ---- and where no base is held
 
@@ -146,7 +146,7 @@ over_is_read zero_is player_law list_law profile to player list rest codec state
 
 -- ---- the section
 
--- a section that was read behind its operation
+-- a section that was read after its operation
 pub record ReadSection (profile : Profile) (context : Context) (number operation : ℕ) (bits : List Bool) (found : Told × List Bool) : Type 0 where
   pub text : List Bool
   pub spells : SpellsSection profile context number found.0 text
@@ -154,8 +154,8 @@ pub record ReadSection (profile : Profile) (context : Context) (number operation
   pub number_is : HasNumber number found.0
   pub parts : row_bits profile.code ((operation, 8) ∷ []) ++ bits ≡ text ++ found.1
 
--- what stands behind a head that was read
-record ReadBehind (profile : Profile) (context : Context) (number distance : ℕ) (head : SnapHead) (bits : List Bool) (found : Told × List Bool) : Type 0 where
+-- what follows a head that was read
+record ReadAfter (profile : Profile) (context : Context) (number distance : ℕ) (head : SnapHead) (bits : List Bool) (found : Told × List Bool) : Type 0 where
   text : List Bool
   spells : (front : List Bool) → ((to : PlayerState) → SpellsHead profile.code number distance (record head { player = to }) front)
       → SpellsSection profile context number found.0 (front ++ text)
@@ -190,7 +190,7 @@ base_named context number distance (Some base) near held may =
 
 held_is_spelled : (profile : Profile) (context : Context) (number distance : ℕ) (against : Option Base) (head : SnapHead) (bits : List Bool) (found : Told × List Bool)
     → distance < 256 → held_base context (number_of_base number distance) ≡ against → (distance ≡ 0) ⊎ IsSome (held_base context (number_of_base number distance))
-    → ReadStates profile context.baselines against (number_of_base number distance) head bits found → ReadBehind profile context number distance head bits found
+    → ReadStates profile context.baselines against (number_of_base number distance) head bits found → ReadAfter profile context number distance head bits found
 held_is_spelled profile context number distance against head bits found near held may read =
     let base = number_of_base number distance in
     let states = subst (λ (o : Option Base). SpellsStates profile context.baselines o read.to read.entities read.text) (sym held) read.spells in
@@ -224,26 +224,26 @@ held_is_spelled profile context number distance against head bits found near hel
       parts = read.parts;
     }
 
-behind_was_spelled : player.ZeroIsNormal → player.ReadIsSpelled → entity.ListReadIsSpelled → entity.SkippedIsSpelled → (profile : Profile) (context : Context) (number distance : ℕ)
+after_was_spelled : player.ZeroIsNormal → player.ReadIsSpelled → entity.ListReadIsSpelled → entity.SkippedIsSpelled → (profile : Profile) (context : Context) (number distance : ℕ)
     (against : Option Base) (head : SnapHead) (bits : List Bool) (found : Told × List Bool) → distance < 256 → IsCodec profile → IsContext profile context
     → held_base context (number_of_base number distance) ≡ against → against_base profile context distance (number_of_base number distance) against head bits ≡ Ok found
-    → ReadBehind profile context number distance head bits found
-behind_was_spelled zero_is player_law list_law skip_law profile context number distance (Some base) head bits found near codec is held e =
+    → ReadAfter profile context number distance head bits found
+after_was_spelled zero_is player_law list_law skip_law profile context number distance (Some base) head bits found near codec is held e =
     held_is_spelled profile context number distance (Some base) head bits found near held (inr (is_some (held_base context (number_of_base number distance)) base held))
     (states_were_spelled player_law list_law profile context.baselines (Some base) (number_of_base number distance) head bits found codec is.baselines
     (held_is_normal profile context codec is zero_is (number_of_base number distance) (Some base) held) e)
-behind_was_spelled zero_is player_law list_law skip_law profile context number zero None head bits found near codec is held e =
+after_was_spelled zero_is player_law list_law skip_law profile context number zero None head bits found near codec is held e =
     held_is_spelled profile context number 0 None head bits found near held (inl refl)
     (states_were_spelled player_law list_law profile context.baselines None (number_of_base number 0) head bits found codec is.baselines
     (held_is_normal profile context codec is zero_is (number_of_base number 0) None held) e)
-behind_was_spelled zero_is player_law list_law skip_law profile context number (suc less) None head bits found near codec is held e =
+after_was_spelled zero_is player_law list_law skip_law profile context number (suc less) None head bits found near codec is held e =
     let distance = suc less in
     let base = number_of_base number distance in
     let over = bind_ok (snapshot_skipped profile bits) (λ skipped. Ok (Skipped base, skipped.1)) found e in
     let made = over.2 in
     let same : (Skipped base, over.0.1) ≡ found = cc in
     let read = over_was_spelled zero_is player_law skip_law profile bits over.0 codec over.1 in
-    subst (ReadBehind profile context number distance head bits) {x = (Skipped base, over.0.1)} same (record {
+    subst (ReadAfter profile context number distance head bits) {x = (Skipped base, over.0.1)} same (record {
       text = read.player ++ read.list;
       spells = λ front of_head. record {
         distance = distance;
@@ -286,14 +286,14 @@ section_was_spelled put bytes zero_is player_law list_law skip_law profile conte
     let flags_was = field_was put words 8 distance.0.1 flags.0 code flags.1 in
     let area_was = area_was_spelled put bytes words code flags.0.1 area.0 area.1 in
     let snap = head time.0.0 flags.0.0 area.0.0 in
-    let behind = behind_was_spelled zero_is player_law list_law skip_law profile context number distance.0.0 (held_base context (number_of_base number distance.0.0)) snap area.0.1 found
+    let after = after_was_spelled zero_is player_law list_law skip_law profile context number distance.0.0 (held_base context (number_of_base number distance.0.0)) snap area.0.1 found
     distance_was.fits codec is refl area.2 in
     let count = (length area.0.0, 8) ∷ [] in
     let fields = (time.0.0, 32) ∷ (distance.0.0, 8) ∷ (flags.0.0, 8) ∷ count in
     let front = row_bits words ((7, 8) ∷ fields) ++ bytes_row words area.0.0 in
     record {
-      text = front ++ behind.text;
-      spells = behind.spells front (λ to. record {
+      text = front ++ after.text;
+      spells = after.spells front (λ to. record {
         under = refl;
         time = time_was.fits;
         near = distance_was.fits;
@@ -303,7 +303,7 @@ section_was_spelled put bytes zero_is player_law list_law skip_law profile conte
         text = refl;
       });
       is = λ low.
-          behind.is (record {
+          after.is (record {
             number = low;
             time = time_was.fits;
             flags = flags_was.fits;
@@ -311,20 +311,20 @@ section_was_spelled put bytes zero_is player_law list_law skip_law profile conte
             short = area_was.short;
             player = (zero_is profile.player.kinds codec.player.kinds).0;
           }) refl;
-      number_is = behind.number_is refl;
+      number_is = after.number_is refl;
       parts =
           ap (λ (bits : List Bool). row_bits words ((7, 8) ∷ []) ++ bits)
           (time_was.row ((distance.0.0, 8) ∷ (flags.0.0, 8) ∷ count) (bytes_row words area.0.0 ++ area.0.1)
           (distance_was.row ((flags.0.0, 8) ∷ count) (bytes_row words area.0.0 ++ area.0.1) (flags_was.row count (bytes_row words area.0.0 ++ area.0.1) area_was.parts)))
-          ∙ sym (row-behind words 7 8 fields (bytes_row words area.0.0 ++ area.0.1))
+          ∙ sym (row-after words 7 8 fields (bytes_row words area.0.0 ++ area.0.1))
           ∙ sym (append_assoc (row_bits words ((7, 8) ∷ fields)) (bytes_row words area.0.0) area.0.1)
-          ∙ ap (λ (left : List Bool). front ++ left) behind.parts
-          ∙ sym (append_assoc front behind.text found.1);
+          ∙ ap (λ (left : List Bool). front ++ left) after.parts
+          ∙ sym (append_assoc front after.text found.1);
     }
 
 -- ---- a section that is spelled so is read
 
--- the head, and what is behind it
+-- the head, and what follows it
 head_is_read : PutIsRead → BytesAreRead → (profile : Profile) (context : Context) (distance base : ℕ) (snap : SnapHead) (front left : List Bool) → IsCodec profile
     → SpellsHead profile.code snap.number distance snap front → base ≡ number_of_base snap.number distance
     → (bits : List Bool) × (front ≡ row_bits profile.code ((7, 8) ∷ []) ++ bits)
@@ -338,7 +338,7 @@ head_is_read put bytes profile context distance base snap front left codec s nam
     let count = (length snap.area.items, 8) ∷ [] in
     let fields = (snap.time, 32) ∷ (distance, 8) ∷ (snap.flags, 8) ∷ count in (
       row_bits words fields ++ area,
-      s.text ∙ row-behind words 7 8 fields area,
+      s.text ∙ row-after words 7 8 fields area,
       rw (
         append_assoc (row_bits words fields) area left,
         row-first words code put snap.time 32 ((distance, 8) ∷ (snap.flags, 8) ∷ count) (area ++ left) s.time,
@@ -354,7 +354,7 @@ abbrev pub ReadsSection : Profile → Context → ℕ → ℕ → List Bool → 
 ReadsSection profile context number operation bits read =
     ((operation ≡ 2) × (read ≡ game_at profile bits)) ⊎ ((operation ≡ 7) × (read ≡ section_at profile context number bits))
 
--- a section that is spelled behind its operation
+-- a section that is spelled after its operation
 pub record TakenSection (profile : Profile) (context : Context) (number : ℕ) (told : Told) (text rest : List Bool) : Type 0 where
   pub operation : ℕ
   pub fits : operation < 256
@@ -377,12 +377,12 @@ against_none profile context distance base (Some held) head bits rest some none 
 against_none profile context zero base None head bits rest some none over = absurd (omega (arith, some))
 against_none profile context (suc near) base None head bits rest some none over = rw over refl
 
--- a head, and a player and a list that are read behind it
-behind_head : PutIsRead → BytesAreRead → (profile : Profile) (context : Context) (number distance base : ℕ) (snap : SnapHead) (told : Told) (text front player list rest : List Bool) → IsCodec profile
+-- a head, and a player and a list that are read after it
+after_head : PutIsRead → BytesAreRead → (profile : Profile) (context : Context) (number distance base : ℕ) (snap : SnapHead) (told : Told) (text front player list rest : List Bool) → IsCodec profile
     → SpellsHead profile.code number distance snap front → base ≡ number_of_base number distance → text ≡ front ++ player ++ list
     → against_base profile context distance base (held_base context base) (record snap { player = zero_player }) (player ++ (list ++ rest)) ≡ Ok (told, rest)
     → TakenSection profile context number told text rest
-behind_head put bytes profile context number distance base snap told text front player list rest codec s named whole read =
+after_head put bytes profile context number distance base snap told text front player list rest codec s named whole read =
     let of_head = subst (λ (n : ℕ). SpellsHead profile.code n distance snap front) (sym s.under) s in
     let head = head_is_read put bytes profile context distance base snap front (player ++ (list ++ rest)) codec of_head (subst (λ (n : ℕ). base ≡ number_of_base n distance) (sym s.under) named) in
     record {
@@ -394,7 +394,7 @@ behind_head put bytes profile context number distance base snap told text front 
         refl,
         sym (
             subst (λ (n : ℕ). section_at profile context n ((head.0 ++ (player ++ list)) ++ rest) ≡ Ok (told, rest)) s.under
-            (ap (λ (bits : List Bool). section_at profile context snap.number bits) (texts_behind head.0 player list rest) ∙ head.2 ∙ read)
+            (ap (λ (bits : List Bool). section_at profile context snap.number bits) (texts_after head.0 player list rest) ∙ head.2 ∙ read)
             ),
       );
     }
@@ -408,13 +408,13 @@ snapshot_is_read put bytes zero_is player_law list_law profile context number ba
     let states = states_are_read player_law list_law profile context.baselines against base head snap.player entities (s.player ++ s.list) rest codec is.baselines
     (held_is_normal profile context codec is zero_is base against refl)
     (record { player = s.player; list = s.list; state = s.state; of_player = s.of_player; of_list = s.of_list; whole = refl }) in
-    behind_head put bytes profile context number s.distance base snap (Snap base snap entities) text s.head s.player s.list rest codec s.of_head s.named s.whole
+    after_head put bytes profile context number s.distance base snap (Snap base snap entities) text s.head s.player s.list rest codec s.of_head s.named s.whole
     (against_held profile context s.distance base against head (s.player ++ (s.list ++ rest)) s.held
     ∙ ap (λ (bits : List Bool). snapshot_at profile context.baselines against base head bits) (sym (append_assoc s.player s.list rest)) ∙ states)
 
 pub skipped_is_read : PutIsRead → BytesAreRead → player.ZeroIsNormal → player.SpelledIsRead → entity.SpelledIsSkipped → (profile : Profile) (context : Context) (number base : ℕ) (text rest : List Bool)
     → IsCodec profile → SpellsSkippedSnapshot profile context number base text → TakenSection profile context number (Skipped base) text rest
 skipped_is_read put bytes zero_is player_law list_law profile context number base text rest codec s =
-    behind_head put bytes profile context number s.distance base s.snap (Skipped base) text s.head s.player s.list rest codec s.of_head s.named s.whole
+    after_head put bytes profile context number s.distance base s.snap (Skipped base) text s.head s.player s.list rest codec s.of_head s.named s.whole
     (against_none profile context s.distance base (held_base context base) (record s.snap { player = zero_player }) (s.player ++ (s.list ++ rest)) rest s.some s.not_held
     (over_is_read zero_is player_law list_law profile s.snap.player s.player s.list rest codec s.state s.of_player s.of_list))

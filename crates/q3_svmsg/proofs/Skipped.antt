@@ -21,7 +21,7 @@ use Rattle.q3_svmsg.specs.Laws.{IsContext, ReadIsSpelled, SpelledIsRead, ReadIsS
 use Rattle.q3_svmsg.proofs.Held.{IsFrom, held_is_normal}
 use Rattle.q3_svmsg.proofs.SectionSpelled.{none_named}
 
--- a text that reads with nothing behind it is all that was read
+-- a text that reads with nothing after it is all that was read
 all_read : (text read : List Bool) → text ++ [] ≡ read ++ [] → read ≡ text
 all_read text read is = sym (append-nil read) ∙ sym is ∙ append-nil text
 

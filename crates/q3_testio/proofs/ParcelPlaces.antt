@@ -55,7 +55,7 @@ drop_before zero xs ys within = refl
 drop_before (suc n) [] ys within = absurd (omega arith)
 drop_before (suc n) (x ∷ xs) ys within = drop_before n xs ys (omega arith)
 
--- one more, behind those that were found
+-- one more, after those that were found
 pub told_more : (next : ℕ) (ready : List Bool) (parcels : List Parcel) (one : Bool) (parcel : Parcel) → length ready ≡ length parcels → next ≤ length ready
     → drop next (arrivals_of (ready ++ one ∷ []) (parcels ++ parcel ∷ [])) ≡ drop next (arrivals_of ready parcels) ++ found_of one parcel ∷ []
 told_more next ready parcels one parcel e within =

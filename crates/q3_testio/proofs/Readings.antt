@@ -5,7 +5,7 @@ use Rattle.std.proofs.Math.Seq.{drop-drop}
 use Rattle.std.proofs.lemmas.List.{length-drop}
 use Rattle.q3_io.specs.Readings.{reading_of, readings_after, DontFall}
 
--- the first of them, and those behind it: all of them, where it is the last
+-- the first of them, and those after it: all of them, where it is the last
 record Left (last : ℕ) (left : List ℕ) : Type 0 where
   later : last ≤ reading_of left
   more : 1 < length left → (readings_after left ≡ drop 1 left) × DontFall (reading_of left) (drop 1 left)

@@ -6,7 +6,7 @@ use Rattle.q3_io.specs.Written.{Written, Wrote, all_sent}
 some_is : (x y : Written) → Some x ≡ Some y → x ≡ y
 some_is x y e = cc
 
--- bytes behind those of it
+-- bytes after those of it
 pub sent_more : (sent now text : List ℕ) → now ≡ sent ++ text → Wrote (Some (all_sent sent)) (Some (all_sent now)) text true
 sent_more sent now text is = record {
   untold = λ e. absurd cc;

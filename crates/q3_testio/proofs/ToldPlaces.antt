@@ -27,7 +27,7 @@ unfolding contents_of
 missing [] name h = refl
 missing (file ∷ files) name h = grind (arith, missing files name)
 
--- a new file stands behind the others
+-- a new file stands after the others
 pub put_new : (files : List File) (name bytes : List ℕ) → contents_of files name ≡ None → with_contents files name bytes ≡ files ++ record { name = name; contents = bytes } ∷ []
 unfolding contents_of with_contents
 put_new [] name bytes h = refl

@@ -5,7 +5,7 @@ use std::alloc::{AllocError, Global};
 use std::process::Abort;
 use std::test::*;
 
-/// Puts the bits of a byte behind a text, least first.
+/// Puts the bits of a byte after a text, least first.
 fn push_bits(text: &mut String, byte: u8) -> Result<(), AllocError> {
     for k in 0..8u32 {
         text.push(if (byte >> k) % 2 == 1 { '1' } else { '0' })?;
@@ -13,8 +13,8 @@ fn push_bits(text: &mut String, byte: u8) -> Result<(), AllocError> {
     Ok(())
 }
 
-/// These texts, and behind them plain ones up to 256.
-fn plain_behind(alloc: Global, first: &[&str]) -> Result<Vec<String>, AllocError> {
+/// These texts, followed by plain ones up to 256.
+fn plain_after(alloc: Global, first: &[&str]) -> Result<Vec<String>, AllocError> {
     let mut texts = Vec::new(alloc);
     for text in first {
         texts.push(String::from_str(alloc, text)?)?;
@@ -55,7 +55,7 @@ fn code_of(alloc: Global, texts: &[String]) -> Result<Code, CodeError> {
 
 /// A code that begins with these words has this fault.
 fn has_fault(rt: &impl Abort, alloc: Global, first: &[&str], fault: Option<CodeError>) {
-    let texts = plain_behind(alloc, first).expect(rt, "memory");
+    let texts = plain_after(alloc, first).expect(rt, "memory");
     assert_eq!(rt; code_of(alloc, &texts).err(), fault);
 }
 

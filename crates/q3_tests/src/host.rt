@@ -4,7 +4,7 @@ use q3_io::{Failed, Files, HostFiles};
 use std::process::Abort;
 use std::test::*;
 
-/// Makes the file `log` and puts bytes behind one another into it. Answers whether it can't be read under this number.
+/// Makes the file `log` and puts bytes one after another into it. Answers whether it can't be read under this number.
 fn write_log(files: &mut impl Files) -> Result<bool, Failed> {
     let log = files.create("log")?;
     files.append(log, b"one ")?;
@@ -50,7 +50,7 @@ fn size_of_new(files: &mut impl Files, bytes: &[u8]) -> Result<u64, Failed> {
 }
 
 /// What is read of the file `long` where no file ends.
-fn read_far_behind(files: &mut impl Files) -> Result<usize, Failed> {
+fn read_far_after(files: &mut impl Files) -> Result<usize, Failed> {
     let file = files.lookup("long")?;
     files.read_at(file, u64::MAX, &mut [0; 4])
 }
@@ -60,7 +60,7 @@ fn a_long_file_of_the_system(rt: HostRuntime) {
     let long = vec![in rt.alloc(); b'.'; 2_000].expect(&rt, "memory");
     let mut files = HostFiles::new(rt.alloc(), &rt).expect(&rt, "memory");
     assert_eq!(rt; size_of_new(&mut files, &long), Ok(2_000));
-    assert_eq!(rt; read_far_behind(&mut files), Err(Failed));
+    assert_eq!(rt; read_far_after(&mut files), Err(Failed));
 }
 
 /// Whether bytes are put into a file of this name.

@@ -35,7 +35,7 @@ fn serve<W: Wire, C: Clock, O: Sink>(
 
 const ALONE: &[u8] = b"client 0 17 5000 1 10.0.0.1:27960\nserve 0\nend 5\n";
 
-/// The `end` is due five milliseconds behind the first reading; nothing arrives.
+/// The `end` is due five milliseconds after the first reading; nothing arrives.
 #[test]
 fn a_server_sends_to_its_client(rt: HostRuntime) {
     let mut wire = MemWire::new(rt.alloc(), 0, 2, 64, &[]).expect(&rt, "memory");

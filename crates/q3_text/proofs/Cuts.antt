@@ -23,7 +23,7 @@ some_parts parts = Some parts
 abbrev no_parts : Option (List ℕ × List ℕ)
 no_parts = None
 
--- a text that was cut is what stood before and behind the byte
+-- a text that was cut is what stood before and after the byte
 pub cut-spelled : (byte : ℕ) (text : List ℕ) (parts : List ℕ × List ℕ) → cut_at byte text ≡ Some parts → text ≡ parts.0 ++ byte ∷ parts.1
 unfolding cut_at
 cut-spelled byte text parts e =
@@ -57,7 +57,7 @@ cut-lacks byte text parts e =
       | inr outside ↦ let nothing : no_parts ≡ some_parts parts = rw outside at e in absurd cc
     ]
 
--- the place of a byte behind a text without it
+-- the place of a byte after a text without it
 place-again : (byte : ℕ) (front rest : List ℕ) → lacks byte front ≡ true → position_or_len (is_byte byte) (front ++ byte ∷ rest) ≡ length front
 place-again byte [] rest none = rw (eq-eqb byte byte refl) refl
 place-again byte (x ∷ front) rest none =
@@ -69,7 +69,7 @@ drop_past : (byte : ℕ) (front rest : List ℕ) → drop (suc (length front)) (
 drop_past byte [] rest = refl
 drop_past byte (x ∷ front) rest = drop_past byte front rest
 
--- and a byte behind a text without it is where that is cut
+-- and a byte after a text without it is where that is cut
 pub cut-again : (byte : ℕ) (front rest : List ℕ) → lacks byte front ≡ true → cut_at byte (front ++ byte ∷ rest) ≡ Some (front, rest)
 unfolding cut_at
 cut-again byte front rest none =

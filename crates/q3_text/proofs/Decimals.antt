@@ -48,7 +48,7 @@ none_above low high word i lt =
     let above : high < value_of word = omega (arith, value_of-take-le word i) in
     sym (cond-false _ _ _ (and_right _ _ (lt-leb _ _ above)))
 
--- digits alone begin with one that is more than 0, or have no others behind it
+-- digits alone begin with one that is more than 0, or have no others after it
 decimal_head : (word : List ℕ) → 0 < length word → list_all is_digit word ≡ true → (1 < length word → get_or word 0 0 ≡ 48 → ⊥) → (leb (length word) 1 || ltb 48 (get_or word 0 0)) ≡ true
 decimal_head [] lt digits no_zero = absurd (omega arith)
 decimal_head (x ∷ []) lt digits no_zero = or_left _ (ltb 48 x) (le-leb 1 1 (omega arith))

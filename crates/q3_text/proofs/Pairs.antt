@@ -6,7 +6,7 @@ use Rattle.q3_text.specs.Info.{parts_of, paired, value_in}
 abbrev no_value : Option (List ℕ)
 no_value = None
 
--- the first pair decides, or those behind it
+-- the first pair decides, or those after it
 pub value-next : (name value key : List ℕ) (others : List (List ℕ)) → value_in (paired (name ∷ value ∷ others)) key ≡ cond (bytes_eq name key) (Some value) (value_in (paired others) key)
 unfolding paired value_in
 value-next name value key others = refl
@@ -16,12 +16,12 @@ pub value-last : (name key : List ℕ) → value_in (paired (name ∷ [])) key �
 unfolding paired value_in
 value-last name key = refl
 
--- and behind the last pair there is none
+-- and after the last pair there is none
 pub value-none : (key : List ℕ) → value_in (paired []) key ≡ no_value
 unfolding paired value_in
 value-none key = refl
 
--- the first pair of a text decides, or those behind it
+-- the first pair of a text decides, or those after it
 pub found-next : (text name middle value key : List ℕ) (others : List (List ℕ)) (said : Option (List ℕ)) → value_in (paired (parts_of text)) key ≡ said
     → parts_of text ≡ name ∷ parts_of middle → parts_of middle ≡ value ∷ others → cond (bytes_eq name key) (Some value) (value_in (paired others) key) ≡ said
 found-next text name middle value key others said is cut next =

@@ -4,18 +4,18 @@ use Rattle.std.specs.List.{slice_split}
 use Rattle.std.specs.Str.{bytes_eq}
 
 -- the text without the backslash that it may begin with
-abbrev pub behind_backslash : List ℕ → List ℕ
-behind_backslash [] = []
-behind_backslash (byte ∷ text) = if byte == 92 then text else byte ∷ text
+abbrev pub after_backslash : List ℕ → List ℕ
+after_backslash [] = []
+after_backslash (byte ∷ text) = if byte == 92 then text else byte ∷ text
 
 -- the parts of a text, cut at each backslash
 abbrev pub parts_of : List ℕ → List (List ℕ)
 parts_of text = slice_split (λ byte. byte == 92) text
 
 -- the parts after a backslash, or none where a part is the last
-abbrev pub parts_behind : Option (List ℕ) → List (List ℕ)
-parts_behind None = []
-parts_behind (Some text) = parts_of text
+abbrev pub parts_after : Option (List ℕ) → List (List ℕ)
+parts_after None = []
+parts_after (Some text) = parts_of text
 
 -- each key with the value after it; a last key with no backslash after it has none
 unfoldable pub paired : List (List ℕ) → List (List ℕ × List ℕ)
@@ -24,7 +24,7 @@ paired others = []
 
 -- the pairs of an info string
 unfoldable pub info_pairs : List ℕ → List (List ℕ × List ℕ)
-info_pairs text = paired (parts_of (behind_backslash text))
+info_pairs text = paired (parts_of (after_backslash text))
 
 -- the value of the first pair with this key
 unfoldable pub value_in : List (List ℕ × List ℕ) → List ℕ → Option (List ℕ)

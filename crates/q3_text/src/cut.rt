@@ -8,7 +8,7 @@ ghost use Rattle.q3_text.specs.Cuts.{cut_at};
 pub fn cut_at(text: &[u8], byte: u8) -> Option<(&[u8], &[u8])>
     ensures cut { option_map (λ parts. (parts.0.now, parts.1.now)) result ≡ cut_at byte text.now }
     ensures before { IfSome result (λ parts. length parts.0.now ≤ length text.now) }
-    ensures behind { IfSome result (λ parts. length parts.1.now ≤ length text.now) }
+    ensures after { IfSome result (λ parts. length parts.1.now ≤ length text.now) }
 {
     let place = place_of(byte, text)?;
     Some((&text[..place], &text[place + 1..]))

@@ -2,7 +2,7 @@
 //! Keeps the rule "info strings and the server id", the engine's `Info_ValueForKey` (q_shared.c).
 
 ghost use Rattle.std.specs.Prelude.{◌≡◌, ◌<◌, ◌∷◌, length, option_map, IfSome};
-ghost use Rattle.q3_text.specs.Info.{behind_backslash, parts_of, parts_behind, info_of};
+ghost use Rattle.q3_text.specs.Info.{after_backslash, parts_of, parts_after, info_of};
 
 use crate::cut::place_of;
 
@@ -13,19 +13,19 @@ pub fn info_value<'a>(text: &'a [u8], key: &[u8]) -> Option<&'a [u8]>
 {
     let mut left = Some(after_backslash(text));
     while let Some(pairs) = left {
-        let (name, behind) = first_part(pairs);
-        let (value, behind) = first_part(behind?);
+        let (name, after) = first_part(pairs);
+        let (value, after) = first_part(after?);
         if name == key {
             return Some(value);
         }
-        left = behind;
+        left = after;
     }
     None
 }
 
 /// The text without the backslash that it may begin with.
 fn after_backslash(text: &[u8]) -> &[u8]
-    ensures { result.now ≡ behind_backslash text.now }
+    ensures { result.now ≡ after_backslash text.now }
 {
     match text {
         [b'\\', rest @ ..] => rest,
@@ -35,7 +35,7 @@ fn after_backslash(text: &[u8]) -> &[u8]
 
 /// What stands before the first backslash, or the whole text, and what follows it.
 fn first_part(text: &[u8]) -> (&[u8], Option<&[u8]>)
-    ensures parts { parts_of text.now ≡ result.0.now ∷ parts_behind (option_map (λ rest. rest.now) result.1) }
+    ensures parts { parts_of text.now ≡ result.0.now ∷ parts_after (option_map (λ rest. rest.now) result.1) }
     ensures shorter { IfSome result.1 (λ rest. length rest.now < length text.now) }
 {
     match place_of(b'\\', text) {

@@ -53,14 +53,14 @@ new_are_kept cells count = record {
 abbrev issuing : OutgoingState → ℕ → Issuing
 issuing window issued = record { window = window; answer = Ok (issued + 1) }
 
-abbrev pub put_behind : List Command → ℕ → List ℕ → List Command
-put_behind cells issued text = set cells ((issued + 1) % places) (record { number = issued + 1; text = text })
+abbrev pub put_after : List Command → ℕ → List ℕ → List Command
+put_after cells issued text = set cells ((issued + 1) % places) (record { number = issued + 1; text = text })
 
 pub issued_is : (cells : List Command) (acknowledged issued : ℕ) (text : List ℕ) → length cells ≡ places → acknowledged ≤ issued → issued < acknowledged + most_waiting
-    → window_of (put_behind cells issued text) acknowledged (issued + 1)
+    → window_of (put_after cells issued text) acknowledged (issued + 1)
     ≡ record { acknowledged = acknowledged; text = kept_text cells acknowledged; waiting = texts_from cells (acknowledged + 1) (issued - acknowledged) ++ text ∷ [] }
 issued_is cells acknowledged issued text count within few =
-    let new = put_behind cells issued text in
+    let new = put_after cells issued text in
     let waiting : ℕ = issued - acknowledged in
     let command : Command = record { number = issued + 1; text = text } in
     let more : issued + 1 - acknowledged ≡ waiting + 1 = omega arith in
@@ -79,7 +79,7 @@ issued_is cells acknowledged issued text count within few =
     ∙ ap (λ (texts : List (List ℕ)). record { acknowledged = acknowledged; text = kept_text cells acknowledged; waiting = texts }) all
 
 pub issue_is : (cells new : List Command) (acknowledged issued : ℕ) (text : List ℕ) → length cells ≡ places → acknowledged ≤ issued
-    → fits (window_of cells acknowledged issued) 1 (length text) ≡ true → new ≡ put_behind cells issued text
+    → fits (window_of cells acknowledged issued) 1 (length text) ≡ true → new ≡ put_after cells issued text
     → issue_at (window_of cells acknowledged issued) text ≡ record { window = window_of new acknowledged (issued + 1); answer = Ok (issued + 1) }
 issue_is cells new acknowledged issued text count within fit is =
     let window = window_of cells acknowledged issued in
@@ -109,9 +109,9 @@ issued_is_outgoing window text is is_text room =
 
 pub issued_are_kept : (cells : List Command) (acknowledged issued bytes : ℕ) (text : List ℕ) → AreKept cells acknowledged issued bytes → IsText text
     → HasRoom (window_of cells acknowledged issued) 1 (length text)
-    → AreKept (put_behind cells issued text) acknowledged (issued + 1) (bytes + length text)
+    → AreKept (put_after cells issued text) acknowledged (issued + 1) (bytes + length text)
 issued_are_kept cells acknowledged issued bytes text kept is_text room =
-    let new = put_behind cells issued text in
+    let new = put_after cells issued text in
     let window = window_of cells acknowledged issued in
     let command : Command = record { number = issued + 1; text = text } in
     let within = kept.within in

@@ -28,7 +28,7 @@ unfolding numbered
 texts_are first [] = refl
 texts_are first (text ∷ texts) = ap (λ (others : List (List ℕ)). text ∷ others) (texts_are (first + 1) texts)
 
--- the first so many, and behind them what is left of some more
+-- the first so many, and after them what is left of some more
 pub front_and_more : (d n : ℕ) (xs : List (List ℕ)) → d ≤ length xs → n ≤ length xs → take d xs ++ drop d (take n xs) ≡ take (max d n) xs
 front_and_more zero n xs few most = let is : n ≡ max 0 n = omega arith in ap (λ (k : ℕ). take k xs) is
 front_and_more (suc d) zero xs few most =
@@ -62,7 +62,7 @@ stands_more window issued more stands =
 
 -- ---- numbers that rise
 
--- one more behind numbers that rise, no less than any of them
+-- one more after numbers that rise, no less than any of them
 pub rises_on : (old new : ℕ → ℕ) (count : ℕ) → ((n : ℕ) → n ≤ count → new n ≡ old n) → ((n : ℕ) → n ≤ count → old n ≤ new (count + 1))
     → ((j k : ℕ) → j ≤ k → k ≤ count → old j ≤ old k) → (j k : ℕ) → j ≤ k → k ≤ count + 1 → new j ≤ new k
 rises_on old new count stays greatest rises j k le few = elim (cases_lt count k) [

@@ -21,7 +21,7 @@ pub texts_from-one : (cells : List Command) (first : ℕ) → texts_from cells f
 unfolding texts_from
 texts_from-one cells first = refl
 
--- the last acknowledged one and those behind it
+-- the last acknowledged one and those after it
 pub texts_from-cons : (cells : List Command) (first count : ℕ) → texts_from cells first (count + 1) ≡ kept_text cells first ∷ texts_from cells (first + 1) count
 unfolding texts_from
 texts_from-cons cells first count = ap (texts_from cells first) (add-one count)
@@ -67,9 +67,9 @@ pub same-texts_from : (cells new : List Command) (first count : ℕ)
 unfolding texts_from
 same-texts_from cells new first zero same = refl
 same-texts_from cells new first (suc count) same =
-    let behind = same-texts_from cells new (first + 1) count (λ number least below. same number (omega arith) (omega arith)) in
+    let after = same-texts_from cells new (first + 1) count (λ number least below. same number (omega arith) (omega arith)) in
     ap (λ (text : List ℕ). text ∷ texts_from new (first + 1) count) (same first (omega arith) (omega arith))
-    ∙ ap (λ (texts : List (List ℕ)). kept_text cells first ∷ texts) behind
+    ∙ ap (λ (texts : List (List ℕ)). kept_text cells first ∷ texts) after
 
 -- ---- a command is put into its place
 
@@ -116,24 +116,24 @@ commands-numbered : (cells : List Command) (first count : ℕ) → 0 < first
 unfolding commands_from texts_from numbered
 commands-numbered cells first zero some numbers = refl
 commands-numbered cells first (suc count) some numbers =
-    let behind = commands-numbered cells (first + 1) count (omega arith) (λ number least below. numbers number (omega arith) (omega arith)) in
+    let after = commands-numbered cells (first + 1) count (omega arith) (λ number least below. numbers number (omega arith) (omega arith)) in
     let commands : List Command = commands_from cells (first + 1) count in
     ap (λ (number : ℕ). record { number = number; text = (cell_at cells first).text } ∷ commands) (numbers first (omega arith) (omega arith))
     ∙ ap (λ (text : List ℕ). record { number = first; text = text } ∷ commands) (sym (kept_text-cell cells first some))
-    ∙ ap (λ (commands : List Command). record { number = first; text = kept_text cells first } ∷ commands) behind
+    ∙ ap (λ (commands : List Command). record { number = first; text = kept_text cells first } ∷ commands) after
 
--- as far as the last place they stand behind one another
+-- as far as the last place they stand one after another
 commands-within : (cells : List Command) (q place count first : ℕ) → length cells ≡ places → place + count ≤ places → first ≡ places * q + place
     → commands_from cells first count ≡ take count (drop place cells)
 unfolding commands_from
 commands-within cells q place zero first whole within is = refl
 commands-within cells q place (suc count) first whole within is =
     let at : first % places ≡ place = omega arith in
-    let behind = commands-within cells q (place + 1) count (first + 1) whole (omega arith) (omega arith) in
+    let after = commands-within cells q (place + 1) count (first + 1) whole (omega arith) (omega arith) in
     let here : drop place cells ≡ get_or cells place blank ∷ drop (place + 1) cells =
     drop-cons cells place blank (omega arith) ∙ ap (λ (k : ℕ). get_or cells place blank ∷ drop k cells) (sym (add-one place)) in
     ap (λ (k : ℕ). get_or cells k blank ∷ commands_from cells (first + 1) count) at
-    ∙ ap (λ (commands : List Command). get_or cells place blank ∷ commands) behind
+    ∙ ap (λ (commands : List Command). get_or cells place blank ∷ commands) after
     ∙ sym (ap (take (suc count)) here)
 
 -- in one piece
@@ -144,18 +144,18 @@ run_within cells first count whole some within numbers =
     sym (commands-within cells (first / places) (first % places) count first whole within (omega arith)) ∙ commands-numbered cells first count some numbers
 
 -- in two pieces
-pub run_past : (cells : List Command) (first count behind : ℕ) → length cells ≡ places → 0 < first → behind ≡ places - first % places → behind < count
+pub run_past : (cells : List Command) (first count after : ℕ) → length cells ≡ places → 0 < first → after ≡ places - first % places → after < count
     → count ≤ places
     → ((number : ℕ) → first ≤ number → number < first + count → (cell_at cells number).number ≡ number)
-    → drop (first % places) cells ++ take (count - behind) cells ≡ numbered first (texts_from cells first count)
-run_past cells first count behind whole some is past few numbers =
-    let one = commands-within cells (first / places) (first % places) behind first whole (omega arith) (omega arith) in
-    let two = commands-within cells (first / places + 1) 0 (count - behind) (first + behind) whole (omega arith) (omega arith) in
-    let all : behind + (count - behind) ≡ count = omega arith in
-    let rest : take behind (drop (first % places) cells) ≡ drop (first % places) cells =
-    take_all behind (drop (first % places) cells) (omega (arith, length-drop (first % places) cells)) in
-    sym (sym (ap (commands_from cells first) all) ∙ commands_from-add cells first behind (count - behind)
-    ∙ ap (λ (commands : List Command). commands ++ commands_from cells (first + behind) (count - behind)) (one ∙ rest)
+    → drop (first % places) cells ++ take (count - after) cells ≡ numbered first (texts_from cells first count)
+run_past cells first count after whole some is past few numbers =
+    let one = commands-within cells (first / places) (first % places) after first whole (omega arith) (omega arith) in
+    let two = commands-within cells (first / places + 1) 0 (count - after) (first + after) whole (omega arith) (omega arith) in
+    let all : after + (count - after) ≡ count = omega arith in
+    let rest : take after (drop (first % places) cells) ≡ drop (first % places) cells =
+    take_all after (drop (first % places) cells) (omega (arith, length-drop (first % places) cells)) in
+    sym (sym (ap (commands_from cells first) all) ∙ commands_from-add cells first after (count - after)
+    ∙ ap (λ (commands : List Command). commands ++ commands_from cells (first + after) (count - after)) (one ∙ rest)
     ∙ ap (λ (commands : List Command). drop (first % places) cells ++ commands) two)
     ∙ commands-numbered cells first count some numbers
 
@@ -189,11 +189,11 @@ lent_within cells lent first count is whole some within numbers =
     ∙ run_within cells first count whole some within numbers
 
 -- and in two
-pub lent_past : (cells lent other : List Command) (first count behind : ℕ) → lent ≡ cells → other ≡ cells → length cells ≡ places → 0 < first
-    → behind ≡ places - first % places → behind < count → count ≤ places
+pub lent_past : (cells lent other : List Command) (first count after : ℕ) → lent ≡ cells → other ≡ cells → length cells ≡ places → 0 < first
+    → after ≡ places - first % places → after < count → count ≤ places
     → ((number : ℕ) → first ≤ number → number < first + count → (cell_at cells number).number ≡ number)
-    → take (length lent - first % places) (drop (first % places) lent) ++ take (count - behind) other ≡ numbered first (texts_from cells first count)
-lent_past cells lent other first count behind is other_is whole some behind_is past few numbers =
-    ap (λ (commands : List Command). commands ++ take (count - behind) other) (take_rest lent (first % places) ∙ ap (drop (first % places)) is)
-    ∙ ap (λ (commands : List Command). drop (first % places) cells ++ take (count - behind) commands) other_is
-    ∙ run_past cells first count behind whole some behind_is past few numbers
+    → take (length lent - first % places) (drop (first % places) lent) ++ take (count - after) other ≡ numbered first (texts_from cells first count)
+lent_past cells lent other first count after is other_is whole some rest_is past few numbers =
+    ap (λ (commands : List Command). commands ++ take (count - after) other) (take_rest lent (first % places) ∙ ap (drop (first % places)) is)
+    ∙ ap (λ (commands : List Command). drop (first % places) cells ++ take (count - after) commands) other_is
+    ∙ run_past cells first count after whole some rest_is past few numbers

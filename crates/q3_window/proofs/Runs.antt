@@ -6,7 +6,7 @@ use Rattle.std.proofs.lemmas.List.{drop_all, drop_more}
 use Rattle.std.proofs.lemmas.Option.{slice_get-get_or}
 use Rattle.q3_text.specs.declared.text.Command.{Command}
 use Rattle.q3_text.specs.Commands.{numbered}
-use Rattle.q3_window.specs.Incoming.{IncomingState, Taking, executing, take_at, take_any_at, fresh_of, gap_in, behind, executes}
+use Rattle.q3_window.specs.Incoming.{IncomingState, Taking, executing, take_at, take_any_at, fresh_of, gap_in, executed_all, executes}
 use Rattle.q3_window.specs.Issued.{issued_text, carried_of}
 use Rattle.q3_window.specs.Executed.{IncomingStandsFor, takes, takes_any, RiseAbove}
 use Rattle.q3_window.specs.Laws.{CarriedAreExecuted, TakenAreExecuted, TakenWithoutGap, ExecutedRise}
@@ -69,11 +69,11 @@ runs_on (suc more) first executed (text ∷ texts) is =
       fresh = fresh_known executed command commands (omega arith) ∙ rest.fresh;
     }
 
-stands_behind : (window : IncomingState) (texts more : List (List ℕ)) → IncomingStandsFor window texts
-    → IncomingStandsFor (behind window (numbered (length texts + 1) more)) (texts ++ more)
-unfolding behind numbered
-stands_behind window texts [] stands = subst (IncomingStandsFor window) (sym (append-nil texts)) stands
-stands_behind window texts (text ∷ more) stands =
+stands_after : (window : IncomingState) (texts more : List (List ℕ)) → IncomingStandsFor window texts
+    → IncomingStandsFor (executed_all window (numbered (length texts + 1) more)) (texts ++ more)
+unfolding executed_all numbered
+stands_after window texts [] stands = subst (IncomingStandsFor window) (sym (append-nil texts)) stands
+stands_after window texts (text ∷ more) stands =
     let command : Command = record { number = length texts + 1; text = text } in
     let count : length (texts ++ text ∷ []) ≡ length texts + 1 = length-append texts (text ∷ []) in
     let at : length (texts ++ text ∷ []) ≡ suc (length texts) = count ∙ add-one (length texts) in
@@ -81,10 +81,10 @@ stands_behind window texts (text ∷ more) stands =
       executed = sym count;
       last = sym (ap (issued_text (texts ++ text ∷ [])) at ∙ get_or-append_seam texts text [] []);
     } in
-    let rest = stands_behind (executing command) (texts ++ text ∷ []) more one in
-    let same : behind (executing command) (numbered (length (texts ++ text ∷ []) + 1) more) ≡ behind (executing command) (numbered (length texts + 1 + 1) more) =
-    ap (λ (k : ℕ). behind (executing command) (numbered (k + 1) more)) count in
-    subst (IncomingStandsFor (behind (executing command) (numbered (length texts + 1 + 1) more))) (append_assoc texts (text ∷ []) more)
+    let rest = stands_after (executing command) (texts ++ text ∷ []) more one in
+    let same : executed_all (executing command) (numbered (length (texts ++ text ∷ []) + 1) more) ≡ executed_all (executing command) (numbered (length texts + 1 + 1) more) =
+    ap (λ (k : ℕ). executed_all (executing command) (numbered (k + 1) more)) count in
+    subst (IncomingStandsFor (executed_all (executing command) (numbered (length texts + 1 + 1) more))) (append_assoc texts (text ∷ []) more)
     (subst (λ (window : IncomingState). IncomingStandsFor window ((texts ++ text ∷ []) ++ more)) same rest)
 
 all_taken : (issued : List (List ℕ)) (executed last : ℕ) → last ≤ length issued → take executed issued ++ drop executed (take last issued) ≡ take (max executed last) issued
@@ -111,9 +111,9 @@ carried_are_executed issued window acknowledged last executed above within most 
     ∙ ap (λ (k : ℕ). drop k (take last issued)) (let e : acknowledged + (executed - acknowledged) ≡ executed = omega arith in e) in
     let fresh : fresh_of window.executed commands ≡ numbered (executed + 1) (drop executed (take last issued)) =
     ap (λ (k : ℕ). fresh_of k commands) here ∙ runs.fresh ∙ ap (numbered (executed + 1)) rest in
-    let more = stands_behind window (take executed issued) (drop executed (take last issued)) stands in
-    let same : behind window (numbered (length (take executed issued) + 1) (drop executed (take last issued))) ≡ executes window commands =
-    ap (λ (k : ℕ). behind window (numbered (k + 1) (drop executed (take last issued)))) count ∙ ap (behind window) (sym fresh) in (
+    let more = stands_after window (take executed issued) (drop executed (take last issued)) stands in
+    let same : executed_all window (numbered (length (take executed issued) + 1) (drop executed (take last issued))) ≡ executes window commands =
+    ap (λ (k : ℕ). executed_all window (numbered (k + 1) (drop executed (take last issued)))) count ∙ ap (executed_all window) (sym fresh) in (
       ap (λ (k : ℕ). gap_in k commands) here ∙ runs.no_gap,
       fresh,
       subst (IncomingStandsFor (executes window commands)) (all_taken issued executed last most)
@@ -137,19 +137,19 @@ take_next window command next =
     ∙ cond-false (ltb (window.executed + 1) command.number) _ _ (le-ltb (window.executed + 1) command.number (omega arith)))
 
 pub taken_are_executed : TakenAreExecuted
-unfolding takes_any behind fresh_of
+unfolding takes_any executed_all fresh_of
 taken_are_executed window [] = refl
 taken_are_executed window (command ∷ commands) = elim (cases_lt window.executed command.number) [
   | inl new ↦
       ap (λ (window : IncomingState). takes_any window commands) (any_new window command new) ∙ taken_are_executed (executing command) commands
-      ∙ sym (ap (behind window) (fresh_new window.executed command commands new))
+      ∙ sym (ap (executed_all window) (fresh_new window.executed command commands new))
   | inr known ↦
       ap (λ (window : IncomingState). takes_any window commands) (any_known window command known) ∙ taken_are_executed window commands
-      ∙ sym (ap (behind window) (fresh_known window.executed command commands known))
+      ∙ sym (ap (executed_all window) (fresh_known window.executed command commands known))
 ]
 
 pub taken_without_gap : TakenWithoutGap
-unfolding takes behind fresh_of
+unfolding takes executed_all fresh_of
 taken_without_gap window [] none = refl
 taken_without_gap window (command ∷ commands) none = elim (cases_lt window.executed command.number) [
   | inl new ↦ elim (cases_lt (window.executed + 1) command.number) [
@@ -158,12 +158,12 @@ taken_without_gap window (command ∷ commands) none = elim (cases_lt window.exe
         let is : command.number ≡ window.executed + 1 = omega arith in
         ap (λ (window : IncomingState). takes window commands) (take_next window command is)
         ∙ taken_without_gap (executing command) commands (sym (gap_next window.executed command commands is) ∙ none)
-        ∙ sym (ap (behind window) (fresh_new window.executed command commands new))
+        ∙ sym (ap (executed_all window) (fresh_new window.executed command commands new))
   ]
   | inr known ↦
       ap (λ (window : IncomingState). takes window commands) (take_known window command known)
       ∙ taken_without_gap window commands (sym (gap_known window.executed command commands known) ∙ none)
-      ∙ sym (ap (behind window) (fresh_known window.executed command commands known))
+      ∙ sym (ap (executed_all window) (fresh_known window.executed command commands known))
 ]
 
 pub executed_rise : ExecutedRise
@@ -182,24 +182,24 @@ pub item_is : (commands : List Command) (place : ℕ) (command : Command) → pl
 item_is commands place command within is =
     drop_more commands place command within ∙ ap (λ (command : Command). command ∷ drop (place + 1) commands) (sym is)
 
--- the window behind commands is that of the last one
-behind_from : (window : IncomingState) (commands : List Command) (command : Command) → slice_get commands (length commands - 1) ≡ Some command
-    → behind window commands ≡ executing command
-unfolding behind
-behind_from window [] command is = let never : ◌≡◌ {A = Option Command} None (Some command) = is in cc
-behind_from window (one ∷ []) command is = let same : one ≡ command = cc in ap executing same
-behind_from window (one ∷ two ∷ commands) command is =
+-- the window after commands is that of the last one
+after_from : (window : IncomingState) (commands : List Command) (command : Command) → slice_get commands (length commands - 1) ≡ Some command
+    → executed_all window commands ≡ executing command
+unfolding executed_all
+after_from window [] command is = let never : ◌≡◌ {A = Option Command} None (Some command) = is in cc
+after_from window (one ∷ []) command is = let same : one ≡ command = cc in ap executing same
+after_from window (one ∷ two ∷ commands) command is =
     let at : length (one ∷ two ∷ commands) - 1 ≡ suc (length (two ∷ commands) - 1) = omega arith in
-    behind_from (executing one) (two ∷ commands) command (sym (ap (slice_get (one ∷ two ∷ commands)) at) ∙ is)
+    after_from (executing one) (two ∷ commands) command (sym (ap (slice_get (one ∷ two ∷ commands)) at) ∙ is)
 
 pub executes_some : (window : IncomingState) (commands ran : List Command) (command : Command) → ran ≡ fresh_of window.executed commands
     → slice_get ran (length ran - 1) ≡ Some command → executing command ≡ executes window commands
-executes_some window commands ran command is last = sym (ap (behind window) (sym is) ∙ behind_from window ran command last)
+executes_some window commands ran command is last = sym (ap (executed_all window) (sym is) ∙ after_from window ran command last)
 
 pub executes_none : (window : IncomingState) (commands ran : List Command) → ran ≡ fresh_of window.executed commands
     → slice_get ran (length ran - 1) ≡ None → window ≡ executes window commands
-unfolding behind
-executes_none window commands [] is last = ap (behind window) is
+unfolding executed_all
+executes_none window commands [] is last = ap (executed_all window) is
 executes_none window commands (one ∷ others) is last =
     let some = slice_get-get_or (one ∷ others) (length (one ∷ others) - 1) one (omega arith) in
     let never : ◌≡◌ {A = Option Command} (Some (get_or (one ∷ others) (length (one ∷ others) - 1) one)) None = sym some ∙ last in

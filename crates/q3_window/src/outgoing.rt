@@ -167,8 +167,8 @@ impl Outgoing {
     {
         let count = (self.issued - self.acknowledged) as usize;
         let start = ((self.acknowledged + 1) % PLACES) as usize;
-        let behind = self.cells.len() - start;
-        if count <= behind {
+        let after = self.cells.len() - start;
+        if count <= after {
             return CommandRun {
                 head: &self.cells[start..][..count],
                 tail: &[],
@@ -176,7 +176,7 @@ impl Outgoing {
         }
         CommandRun {
             head: &self.cells[start..],
-            tail: &self.cells[..count - behind],
+            tail: &self.cells[..count - after],
         }
     }
 }

@@ -11,11 +11,11 @@ use Rattle.q3_text.specs.Texts.{most_bytes, text_fault, text_of}
 use Rattle.q3_words.specs.declared.cause.LineCause.{LineCause}
 use Rattle.q3_words.specs.declared.cause.LineCause.TheVariants as causes
 use Rattle.q3_bits.specs.ResultBind.{◌>>=◌}
-use Rattle.q3_words.specs.Words.{behind}
+use Rattle.q3_words.specs.Words.{after_prefix}
 use Rattle.q3_words.specs.Quotes.{front_at, bytes_at, unquoted_at, few_at, text_at, text_word}
 use Rattle.q3_words.proofs.Unquoted.{some_bytes, no_bytes}
 
--- bytes with others behind them, if there are such
+-- bytes with others after them, if there are such
 abbrev with_front : List ℕ → Option (List ℕ) → Option (List ℕ)
 with_front bytes others = option_map (λ others. bytes ++ others) others
 
@@ -34,13 +34,13 @@ nothing_before : (o : Option (List ℕ)) → o ≡ with_front [] o
 nothing_before (Some bytes) = refl
 nothing_before None = refl
 
--- behind the first quote nothing was read
-pub begins : (word text : List ℕ) → some_bytes text ≡ behind (codes "\"") word → HasCome [] text (unquoted_at word)
+-- after the first quote nothing was read
+pub begins : (word text : List ℕ) → some_bytes text ≡ after_prefix (codes "\"") word → HasCome [] text (unquoted_at word)
 unfolding unquoted_at
 begins word text e = record { most = length text; enough = omega arith; goes_on = rw (← e) (nothing_before (bytes_at (length text) text)) }
 
 -- a word without a first quote spells nothing
-pub not_begun : (limit : ℕ) (word : List ℕ) → no_bytes ≡ behind (codes "\"") word → no_bytes ≡ few_at limit word
+pub not_begun : (limit : ℕ) (word : List ℕ) → no_bytes ≡ after_prefix (codes "\"") word → no_bytes ≡ few_at limit word
 unfolding unquoted_at
 not_begun limit word e = rw (← e) refl
 
@@ -98,7 +98,7 @@ ends {bytes = bytes} {left = left} limit word came end short =
 -- ---- a word of any length
 
 -- without a first quote it spells nothing
-pub nothing_begun : (word : List ℕ) → no_bytes ≡ behind (codes "\"") word → no_bytes ≡ unquoted_at word
+pub nothing_begun : (word : List ℕ) → no_bytes ≡ after_prefix (codes "\"") word → no_bytes ≡ unquoted_at word
 unfolding unquoted_at
 nothing_begun word e = rw (← e) refl
 

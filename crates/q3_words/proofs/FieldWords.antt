@@ -14,13 +14,13 @@ use Rattle.q3_player.specs.declared.state.PlayerState.{PlayerState}
 use Rattle.q3_words.specs.declared.cause.LineCause.{LineCause}
 use Rattle.q3_words.specs.declared.cause.LineCause.TheVariants as causes
 use Rattle.q3_bits.specs.OptionBind.{◌>>=◌}
-use Rattle.q3_words.specs.Words.{behind}
+use Rattle.q3_words.specs.Words.{after_prefix}
 use Rattle.q3_text.specs.Cuts.{cut_at}
 use Rattle.q3_text.specs.Decimals.{is_digit, number_at}
 use Rattle.q3_text.proofs.Cuts.{cut-spelled, cut-again}
 use Rattle.q3_text.proofs.Numerals.{own, number_at-spelled, number_at-again, lacks-decimal}
 use Rattle.q3_words.specs.Fields.{field_at, Fields, fields_at, entity_of, entity_at, player_of, player_at, field_words, AreFields, SpellsEntity, SpellsPlayer}
-use Rattle.q3_words.proofs.Prefixes.{behind-spelled, behind-again}
+use Rattle.q3_words.proofs.Prefixes.{after_prefix-spelled, after_prefix-again}
 use Rattle.q3_words.proofs.Addresses.{bind_some}
 
 -- ---- one field
@@ -48,19 +48,19 @@ was_field letter limit least word field text parts index value at_letter at_colo
 field_at-spelled : (letter : List ℕ) (limit least : ℕ) (word : List ℕ) (field : Change) → 1 ≤ limit → limit < 2 ^ 32 → field_at letter limit least word ≡ Some field → WasField letter limit least word field
 unfolding field_at
 field_at-spelled letter limit least word field some few e =
-    let text = bind_some (behind letter word) (λ text. cut_at 58 text >>= λ parts. number_at least (limit - 1) parts.0 >>= λ index. number_at 0 4294967295 parts.1 >>= λ value. Some (index, value)) field e in
+    let text = bind_some (after_prefix letter word) (λ text. cut_at 58 text >>= λ parts. number_at least (limit - 1) parts.0 >>= λ index. number_at 0 4294967295 parts.1 >>= λ value. Some (index, value)) field e in
     let parts = bind_some (cut_at 58 text.0) (λ parts. number_at least (limit - 1) parts.0 >>= λ index. number_at 0 4294967295 parts.1 >>= λ value. Some (index, value)) field text.2 in
     let index = bind_some (number_at least (limit - 1) parts.0.0) (λ index. number_at 0 4294967295 parts.0.1 >>= λ value. Some (index, value)) field parts.2 in
     let value = bind_some (number_at 0 4294967295 parts.0.1) (λ value. Some (index.0, value)) field index.2 in
     let index_is = number_at-spelled least (limit - 1) parts.0.0 index.0 (omega arith) index.1 in
     let value_is = number_at-spelled 0 4294967295 parts.0.1 value.0 (omega arith) value.1 in
-    was_field letter limit least word field text.0 parts.0 index.0 value.0 (behind-spelled letter word text.0 text.1) (cut-spelled 58 text.0 parts.0 parts.1) index_is.2 value_is.2 index_is.0 (omega arith) (omega arith) value.2
+    was_field letter limit least word field text.0 parts.0 index.0 value.0 (after_prefix-spelled letter word text.0 text.1) (cut-spelled 58 text.0 parts.0 parts.1) index_is.2 value_is.2 index_is.0 (omega arith) (omega arith) value.2
 
 -- and what is spelled so is read
 field_at-again : (letter : List ℕ) (limit least : ℕ) (field : Change) → limit < 2 ^ 32 → least ≤ field.0 → field.0 < limit → field.1 < 2 ^ 32 → field_at letter limit least (indexed_text letter field.0 field.1) ≡ Some field
 unfolding field_at
 field_at-again letter limit least field few lower upper small =
-    let text : behind letter (letter ++ (decimal field.0 ++ 58 ∷ decimal field.1)) ≡ Some (decimal field.0 ++ 58 ∷ decimal field.1) = behind-again letter (decimal field.0 ++ 58 ∷ decimal field.1) in
+    let text : after_prefix letter (letter ++ (decimal field.0 ++ 58 ∷ decimal field.1)) ≡ Some (decimal field.0 ++ 58 ∷ decimal field.1) = after_prefix-again letter (decimal field.0 ++ 58 ∷ decimal field.1) in
     let parts : cut_at 58 (decimal field.0 ++ 58 ∷ decimal field.1) ≡ Some (decimal field.0, decimal field.1) = cut-again 58 (decimal field.0) (decimal field.1) (lacks-decimal 58 field.0 refl (omega arith)) in
     let index : number_at least (limit - 1) (decimal field.0) ≡ Some field.0 = number_at-again least (limit - 1) field.0 (omega arith) lower (omega arith) in
     let value : number_at 0 4294967295 (decimal field.1) ≡ Some field.1 = number_at-again 0 4294967295 field.1 (omega arith) (omega arith) (omega arith) in
@@ -140,7 +140,7 @@ none_of_other letter other limit (field ∷ fields) rest differs none least = rw
 
 -- words of another letter
 other_letter : (x y limit : ℕ) (field : Change) → eqb y x ≡ false → IsOther (x ∷ []) limit (indexed_text (y ∷ []) field.0 field.1)
-unfolding field_at behind
+unfolding field_at after_prefix
 other_letter x y limit field differs least = rw differs refl
 
 letter_other_than_digits : (limit x : ℕ) (field : Change) → 1 ≤ limit → limit < 2 ^ 32 → is_digit x ≡ false → IsOther [] limit (indexed_text (x ∷ []) field.0 field.1)
@@ -197,13 +197,13 @@ entity_at-again words entity spelled =
 
 -- ---- players
 
--- the parts of a player, one behind the other
+-- the parts of a player, one after the other
 grouped : (a b c d e : List (List ℕ)) → a ++ b ++ c ++ d ++ e ≡ a ++ (b ++ (c ++ (d ++ (e ++ []))))
 grouped a b c d e = simp (append_assoc, append-nil)
 
 -- words that are read in five parts
-behind_each : {words : List (List ℕ)} {behind_a behind_b behind_c behind_d : List (List ℕ)} (a b c d e : List (List ℕ)) → words ≡ a ++ behind_a → behind_a ≡ b ++ behind_b → behind_b ≡ c ++ behind_c → behind_c ≡ d ++ behind_d → behind_d ≡ e ++ [] → words ≡ a ++ b ++ c ++ d ++ e
-behind_each a b c d e at_a at_b at_c at_d at_e = rw (at_a, at_b, at_c, at_d, at_e) (sym (grouped a b c d e))
+after_each : {words : List (List ℕ)} {after_a after_b after_c after_d : List (List ℕ)} (a b c d e : List (List ℕ)) → words ≡ a ++ after_a → after_a ≡ b ++ after_b → after_b ≡ c ++ after_c → after_c ≡ d ++ after_d → after_d ≡ e ++ [] → words ≡ a ++ b ++ c ++ d ++ e
+after_each a b c d e at_a at_b at_c at_d at_e = rw (at_a, at_b, at_c, at_d, at_e) (sym (grouped a b c d e))
 
 -- a player that is read was spelled so
 pub player_at-spelled : (words : List (List ℕ)) (player : PlayerState) → player_at words ≡ Ok player → SpellsPlayer words player
@@ -231,7 +231,7 @@ player_at-spelled words player e =
       are_persistant = three.are;
       are_ammo = four.are;
       are_powerups = five.are;
-      whole = behind_each _ _ _ _ _ one.whole two.whole three.whole four.whole (five.whole ∙ ap (λ (ws : List (List ℕ)). field_words (codes "u") powerups.fields ++ ws) ends.0);
+      whole = after_each _ _ _ _ _ one.whole two.whole three.whole four.whole (five.whole ∙ ap (λ (ws : List (List ℕ)). field_words (codes "u") powerups.fields ++ ws) ends.0);
       state = sym ends.1;
     }
 

@@ -14,7 +14,7 @@ use Rattle.q3_words.specs.Quotes.{is_printed, is_coded, hex_byte, coded_byte, co
 use Rattle.q3_words.proofs.Addresses.{bind_some}
 use Rattle.q3_words.proofs.Digits.{done_is, bind_done, pairs_spelled, pairs_small}
 
--- a byte and what stands behind it, and what may be missing
+-- a byte and what follows it, and what may be missing
 abbrev pub some_front : ℕ × List ℕ → Option (ℕ × List ℕ)
 some_front front = Some front
 
@@ -200,7 +200,7 @@ was_coded high low value text e =
       small = were.small;
     }
 
--- a byte with the text behind it
+-- a byte with the text after it
 abbrev with_text : List ℕ → ℕ → ℕ × List ℕ
 with_text text byte = (byte, text)
 

@@ -7,7 +7,7 @@ use Rattle.q3_words.specs.Words.{words_left}
 use Rattle.q3_words.specs.Fields.{fields_at, entity_at, player_of, player_at}
 use Rattle.q3_words.proofs.Spaces.{some_left}
 
--- the words in front of each part, and those behind the last
+-- the words in front of each part, and those after the last
 pub record Parts (words : List (List ℕ)) (stats persistant ammo powerups others : List (List ℕ)) : Type 0 where
   pub at_stats : stats ≡ (fields_at [] 64 0 words).left
   pub at_persistant : persistant ≡ (fields_at (codes "s") 16 0 stats).left
@@ -24,7 +24,7 @@ in_parts : {words stats persistant ammo powerups others : List (List ℕ)} → P
 unfolding player_at
 in_parts p = rw (p.at_others, p.at_powerups, p.at_ammo, p.at_persistant, p.at_stats) refl
 
--- words are left behind a player
+-- words are left after a player
 pub is_refused : {words stats persistant ammo powerups : List (List ℕ)} (left : List ℕ) → Parts words stats persistant ammo powerups (words_left left) → 0 < length left → Err BadFields ≡ player_at words
 is_refused left p some = sym (in_parts p ∙ rw (some_left left some) refl)
 
@@ -33,7 +33,7 @@ pub is_read : {words stats persistant ammo powerups : List (List ℕ)} (left : L
 is_read [] p none = sym (in_parts p)
 is_read (space ∷ text) p none = absurd (omega arith)
 
--- words are left behind an entity
+-- words are left after an entity
 pub is_no_entity : (number : ℕ) (words : List (List ℕ)) (left : List ℕ) → words_left left ≡ (fields_at [] 64 0 words).left → 0 < length left → Err BadFields ≡ entity_at number words
 unfolding entity_at
-is_no_entity number words left behind some = rw (← behind, some_left left some) refl
+is_no_entity number words left after some = rw (← after, some_left left some) refl

@@ -38,7 +38,7 @@ some_word word = Some word
 abbrev none_word : Option (List ℕ)
 none_word = None
 
--- a word is not the only one if something is left behind it
+-- a word is not the only one if something is left after it
 pub only_of_more : (word : List ℕ) (left : List ℕ) → 0 < length left → none_word ≡ only_of (word ∷ words_left left)
 only_of_more word [] some = absurd (omega arith)
 only_of_more word (x ∷ text) some = rw words_at_space refl
@@ -72,9 +72,9 @@ no_place text is =
       | inr past ↦ ltb-false _ _ past
     ]
 
--- the first word, and what is left behind it, where there is a space
+-- the first word, and what is left after it, where there is a space
 pub words_at_place : (text front back : List ℕ) (end : ℕ) → Some end ≡ position is_space text → front ≡ take end text → back ≡ drop end text → words_of text ≡ front ∷ words_left back
-words_at_place text front back end is before behind = rw (before, behind, some_place text end is) (words_at_space text)
+words_at_place text front back end is before after = rw (before, after, some_place text end is) (words_at_space text)
 
 -- the only word, where there is none
 pub words_at_none : (text : List ℕ) → none_place ≡ position is_space text → words_of text ≡ text ∷ []
@@ -94,10 +94,10 @@ IsOfLine words = (line : List ℕ) × (words ≡ words_of line)
 abbrev pub AreLeft : List (List ℕ) → Type 0
 AreLeft words = (left : List ℕ) × (words ≡ words_left left)
 
--- behind the first of them others are left
-behind_first : (left word : List ℕ) (others : List (List ℕ)) → word ∷ others ≡ words_left left → AreLeft others
-behind_first [] word others e = absurd cc
-behind_first (space ∷ text) word others e =
+-- after the first of them others are left
+past_first : (left word : List ℕ) (others : List (List ℕ)) → word ∷ others ≡ words_left left → AreLeft others
+past_first [] word others e = absurd cc
+past_first (space ∷ text) word others e =
     let both = e ∙ words_at_space text in
     let same : others ≡ words_left (drop (position_or_len is_space text) text) = cc in
     (drop (position_or_len is_space text) text, same)
@@ -109,17 +109,17 @@ of_line (space ∷ text) first rest e = (text, e)
 
 pub second_of_line : (word first : List ℕ) (rest : List (List ℕ)) → AreLeft (word ∷ first ∷ rest) → IsOfLine (first ∷ rest)
 second_of_line word first rest are =
-    let left = behind_first are.0 word (first ∷ rest) are.1 in
+    let left = past_first are.0 word (first ∷ rest) are.1 in
     of_line left.0 first rest left.1
 
 -- words that there are, as the one text that they were cut from
 text_from_some : (words : List (List ℕ)) (word : List ℕ) (others : List (List ℕ)) → words ≡ word ∷ others → text_from words ≡ Some (join_with_byte 32 words)
 text_from_some words word others e = rw e refl
 
--- all that is left behind a space
-pub text_behind : (left : List ℕ) → 0 < length left → some_word (take (length left - 1) (drop 1 left)) ≡ text_from (words_left left)
-text_behind [] some = absurd (omega arith)
-text_behind (space ∷ text) some =
+-- all that is left after a space
+pub text_after : (left : List ℕ) → 0 < length left → some_word (take (length left - 1) (drop 1 left)) ≡ text_from (words_left left)
+text_after [] some = absurd (omega arith)
+text_after (space ∷ text) some =
     let size : length (space ∷ text) - 1 ≡ length text = omega arith in
     let all : take (length text) text ≡ text = take_all (length text) text (omega arith) in
     let is = text_from_some (words_of text) (take (position_or_len is_space text) text) (words_left (drop (position_or_len is_space text) text)) (words_at_space text) in

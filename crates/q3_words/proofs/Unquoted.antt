@@ -14,9 +14,9 @@ use Rattle.q3_text.specs.declared.text.TextError.{TextError}
 use Rattle.q3_text.specs.Texts.{text_of}
 use Rattle.q3_words.specs.declared.cause.LineCause.TheVariants as causes
 use Rattle.q3_bits.specs.OptionBind.{◌>>=◌}
-use Rattle.q3_words.specs.Words.{behind, words_of}
+use Rattle.q3_words.specs.Words.{after_prefix, words_of}
 use Rattle.q3_words.specs.Quotes.{front_at, bytes_at, unquoted_at, few_at, bytes_word, text_at, text_word, SpellsBytes, SpellsText}
-use Rattle.q3_words.proofs.Prefixes.{behind-spelled, behind-again}
+use Rattle.q3_words.proofs.Prefixes.{after_prefix-spelled, after_prefix-again}
 use Rattle.q3_words.proofs.Addresses.{bind_some}
 use Rattle.q3_words.proofs.NumberWords.{ok_or-ok}
 use Rattle.q3_words.proofs.Fronts.{some_front, no_front, spelling_some, front_at-spelled, front_at-again}
@@ -31,7 +31,7 @@ no_bytes = None
 abbrev pub IsSpelled : ℕ → Type 0
 IsSpelled byte = (0 < byte) × (byte < 256)
 
--- the text behind the first quote
+-- the text after the first quote
 abbrev ended : List ℕ → List ℕ
 ended bytes = flat_map byte_spelling bytes ++ codes "\""
 
@@ -100,15 +100,15 @@ pub record WereQuoted (word bytes : List ℕ) : Type 0 where
 pub unquoted_at-spelled : (word bytes : List ℕ) → unquoted_at word ≡ Some bytes → WereQuoted word bytes
 unfolding unquoted_at
 unquoted_at-spelled word bytes e =
-    let text = bind_some (behind (codes "\"") word) (λ text. bytes_at (length text) text) bytes e in
+    let text = bind_some (after_prefix (codes "\"") word) (λ text. bytes_at (length text) text) bytes e in
     let were = bytes_at-spelled (length text.0) text.0 bytes text.2 in
-    record { spelled = behind-spelled (codes "\"") word text.0 text.1 ∙ ap (λ (rest : List ℕ). codes "\"" ++ rest) were.spelled; each = were.each }
+    record { spelled = after_prefix-spelled (codes "\"") word text.0 text.1 ∙ ap (λ (rest : List ℕ). codes "\"" ++ rest) were.spelled; each = were.each }
 
 -- and what is spelled so is read
 pub unquoted_at-again : (bytes : List ℕ) → All IsSpelled bytes → unquoted_at (quoted bytes) ≡ Some bytes
 unfolding unquoted_at
 unquoted_at-again bytes each =
-    let text : behind (codes "\"") (quoted bytes) ≡ Some (ended bytes) = behind-again (codes "\"") (ended bytes) in
+    let text : after_prefix (codes "\"") (quoted bytes) ≡ Some (ended bytes) = after_prefix-again (codes "\"") (ended bytes) in
     rw text (bytes_at-again (length (ended bytes)) bytes each (omega arith))
 
 -- ---- bytes up to a limit

@@ -8,7 +8,7 @@ use Rattle.q3_player.specs.declared.state.PlayerState.{PlayerState}
 use Rattle.q3_player.specs.State.{shorts_of}
 use Rattle.q3_words.specs.declared.cause.LineCause.{LineCause}
 use Rattle.q3_words.specs.declared.cause.LineCause.TheVariants as causes
-use Rattle.q3_words.specs.Words.{behind}
+use Rattle.q3_words.specs.Words.{after_prefix}
 use Rattle.q3_text.specs.Cuts.{cut_at}
 use Rattle.q3_text.specs.Decimals.{number_at}
 use Rattle.q3_bits.specs.OptionBind.{◌>>=◌}
@@ -16,7 +16,7 @@ use Rattle.q3_bits.specs.OptionBind.{◌>>=◌}
 -- the index and the value in a word of this letter: the index is from least up to below the limit
 unfoldable pub field_at : List ℕ → ℕ → ℕ → List ℕ → Option Change
 field_at letter limit least word = do
-  text ← behind letter word
+  text ← after_prefix letter word
   parts ← cut_at 58 text
   index ← number_at least (limit - 1) parts.0
   value ← number_at 0 4294967295 parts.1

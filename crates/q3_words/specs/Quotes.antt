@@ -9,7 +9,7 @@ use Rattle.q3_text.specs.Texts.{text_of}
 use Rattle.q3_words.specs.declared.cause.LineCause.{LineCause}
 use Rattle.q3_words.specs.declared.cause.LineCause.TheVariants as causes
 use Rattle.q3_io.specs.Quoted.{quoted}
-use Rattle.q3_words.specs.Words.{behind, words_of}
+use Rattle.q3_words.specs.Words.{after_prefix, words_of}
 use Rattle.q3_words.specs.Hex.{is_capital}
 use Rattle.q3_bits.specs.OptionBind.{◌>>=◌}
 
@@ -68,7 +68,7 @@ bytes_at (suc steps) text =
 -- the bytes that a word in quotes spells; each step takes a byte of it at least
 unfoldable pub unquoted_at : List ℕ → Option (List ℕ)
 unquoted_at word = do
-  text ← behind (codes "\"") word
+  text ← after_prefix (codes "\"") word
   bytes_at (length text) text
 
 -- those bytes, if they are at most so many

@@ -35,5 +35,5 @@ text_from [] = None
 text_from (word ∷ words) = Some (join_with_byte 32 (word ∷ words))
 
 -- what follows a prefix
-unfoldable pub behind : List ℕ → List ℕ → Option (List ℕ)
-behind prefix text = then_some (bytes_eq (take (length prefix) text) prefix) (drop (length prefix) text)
+unfoldable pub after_prefix : List ℕ → List ℕ → Option (List ℕ)
+after_prefix prefix text = then_some (bytes_eq (take (length prefix) text) prefix) (drop (length prefix) text)

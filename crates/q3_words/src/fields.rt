@@ -6,7 +6,7 @@ ghost use Rattle.q3_words.specs.Words.{words_left};
 ghost use Rattle.q3_words.specs.Fields.{field_at, fields_at, entity_at, player_at};
 
 use crate::cause::LineCause;
-use crate::words::{behind, next_word};
+use crate::words::{after_prefix, next_word};
 use q3_entity::EntityState;
 use q3_player::PlayerState;
 use q3_player::state::shorts;
@@ -19,7 +19,7 @@ fn field(letter: &[u8], limit: u32, least: u32, word: &[u8]) -> Option<(u32, u32
     ensures value { result ≡ field_at letter.now limit least word.now }
     ensures within { IfSome result (λ field. (least ≤ field.0) × (field.0 < limit)) }
 {
-    let text = behind(letter, word)?;
+    let text = after_prefix(letter, word)?;
     let (index, value) = cut_at(text, b':')?;
     let index = decimal_within(index, least, limit - 1)?;
     Some((index, decimal_within(value, 0, u32::MAX)?))

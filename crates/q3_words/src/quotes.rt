@@ -6,7 +6,7 @@ ghost use Rattle.q3_words.specs.Quotes.{hex_byte, coded_byte, coded_at, escaped_
 use crate::area::has_capital;
 use crate::bytes::Bytes;
 use crate::cause::LineCause;
-use crate::words::{behind, is};
+use crate::words::{after_prefix, is};
 use arrayvec::ArrayVec;
 use q3_bits::NoMemory;
 use q3_text::{LONGEST_TEXT, Text};
@@ -85,7 +85,7 @@ fn front(text: &[u8]) -> Option<(u8, &[u8])>
 fn unquoted<const MOST: usize>(word: &[u8]) -> Option<ArrayVec<u8, MOST>>
     ensures { option_map (λ bytes. bytes.items) result ≡ few_at MOST word.now }
 {
-    let mut left = behind(b"\"", word)?;
+    let mut left = after_prefix(b"\"", word)?;
     let mut bytes = ArrayVec::new();
     while !is(left, b"\"") {
         let (byte, rest) = front(left)?;
@@ -102,7 +102,7 @@ fn unquoted<const MOST: usize>(word: &[u8]) -> Option<ArrayVec<u8, MOST>>
 fn count_of(word: &[u8]) -> Option<usize>
     ensures { result ≡ option_map length (unquoted_at word.now) }
 {
-    let mut left = behind(b"\"", word)?;
+    let mut left = after_prefix(b"\"", word)?;
     let mut count = 0;
     while !is(left, b"\"") {
         left = front(left)?.1;
@@ -115,7 +115,7 @@ fn count_of(word: &[u8]) -> Option<usize>
 fn collect(alloc: Global, word: &[u8], count: usize) -> Result<Option<Bytes>, NoMemory>
     ensures { IfOk result (λ bytes. bytes ≡ unquoted_at word.now) }
 {
-    let Some(mut left) = behind(b"\"", word) else {
+    let Some(mut left) = after_prefix(b"\"", word) else {
         return Ok(None);
     };
     let mut bytes = Vec::with_capacity(alloc, count)?;

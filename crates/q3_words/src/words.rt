@@ -2,7 +2,7 @@
 
 ghost use Rattle.std.specs.Prelude.{◌≡◌, ◌∷◌, option_map};
 ghost use Rattle.std.specs.Str.{bytes_eq};
-ghost use Rattle.q3_words.specs.Words.{words_of, words_left, next_of, three_of, only_of, text_from, behind};
+ghost use Rattle.q3_words.specs.Words.{words_of, words_left, next_of, three_of, only_of, text_from, after_prefix};
 
 use q3_text::place_of;
 
@@ -41,8 +41,8 @@ pub fn next_three(left: &[u8]) -> Option<(&[u8], &[u8], &[u8], &[u8])>
 pub fn only_word(left: &[u8]) -> Option<&[u8]>
     ensures { option_map (λ word. word.now) result ≡ only_of (words_left left.now) }
 {
-    let (word, behind) = next_word(left)?;
-    if behind.is_empty() { Some(word) } else { None }
+    let (word, after) = next_word(left)?;
+    if after.is_empty() { Some(word) } else { None }
 }
 
 /// All that is left of a line after a space, as one text. `None` where nothing is left.
@@ -63,9 +63,9 @@ pub fn is(word: &[u8], text: &[u8]) -> bool
 }
 
 /// What follows a prefix.
-#[tactic(auto, unfolding(crate::specs::Words::behind))]
-pub fn behind<'a>(prefix: &[u8], text: &'a [u8]) -> Option<&'a [u8]>
-    ensures { option_map (λ rest. rest.now) result ≡ behind prefix.now text.now }
+#[tactic(auto, unfolding(crate::specs::Words::after_prefix))]
+pub fn after_prefix<'a>(prefix: &[u8], text: &'a [u8]) -> Option<&'a [u8]>
+    ensures { option_map (λ rest. rest.now) result ≡ after_prefix prefix.now text.now }
 {
     text.strip_prefix(prefix)
 }

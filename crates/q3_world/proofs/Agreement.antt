@@ -91,7 +91,7 @@ kept_so profile kept whole by ends datagrams =
 pub stands_of : (profile : Profile) (whole : Whole) → (whole.foreign ≡ false → Holds profile whole) → StandsFor profile (kept_of profile whole) whole
 stands_of profile whole holds = record { by = refl; ends = refl; datagrams = refl; facts = λ own. (holds own).facts; joined = λ own. (holds own).joined }
 
--- a step by bytes is one of the whole world, and what holds as long as no line handed other bytes to an end holds behind it
+-- a step by bytes is one of the whole world, and what holds as long as no line handed other bytes to an end holds after it
 record Steps (profile : Profile) (whole : Whole) (event : Event) : Type 0 where
   same : kept_step (kept_of profile whole) event ≡ seen profile (step profile whole event)
   holds : (step profile whole event).whole.foreign ≡ false → Holds profile (step profile whole event).whole

@@ -33,7 +33,7 @@ use Rattle.q3_client.specs.Client.{ClientState, Taken, Reception, receive_messag
 use Rattle.q3_client.specs.Sending.{said_bytes, Said, IsSaid}
 use Rattle.q3_built.specs.Built.{Built, IsNear, IsSnapshot, IsBuilt, BuildsGame, BuildsSnapshot, Telling, number_of, built_bytes, plain_bytes}
 use Rattle.q3_slot.specs.Slot.{SlotState}
-use Rattle.q3_slot.specs.Taking.{asked_with, delta_behind, said_by, Came, OfMap, OfOther, asks_game, heads_of, moves_on, came_as, goes_on}
+use Rattle.q3_slot.specs.Taking.{asked_with, delta_after, said_by, Came, OfMap, OfOther, asks_game, heads_of, moves_on, came_as, goes_on}
 use Rattle.q3_server.specs.Server.{places, slot_at}
 use Rattle.q3_server.specs.Taking.{sender_of}
 use Rattle.q3_slot.specs.Taking as by_slot
@@ -244,7 +244,7 @@ waits_so slot client history g taken applied window are =
       to_server = subst (λ (n : ℕ). Flow client.issued slot.executed history.client_commands history.server_executed (carried_said history.said) (acks_built history.built) n slot.gathering.taken) (sym taken) are.to_server;
     }
 
--- a client's window behind a message
+-- a client's window after a message
 abbrev pub window_heard : ClientState → Built → OutgoingState
 window_heard client built = (acknowledge_at client.issued built.message.ack).window
 
@@ -261,7 +261,7 @@ nothing_noted history n time taken section accepted heard game =
 abbrev heard_state : AppliedState → List Command → AppliedState
 heard_state state commands = hearing state commands
 
--- the world behind what a client took, as if nothing were recorded
+-- the world after what a client took, as if nothing were recorded
 abbrev took_plain : Whole → ℕ → Place → ℕ → Told → Taken → Whole
 took_plain whole c place n section taken =
     with_client_of whole c place taken.client (with_taken (history_at whole.histories c) n section taken) whole.sent
@@ -470,11 +470,11 @@ heard_by_bytes profile whole tag from slot cited is at holds =
     ∙ (ap (λ (o : Option SlotState). hears.take_by server c from tag.bytes o) at
     ∙ ap (λ (p : Profile). hears.taken_at server c (by_slot.take_slot p server.map c from tag.bytes slot)) holds.facts.by))
 
--- what a slot writes against behind a message was accepted, or is none
-asked_behind : (accepted : List Snapshot) (before : ℕ) (message : client_told.Message) → (before ≡ 0) ⊎ WasAccepted accepted before
+-- after a message, what a slot writes against was accepted, or is none
+asked_after : (accepted : List Snapshot) (before : ℕ) (message : client_told.Message) → (before ≡ 0) ⊎ WasAccepted accepted before
     → (message.delta ≡ true → WasAccepted accepted message.acknowledged)
-    → (delta_behind before message ≡ 0) ⊎ WasAccepted accepted (delta_behind before message)
-asked_behind accepted before message was asks = with_moves message.moves
+    → (delta_after before message ≡ 0) ⊎ WasAccepted accepted (delta_after before message)
+asked_after accepted before message was asks = with_moves message.moves
   where
     if_asked : (delta : Bool) → message.delta ≡ delta → ((if delta then message.acknowledged else 0) ≡ 0) ⊎ WasAccepted accepted (if delta then message.acknowledged else 0)
     if_asked true so = inr (asks so)
@@ -492,7 +492,7 @@ asked_playing accepted slot message was asks = with_moves message.moves
     at_stage : (one : Move) (others : List Move) (stage : ClientStage) → ((moves_on slot message one others stage).delta ≡ 0) ⊎ WasAccepted accepted (moves_on slot message one others stage).delta
     at_stage one others Connected = inl refl
     at_stage one others Primed = inl refl
-    at_stage one others Active = asked_behind accepted slot.delta message was asks
+    at_stage one others Active = asked_after accepted slot.delta message was asks
 
     with_moves : (moves : List Move) → ((goes_on slot message moves).delta ≡ 0) ⊎ WasAccepted accepted (goes_on slot message moves).delta
     with_moves [] = was

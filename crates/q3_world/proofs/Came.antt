@@ -18,7 +18,7 @@ use Rattle.q3_clstate.specs.State.{AppliedState}
 use Rattle.q3_built.specs.Built.{Built, IsBuilt, BuildsSnapshot, Telling}
 use Rattle.q3_slot.specs.Slot.{SlotState, asked}
 use Rattle.q3_server.specs.Server.{places}
-use Rattle.q3_client.specs.Client.{ClientState, moves_behind}
+use Rattle.q3_client.specs.Client.{ClientState, moves_after}
 use Rattle.q3_world.specs.declared.places.Place.{Place}
 use Rattle.q3_world.specs.World.{Tag, History, Whole, no_message, history_at, built_at, texts_of, with_run, named, Played}
 use Rattle.q3_world.specs.StandsFor.{messages_of, messages_said, KeepsSlot, IsPiece, snapshot_in, WasBuilt, WasAccepted, TakesBuilt, carried_built, acks_built, carried_said, acks_said, AreAsked}
@@ -32,11 +32,11 @@ use Rattle.q3_world.proofs.Holding.{Holds, Has, sent_grows, with_server_of, Hold
 
 -- ---- a datagram arrives at a client
 
--- the client behind it
+-- the client after it
 abbrev pub client_took : ClientState → Gathering → AppliedState → List ℕ → OutgoingState → Bool → Bool → ClientState
-client_took client g state message window delta game = record client { gathering = g; state = state; message = message; issued = window; delta = delta; moves = moves_behind game client.moves }
+client_took client g state message window delta game = record client { gathering = g; state = state; message = message; issued = window; delta = delta; moves = moves_after game client.moves }
 
--- what a client's state, its window and its commands are behind it
+-- what a client's state, its window and its commands are after it
 pub record TakesSo (slot : SlotState) (history : History) (g : Gathering) (state : AppliedState) (window : OutgoingState) (executed : List (List ℕ)) : Type 0 where
   pub applied : IsApplied state
   pub is : IsOutgoing window
@@ -55,7 +55,7 @@ pub Holds-taken : (profile : Profile) (whole : Whole) (c : ℕ) (slot : SlotStat
     → TakesBuilt profile (client_took place.client g state message window delta game) (history_at whole.histories c).built accepted (accepted_since games accepted)
     → AreAsked slot (history_at whole.histories c).said (history_at whole.histories c).built accepted
     → AreMapped whole.ends.server.map (standing_of slot) state g.taken place.client.last_time (history_at whole.histories c).built games (history_at whole.histories c).said accepted executed
-    → AreSince games (moves_behind game place.client.moves) → Holds profile whole
+    → AreSince games (moves_after game place.client.moves) → Holds profile whole
     → Holds profile (with_client_of whole c place (client_took place.client g state message window delta game) (took_noted (history_at whole.histories c) games accepted executed) whole.sent)
 Holds-taken profile whole c slot place g state message window delta game games accepted executed lt had side by ring so takes asked mapped later holds =
     let history = history_at whole.histories c in
@@ -89,11 +89,11 @@ abbrev pub slot_has : SlotState → OutgoingState → IncomingState → ClientSt
 slot_has slot window executed stage owed delta last =
     record slot { issued = window; executed = executed; stage = stage; owed = owed; delta = delta; last_run = last }
 
--- the slot behind it
+-- the slot after it
 abbrev pub slot_heard : SlotState → Address → Gathering → SlotState
 slot_heard slot from g = record slot { address = from; gathering = g }
 
--- what a slot's window and its commands are behind it
+-- what a slot's window and its commands are after it
 pub record HearsSo (client : ClientState) (history : History) (g : Gathering) (window : OutgoingState) (executed : IncomingState) (commands : List Command) : Type 0 where
   pub to_client : Flow window client.state.executed history.server_commands history.client_executed (carried_built history.built) (acks_said history.said) g.taken client.gathering.taken
   pub to_server : Flow client.issued executed history.client_commands (history.server_executed ++ texts_of commands) (carried_said history.said) (acks_built history.built)

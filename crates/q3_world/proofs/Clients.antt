@@ -30,7 +30,7 @@ use Rattle.q3_built.specs.Built.{Built, IsHeld, IsArea, IsNear, IsBuilt, built_b
 use Rattle.q3_slot.specs.Slot.{SlotState, new_slot, is_active, asked}
 use Rattle.q3_slot.specs.Emitting.{played_snapshot, waiting_snapshot, next_snapshot, begun_next}
 use Rattle.q3_slot.specs.Taking.{last_time, Playing}
-use Rattle.q3_client.specs.Client.{ClientState, new_client, moves_behind}
+use Rattle.q3_client.specs.Client.{ClientState, new_client, moves_after}
 use Rattle.circular_buffer.specs.Buffer.{keep_last}
 use Rattle.q3_client.specs.Moves.{most_moves, issue}
 use Rattle.q3_client.specs.Sending.{said_bytes, Said, IsSaid, next_said}
@@ -334,7 +334,7 @@ module _ (profile : Profile) (client : ClientState) (qport : ℕ) (said : List S
   -- a datagram came, and with it a message, if one did; a gamestate wipes the moves
   pub KeepsClient-took : (g : Gathering) (state : AppliedState) (message : List ℕ) (window : OutgoingState) (delta game : Bool) → IsApplied state → IsOutgoing window → g.form ≡ client.gathering.form → state.profile ≡ client.state.profile
       → state.held.ring ≡ client.state.held.ring → KeepsClient profile client qport said issued commands
-      → KeepsClient profile (record client { gathering = g; state = state; message = message; issued = window; delta = delta; moves = moves_behind game client.moves }) qport said issued commands
+      → KeepsClient profile (record client { gathering = g; state = state; message = message; issued = window; delta = delta; moves = moves_after game client.moves }) qport said issued commands
   KeepsClient-took g state message window delta game applied is side by ring keeps =
       record {
         by = by ∙ keeps.by;
@@ -352,7 +352,7 @@ module _ (profile : Profile) (client : ClientState) (qport : ℕ) (said : List S
         texts = keeps.texts;
       }
     where
-      wiped : (game : Bool) → KeepsMoves (moves_behind game client.moves) (length said) issued
+      wiped : (game : Bool) → KeepsMoves (moves_after game client.moves) (length said) issued
       wiped false = keeps.moves
       wiped true = KeepsMoves-wiped (length said) issued
 

@@ -73,7 +73,7 @@ every_changed whole map_is f histories =
       histories = histories;
     }
 
--- what holds of each client behind it
+-- what holds of each client after it
 pub record EveryChanges (profile : Profile) (whole : Whole) (map_is : MapState) (f : SlotState → SlotState) (histories : List History) : Type 0 where
   pub leaves : LeavesClient f
   pub is : IsMap profile map_is

@@ -14,11 +14,11 @@ use Rattle.q3_messages.proofs.Survives.{put_alike}
 abbrev pub AllFound : List (Option SlotState) → Type 0
 AllFound slots = (c : ℕ) (slot : SlotState) → get_or slots c None ≡ Some slot → position (is_of slot.address.host slot.qport) slots ≡ Some c
 
--- where nothing passes, nothing behind the first does
+-- where nothing passes, nothing after the first does
 none_left : {X : Type 0} (test : X → Bool) (y : X) (xs : List X) → test y ≡ false → position_or_len test (y ∷ xs) ≡ length (y ∷ xs) → position_or_len test xs ≡ length xs
 none_left test y xs other none =
-    let behind : 1 + position_or_len test xs ≡ length (y ∷ xs) = subst (λ (b : Bool). cond (not b) (1 + position_or_len test xs) 0 ≡ length (y ∷ xs)) other none in
-    omega (arith, behind)
+    let after : 1 + position_or_len test xs ≡ length (y ∷ xs) = subst (λ (b : Bool). cond (not b) (1 + position_or_len test xs) 0 ≡ length (y ∷ xs)) other none in
+    omega (arith, after)
 
 -- and the first doesn't
 some_left : {X : Type 0} (test : X → Bool) (y : X) (xs : List X) → test y ≡ true → position_or_len test (y ∷ xs) ≡ length (y ∷ xs) → ⊥

@@ -303,7 +303,7 @@ module _ (map : MapState) (slot : Standing) (state : AppliedState) (taken last_t
           owed = λ e. absurd (untrue e);
           other = All-weaker (λ (s : Said). s.message.acknowledged ≤ length built)
               (λ (s : Said). (s.message.id ≡ map.id → ⊥) → n < s.message.acknowledged → (WasPlayed games n → ⊥) × (n < taken))
-              (λ s most apart behind. absurd (omega (arith, most, behind, number))) began acks;
+              (λ s most apart after. absurd (omega (arith, most, after, number))) began acks;
           older = λ e played there same. absurd (unapplied played (All-contains (WasApplied taken last_time built accepted executed) games played are.has.each there) same);
         };
         has = has_more state taken last_time built games accepted executed next are.has;

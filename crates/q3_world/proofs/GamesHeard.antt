@@ -20,7 +20,7 @@ use Rattle.q3_world.specs.World.{Played, texts_of}
 use Rattle.q3_world.specs.Games.{IsOf}
 use Rattle.q3_world.proofs.GamesParts.{cases_option, some_then, newest}
 use Rattle.q3_world.proofs.GamesUnder.{under_more}
-use Rattle.q3_world.proofs.GamesTexts.{LeavesOwn, after_commands-append, id_behind, ids_stay, strings_behind}
+use Rattle.q3_world.proofs.GamesTexts.{LeavesOwn, after_commands-append, id_after, ids_stay, strings_of_texts}
 
 -- what a message said stays said where more is accepted
 said_same : (games : List Played) (accepted more : List Snapshot) (said : Said) → IsSaidUnder games accepted said → IsSaidUnder games (accepted ++ more) said
@@ -33,14 +33,14 @@ said_same games accepted more said is =
           there = was.there;
           id = was.id;
           feed = was.feed;
-          behind = was.behind;
+          after = was.after;
           asks = λ e. under_more games accepted more under.0 said.message.acknowledged (was.asks e);
           later = was.later;
         },
       )
     ]
 
--- a client's state behind texts that it executed: what it has of its gamestate stays, but for the strings
+-- a client's state after texts that it executed: what it has of its gamestate stays, but for the strings
 pub record GoesOn (state after : AppliedState) (texts : List (List ℕ)) : Type 0 where
   pub has : after.has_game ≡ state.has_game
   pub id : after.id ≡ state.id
@@ -49,7 +49,7 @@ pub record GoesOn (state after : AppliedState) (texts : List (List ℕ)) : Type 
   pub baselines : after.baselines ≡ state.baselines
   pub strings : after.strings ≡ after_commands state.strings texts
 
--- behind the commands of a message
+-- after the commands of a message
 pub goes_on : (state : AppliedState) (commands : List Command) (number : ℕ) (held : HeldSnapshots) → All LeavesOwn (texts_of (fresh_of state.executed.executed commands))
     → id_in state.id state.strings ≡ state.id
     → GoesOn state (record (hearing state commands) { number = number; held = held }) (texts_of (fresh_of state.executed.executed commands))
@@ -57,11 +57,11 @@ goes_on state commands number held own is =
     let settings : Settings = record { strings = state.strings; id = state.id } in
     record {
       has = refl;
-      id = id_behind settings (fresh_of state.executed.executed commands) own is;
+      id = id_after settings (fresh_of state.executed.executed commands) own is;
       slot = refl;
       feed = refl;
       baselines = refl;
-      strings = strings_behind settings (fresh_of state.executed.executed commands);
+      strings = strings_of_texts settings (fresh_of state.executed.executed commands);
     }
 
 module _ (state after : AppliedState) (executed texts : List (List ℕ)) (goes : GoesOn state after texts) (own : All LeavesOwn texts) where

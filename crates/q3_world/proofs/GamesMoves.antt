@@ -90,11 +90,11 @@ runs_most : (last most : ℕ) (moves : List Move) → last ≤ most → All (λ 
 unfolding runs last_time
 runs_most last most [] le all = le
 runs_most last most (one ∷ moves) le all =
-    cond_both (nat_lt last one.time) (one ∷ runs one.time moves) (runs last moves) (λ (behind : List Move). last_time last behind ≤ most)
+    cond_both (nat_lt last one.time) (one ∷ runs one.time moves) (runs last moves) (λ (after : List Move). last_time last after ≤ most)
     (λ e. runs_most one.time most moves (All-head (λ (one : Move). one.time ≤ most) one moves all) (All-tail (λ (one : Move). one.time ≤ most) one moves all))
     (λ e. runs_most last most moves le (All-tail (λ (one : Move). one.time ≤ most) one moves all))
 
--- behind a message of such moves
+-- after a message of such moves
 pub goes_most : (slot : SlotState) (message : Message) (most : ℕ) → slot.last_run ≤ most → All (λ (one : Move). one.time ≤ most) message.moves
     → (goes_on slot message message.moves).last_run ≤ most
 goes_most slot message most le all = with_moves message.moves all
@@ -132,7 +132,7 @@ since_more {taken = taken} {last_time = last_time} {built = built} {executed = e
           ∙ ap (λ (l : List Snapshot). l ++ snapshot ∷ []) (sym (since_is games accepted played some.1)))
     ]
 
--- behind a gamestate there is none
+-- after a gamestate there is none
 pub since_none : (games : List Played) (accepted : List Snapshot) (played : Played) → played.accepted ≡ length accepted → accepted_since (games ++ played ∷ []) accepted ≡ []
 since_none games accepted played count =
     since_is (games ++ played ∷ []) accepted played (last_push None games played) ∙ drop_all played.accepted accepted (omega (arith, count))

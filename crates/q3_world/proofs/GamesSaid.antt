@@ -12,7 +12,7 @@ use Rattle.q3_map.specs.Map.{MapState, is_other}
 use Rattle.q3_entity_ring.specs.Snapshot.{Snapshot}
 use Rattle.q3_built.specs.Built.{Built}
 use Rattle.q3_slot.specs.Slot.{SlotState, is_active}
-use Rattle.q3_slot.specs.Taking.{Playing, asked_with, goes_on, is_behind_game, moves_on}
+use Rattle.q3_slot.specs.Taking.{Playing, asked_with, goes_on, is_after_game, moves_on}
 use Rattle.q3_slot.specs.declared.stage.ClientStage.{ClientStage}
 use Rattle.q3_slot.specs.declared.stage.ClientStage.TheVariants.{Active, Connected, Primed}
 use Rattle.q3_clmsg.specs.Values.{Message}
@@ -70,7 +70,7 @@ module _ (map : MapState) (slot : Standing) (state : AppliedState) (taken last_t
                 there = top.there;
                 id = of.id ∙ ap Some (sym id);
                 feed = feed ∙ of.feed;
-                behind = omega (arith, most, acknowledged);
+                after = omega (arith, most, acknowledged);
                 asks = λ e.
                     let was = subst (λ (since : List Snapshot). WasAccepted since taken) (since_is games accepted played some.1) (asks e) in
                     subst (λ (number : ℕ). AcceptedUnder games accepted played number) (sym acknowledged) (under_last games accepted played taken has.rise some.1 was);
@@ -98,7 +98,7 @@ module _ (map : MapState) (slot : Standing) (state : AppliedState) (taken last_t
           other = All-push (λ (message : Said). (message.message.id ≡ map.id → ⊥) → IfSome slot.game (λ n. n < message.message.acknowledged → (WasPlayed games n → ⊥) × (n < taken)))
               began next stands.other
               (λ apart. some_here slot.game (λ (n : ℕ). n < next.message.acknowledged → (WasPlayed games n → ⊥) × (n < taken))
-              (λ n is behind. (not_played n are (λ e. apart (id ∙ e)) is, omega (arith, behind, acknowledged))));
+              (λ n is after. (not_played n are (λ e. apart (id ∙ e)) is, omega (arith, after, acknowledged))));
           older = stands.older;
         };
         has = are.has;
@@ -118,9 +118,9 @@ asks_parts true true false is = absurd (both_ways false refl is)
 asks_parts true false c is = absurd (both_ways false refl is)
 asks_parts false b c is = absurd (both_ways false refl is)
 
-behind_then : (number : ℕ) (game : Option ℕ) → is_behind_game number game ≡ true → IfSome game (λ n. n < number)
-behind_then number None is = tt
-behind_then number (Some n) is = ltb-true n number is
+after_then : (number : ℕ) (game : Option ℕ) → is_after_game number game ≡ true → IfSome game (λ n. n < number)
+after_then number None is = tt
+after_then number (Some n) is = ltb-true n number is
 
 -- an id that is another than the map's, where there is a map
 other_id : (map : MapState) (id : ℕ) → is_other map id ≡ true → (map.id ≡ 0 → ⊥) → id ≡ map.id → ⊥
@@ -145,14 +145,14 @@ module _ (map : MapState) (slot : Standing) (state : AppliedState) (taken last_t
     (accepted : List Snapshot) (executed : List (List ℕ)) where
   -- the server hears a message of another map
   pub AreMapped-ignores : (one : Said) → Contains began one → is_other map one.message.id ≡ true → AreMapped map slot state taken last_time built games began accepted executed
-      → AreMapped map (record slot { owed = slot.owed || (not (map.id == 0) && not (is_active slot.stage) && is_behind_game one.message.acknowledged slot.game) })
+      → AreMapped map (record slot { owed = slot.owed || (not (map.id == 0) && not (is_active slot.stage) && is_after_game one.message.acknowledged slot.game) })
       state taken last_time built games began accepted executed
   AreMapped-ignores one there apart are =
       let stands = are.stands in
-      let asks : Bool = not (map.id == 0) && not (is_active slot.stage) && is_behind_game one.message.acknowledged slot.game in
+      let asks : Bool = not (map.id == 0) && not (is_active slot.stage) && is_after_game one.message.acknowledged slot.game in
       let owes : asks ≡ true → (slot.stage ≡ Active → ⊥) × (map.id ≡ 0 → ⊥) × IfSome slot.game (λ n. (WasPlayed games n → ⊥) × (n < taken)) =
       λ e.
-      let parts = asks_parts (not (map.id == 0)) (not (is_active slot.stage)) (is_behind_game one.message.acknowledged slot.game) e in
+      let parts = asks_parts (not (map.id == 0)) (not (is_active slot.stage)) (is_after_game one.message.acknowledged slot.game) e in
       let some = eqb-false map.id 0 (not-true (map.id == 0) parts.0) in
       let waits = not-true (is_active slot.stage) parts.1 in (
         λ active. both_ways (is_active slot.stage) waits (ap is_active active),
@@ -161,7 +161,7 @@ module _ (map : MapState) (slot : Standing) (state : AppliedState) (taken last_t
             (λ n is lt. some_at slot.game (λ (n : ℕ). n < one.message.acknowledged → (WasPlayed games n → ⊥) × (n < taken)) n is
             (All-contains (λ (message : Said). (message.message.id ≡ map.id → ⊥) → IfSome slot.game (λ n. n < message.message.acknowledged → (WasPlayed games n → ⊥) × (n < taken))) began one stands.other there
             (other_id map one.message.id apart some)) lt)
-            (behind_then one.message.acknowledged slot.game parts.2),
+            (after_then one.message.acknowledged slot.game parts.2),
       ) in
       record {
         of_maps = are.of_maps;
@@ -198,12 +198,12 @@ pub record IsOfMap (map : MapState) (slot : Standing) (games : List Played) (acc
   pub begun : slot.stage ≡ Connected → ⊥
   pub unowed : slot.owed ≡ false
   pub feed : said.feed ≡ map.feed
-  pub behind : played.number ≤ said.message.acknowledged
+  pub after : played.number ≤ said.message.acknowledged
   pub asks : said.message.delta ≡ true → AcceptedUnder games accepted played said.message.acknowledged
   pub older : (slot.stage ≡ Active → ⊥) → slot.last_run ≤ played.time
   pub later : All (λ (one : Move). played.time < one.time) said.message.moves
 
--- the slot's part of it, behind what the moves of a message do
+-- the slot's part of it, after what the moves of a message do
 abbrev pub with_playing : Standing → Playing → Standing
 with_playing slot playing = record slot { stage = playing.stage; delta = playing.delta; last_run = playing.last_run }
 
@@ -248,7 +248,7 @@ module _ (map : MapState) (slot : Standing) (state : AppliedState) (taken last_t
               begun = λ e. none_some played.number (sym (stands.none.1 e) ∙ last);
               unowed = false_from_ne_true slot.owed (λ owed. (some_at slot.game (λ (n : ℕ). (WasPlayed games n → ⊥) × (n < taken)) played.number last (stands.owed owed).2).0 was);
               feed = said.feed ∙ (are.of_maps.same played.number played.game applied.carries tells).2;
-              behind = said.behind;
+              after = said.after;
               asks = said.asks;
               older = λ waits. some_at slot.game (λ (n : ℕ). (p : Played) → Contains games p → p.number ≡ n → slot.last_run ≤ p.time) played.number last (stands.older waits) played said.there refl;
               later = said.later;
@@ -286,7 +286,7 @@ module _ (map : MapState) (slot : Standing) (state : AppliedState) (taken last_t
       active_connected : Active ≡ Connected → ⊥
       active_connected e = absurd (cc)
 
-  -- the moves of a client that isn't playing came behind the last that was run
+  -- the moves of a client that isn't playing came after the last that was run
   pub enters_later : (one : Said) → IsOfMap map slot games accepted one → (slot.stage ≡ Active → ⊥) → All (λ (move : Move). slot.last_run < move.time) one.message.moves
   enters_later one of waits =
       let older = of.older waits in

@@ -104,14 +104,14 @@ said_later games next accepted said count is =
           there = Contains-append_left games (next ∷ []) under.0 was.there;
           id = was.id;
           feed = was.feed;
-          behind = was.behind;
+          after = was.after;
           asks = λ e. under_later games next accepted under.0 said.message.acknowledged count (was.asks e);
           later = was.later;
         },
       )
     ]
 
--- numbers still rise behind a higher one
+-- numbers still rise after a higher one
 rise_more : (games : List Played) (next : Played) → All (λ (played : Played). played.number < next.number) games → GamesRise games → GamesRise (games ++ next ∷ [])
 rise_more games next below rise j k d lt within =
     elim (cases_lt k (length games)) [
@@ -133,7 +133,7 @@ rise_more games next below rise j k d lt within =
           omega (arith, first, second, third, low)
     ]
 
--- and so do the maps behind one of a greater id
+-- and so do the maps after one of a greater id
 maps_more : (games : List Played) (next : Played) → All (λ (played : Played). (x y : ℕ) → Tells played.game x → Tells next.game y → x < y) games → MapsRise games
     → MapsRise (games ++ next ∷ [])
 maps_more games next below rise j k x y d lt within told same =
@@ -156,7 +156,7 @@ the_id game id some = go (server_id game.strings) some
     go None some = absurd (both_ways false refl some)
     go (Some x) some = refl
 
--- behind as many texts as there are no string changed since
+-- after as many texts as there are no string changed since
 strings_are : (strings : Strings) (texts : List (List ℕ)) → strings ≡ after_commands strings (drop (length texts) texts)
 unfolding after_commands
 strings_are strings texts = rw (drop_all (length texts) texts (omega arith)) refl

@@ -1,4 +1,4 @@
--- Config strings behind commands that don't change string 1: they tell the same id.
+-- Config strings after commands that don't change string 1: they tell the same id.
 use Rattle.std.proofs.lemmas.Bool.{cond_both, eqb-false}
 use Rattle.std.proofs.Common.{[], List, None, Option, Some, ap, codes, false, length, map, refl, sym, ℕ, ◌++◌, ◌∙◌, ◌∷◌, ◌≡◌, option_and_then, Bool}
 use Rattle.std.specs.Prelude.{All, nat_lt, unwrap_or, ◌==◌, ◌&&◌}
@@ -83,7 +83,7 @@ ids_stay strings [] own = refl
 ids_stay strings (text ∷ texts) own =
     ids_stay (after_command strings text).strings texts (All-tail LeavesOwn text texts own) ∙ id_stays strings text (All-head LeavesOwn text texts own)
 
--- commands go on behind others
+-- commands go on after others
 pub after_commands-append : (strings : Strings) (first rest : List (List ℕ)) → after_commands strings (first ++ rest) ≡ after_commands (after_commands strings first) rest
 unfolding after_commands
 after_commands-append strings [] rest = refl
@@ -91,25 +91,25 @@ after_commands-append strings (text ∷ first) rest = after_commands-append (aft
 
 -- ---- what a client hears
 
--- its strings are those behind the texts
-pub strings_behind : (settings : Settings) (commands : List Command) → (after_texts settings commands).strings ≡ after_commands settings.strings (texts_of commands)
+-- its strings are those after the texts
+pub strings_of_texts : (settings : Settings) (commands : List Command) → (after_texts settings commands).strings ≡ after_commands settings.strings (texts_of commands)
 unfolding after_texts after_commands
-strings_behind settings [] = refl
-strings_behind settings (command ∷ commands) = strings_behind (settled settings.id (tells_id command.text) (after_command settings.strings command.text)) commands
+strings_of_texts settings [] = refl
+strings_of_texts settings (command ∷ commands) = strings_of_texts (settled settings.id (tells_id command.text) (after_command settings.strings command.text)) commands
 
 settled_id : (id : ℕ) (tells : Bool) (applied : Applied) → id_in id applied.strings ≡ id → (settled id tells applied).id ≡ id
 settled_id id tells applied is = cond_both (applied.changed && tells) (id_in id applied.strings) id (λ (x : ℕ). x ≡ id) (λ e. is) (λ e. refl)
 
 -- and its id stays, where its strings tell that id or none
-pub id_behind : (settings : Settings) (commands : List Command) → All LeavesOwn (texts_of commands) → id_in settings.id settings.strings ≡ settings.id
+pub id_after : (settings : Settings) (commands : List Command) → All LeavesOwn (texts_of commands) → id_in settings.id settings.strings ≡ settings.id
     → (after_texts settings commands).id ≡ settings.id
 unfolding after_texts
-id_behind settings [] own is = refl
-id_behind settings (command ∷ commands) own is =
+id_after settings [] own is = refl
+id_after settings (command ∷ commands) own is =
     let applied = after_command settings.strings command.text in
     let tells : server_id applied.strings ≡ server_id settings.strings = id_stays settings.strings command.text (All-head LeavesOwn command.text (texts_of commands) own) in
     let same : id_in settings.id applied.strings ≡ settings.id = ap (λ (o : Option ℕ). unwrap_or o settings.id) tells ∙ is in
     let of = tells_id command.text in
     let id : (settled settings.id of applied).id ≡ settings.id = settled_id settings.id of applied same in
     let next : id_in (settled settings.id of applied).id applied.strings ≡ (settled settings.id of applied).id = ap (λ (i : ℕ). id_in i applied.strings) id ∙ (same ∙ sym id) in
-    id_behind (settled settings.id of applied) commands (All-tail LeavesOwn command.text (texts_of commands) own) next ∙ id
+    id_after (settled settings.id of applied) commands (All-tail LeavesOwn command.text (texts_of commands) own) next ∙ id

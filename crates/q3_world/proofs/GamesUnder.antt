@@ -25,7 +25,7 @@ under_last games accepted played number rise last was =
       place = place;
       within = within;
       is = λ d. ap (λ (s : Snapshot). s.head.number) (get_or_default accepted place d snapshot within ∙ (sym (get_or-drop played.accepted accepted there.0 snapshot) ∙ there.2)) ∙ was.2;
-      behind = omega arith;
+      after = omega arith;
       before = λ later is lt. let most = top.most later is in absurd (omega (arith, most, lt));
     }
 
@@ -39,11 +39,11 @@ under_more games accepted more played number under =
       place = under.place;
       within = omega (arith, within, length-append accepted more);
       is = λ d. ap (λ (s : Snapshot). s.head.number) (get_or_append_left accepted more d under.place within) ∙ under.is d;
-      behind = under.behind;
+      after = under.after;
       before = under.before;
     }
 
--- and where a gamestate is applied behind it
+-- and where a gamestate is applied after it
 pub under_later : (games : List Played) (next : Played) (accepted : List Snapshot) (played : Played) (number : ℕ) → length accepted ≤ next.accepted
     → AcceptedUnder games accepted played number → AcceptedUnder (games ++ next ∷ []) accepted played number
 under_later games next accepted played number count under =
@@ -53,7 +53,7 @@ under_later games next accepted played number count under =
       place = under.place;
       within = under.within;
       is = under.is;
-      behind = under.behind;
+      after = under.after;
       before = λ later is lt. elim (Contains-push_cases games next later is) [
         | inl before ↦ under.before later before lt
         | inr last ↦ let same = ap (λ (p : Played). p.accepted) last in omega (arith, same, count, within)
@@ -65,6 +65,6 @@ pub under_above : (taken last_time : ℕ) (built : List Built) (games : List Pla
     → WasApplied taken last_time built accepted executed played → AcceptedUnder games accepted played number → played.number < number
 under_above taken last_time built games accepted executed played number was under =
     let none : Snapshot = record { head = empty_head; entities = [] } in
-    let higher = was.higher under.place none under.behind under.within in
+    let higher = was.higher under.place none under.after under.within in
     let is = under.is none in
     omega (arith, higher, is)

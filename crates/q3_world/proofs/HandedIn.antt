@@ -74,7 +74,7 @@ pub handed : (profile : Profile) (whole : Whole) (step : EndsStep) → Holds pro
     → Agree profile (kept_ends (kept_of profile whole) step) (with_noted whole whole.histories step)
 handed profile whole step holds = record { same = refl; holds = holds }
 
--- the world behind what is handed in to one client, of which something is noted
+-- the world after what is handed in to one client, of which something is noted
 abbrev pub noting : Whole → ℕ → EndsStep → (Answered → History) → Whole
 noting whole c step note = (with_noted whole (with_history whole.histories c (note step.answer)) step).whole
 
@@ -262,8 +262,8 @@ told_grows server texts histories count c =
       | inr past ↦
           let many = told_count server texts histories in
           let before : history_at histories c ≡ no_history = get_or_past histories c no_history (omega (arith, past, count)) in
-          let behind : history_at (with_texts_told server texts histories) c ≡ no_history = get_or_past (with_texts_told server texts histories) c no_history (omega (arith, past, many)) in
-          subst (HistoryGrows (history_at histories c)) (sym behind) (subst (λ (h : History). HistoryGrows h no_history) (sym before) (HistoryGrows-same no_history))
+          let after : history_at (with_texts_told server texts histories) c ≡ no_history = get_or_past (with_texts_told server texts histories) c no_history (omega (arith, past, many)) in
+          subst (HistoryGrows (history_at histories c)) (sym after) (subst (λ (h : History). HistoryGrows h no_history) (sym before) (HistoryGrows-same no_history))
     ]
 
 -- who a client is stays
@@ -306,7 +306,7 @@ module _ (laws : WindowLaws) (profile : Profile) (slot : SlotState) (client : Cl
         | inr begun ↦ rw begun (joined_told laws profile map slot client history texts (has_room_of texts slot begun lacks) are window joined)
       ]
 
--- the world behind a change
+-- the world after a change
 abbrev config_changed : Whole → ℕ → List ℕ → Whole
 config_changed whole index text =
     record whole {
@@ -349,7 +349,7 @@ Holds-config profile whole index text cited is may holds =
         told_at whole.ends.server (piece_texts index text) whole.histories c lt
         ∙ ap (λ (s : Option SlotState). told_history (piece_texts index text) s (history_at whole.histories c)) at
 
--- what holds behind a change, or where it is refused
+-- what holds after a change, or where it is refused
 abbrev Configured : Profile → Whole → ℕ → List ℕ → Handed ConfigRefused → Type 0
 Configured profile whole index text given =
     Holds profile (record whole {
@@ -394,7 +394,7 @@ holds_config profile whole index text cited bytes holds =
 
 -- ---- moves
 
--- what holds behind a move, or where it is refused
+-- what holds after a move, or where it is refused
 abbrev Moved : Profile → Whole → ℕ → Place → Move → HandedMove MoveError → Type 0
 Moved profile whole c place one moving =
     Holds profile (noting whole c (given (with_client whole.ends c place moving.client) (at_client.moved c moving.answer)) (with_issued (history_at whole.histories c) one))

@@ -24,7 +24,7 @@ use Rattle.q3_world.proofs.Clients.{KeepsSlot-told, KeepsClient-typed}
 use Rattle.q3_world.proofs.Joined.{TakesBuilt-same, TakesSaid-same, AreAsked-same}
 use Rattle.q3_world.proofs.Holding.{Holds, has_slot, has_client, with_server_of, Holds-slot, frames_stay, sent_grows, with_client_of, Holds-client}
 
--- what holds of the windows of both ends behind texts that fit
+-- what holds of the windows of both ends after texts that fit
 record IssuesSo (window : OutgoingState) (incoming : IncomingState) (issued executed : List (List ℕ)) (carries : List Carriage) (acks : List Command) (taken came : ℕ) (texts : List (List ℕ)) : Type 0 where
   is : IsOutgoing (with_texts window texts)
   flow : Flow (with_texts window texts) incoming (issued ++ texts) executed carries acks taken came

@@ -111,7 +111,7 @@ TakesSaid-issued profile slot said issued run one takes = record { gathers = tak
 
 -- ---- what a client accepts
 
--- numbers rise where one above all comes behind them
+-- numbers rise where one above all comes after them
 rise_more : (accepted : List Snapshot) (next : Snapshot) → Rise accepted
     → ((k : ℕ) (d : Snapshot) → k < length accepted → (get_or accepted k d).head.number < next.head.number) → Rise (accepted ++ next ∷ [])
 rise_more accepted next rise above j k d lt within =
@@ -129,9 +129,9 @@ at_most_from least o [] k d are lt = absurd (omega (arith, lt))
 at_most_from least o (first ∷ []) zero d are lt = omega arith
 at_most_from least o (first ∷ []) (suc k) d are lt = absurd (omega (arith, lt))
 at_most_from least o (first ∷ next ∷ others) zero d are lt =
-    let behind = at_most_from (first.head.number + 1) (Some first) (next ∷ others) 0 d are.2 (omega arith) in
+    let after = at_most_from (first.head.number + 1) (Some first) (next ∷ others) 0 d are.2 (omega arith) in
     let more = are.2.0 in
-    omega (arith, behind, more)
+    omega (arith, after, more)
 at_most_from least o (first ∷ next ∷ others) (suc k) d are lt = at_most_from (first.head.number + 1) (Some first) (next ∷ others) k d are.2 (omega (arith, lt))
 
 -- none that was accepted has a number above the newest
@@ -266,7 +266,7 @@ AreAsked-said slot said built accepted next asks asked =
       bases = asked.bases;
     }
 
--- a message was run, behind which a slot writes against another
+-- a message was run, after which a slot writes against another
 pub AreAsked-ran : (slot next : SlotState) (said : List Said) (built : List Built) (accepted : List Snapshot)
     → (next.delta ≡ 0) ⊎ WasAccepted accepted next.delta → AreAsked slot said built accepted → AreAsked next said built accepted
 AreAsked-ran slot next said built accepted is asked = record { asks = asked.asks; delta = is; bases = asked.bases }

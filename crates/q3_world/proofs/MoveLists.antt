@@ -78,7 +78,7 @@ runs_are P before (one ∷ moves) all =
       | inr not_later ↦ rw not_later (runs_are P before moves (All-tail P one moves all))
     ]
 
--- each move that rises behind a time is later
+-- each move that rises after a time is later
 pub later : (before : ℕ) (moves : List Move) → TimesRise before moves → All (λ (one : Move). before < one.time) moves
 later before [] rise = All-nil (λ (one : Move). before < one.time)
 later before (one ∷ moves) rise =
@@ -101,10 +101,10 @@ none_first first (one ∷ moves) others are in_all =
     (not_first first one others (All-head (λ (m : Move). first.time < m.time) one moves are) (All-head (Contains (first ∷ others)) one moves in_all))
     (none_first first moves others (All-tail (λ (m : Move). first.time < m.time) one moves are) (All-tail (Contains (first ∷ others)) one moves in_all))
 
--- a move among others is the first or behind it
-first_or_behind : (first one : Move) (others : List Move) → Contains (first ∷ others) one → (first ≡ one) ⊎ Contains others one
-first_or_behind first one others (zero, within, is) = inl is
-first_or_behind first one others (suc k, within, is) = inr (k, omega (arith, within), is)
+-- a move among others is the first or after it
+first_or_after : (first one : Move) (others : List Move) → Contains (first ∷ others) one → (first ≡ one) ⊎ Contains others one
+first_or_after first one others (zero, within, is) = inl is
+first_or_after first one others (suc k, within, is) = inr (k, omega (arith, within), is)
 
 -- moves of rising times, each of which is among those that were issued by rising times, stand among them in their order
 pub stand_among : (least before : ℕ) (issued moves : List Move) → TimesRise least issued → TimesRise before moves → All (Contains issued) moves → StandAmong moves issued
@@ -113,11 +113,11 @@ stand_among least before [] (one ∷ moves) rise rising are =
     let there = All-head (Contains []) one moves are in
     absurd (omega (arith, there.1))
 stand_among least before (first ∷ issued) (one ∷ moves) rise rising are =
-    let behind = later one.time moves rising.1 in
+    let after = later one.time moves rising.1 in
     let others = All-tail (Contains (first ∷ issued)) one moves are in
-    elim (first_or_behind first one issued (All-head (Contains (first ∷ issued)) one moves are)) [
+    elim (first_or_after first one issued (All-head (Contains (first ∷ issued)) one moves are)) [
       | inl is ↦
-          let after_first = subst (λ (m : Move). All (λ (x : Move). m.time < x.time) moves) (sym is) behind in (
+          let after_first = subst (λ (m : Move). All (λ (x : Move). m.time < x.time) moves) (sym is) after in (
             [],
             issued,
             ap (λ (m : Move). m ∷ issued) is,
@@ -125,7 +125,7 @@ stand_among least before (first ∷ issued) (one ∷ moves) rise rising are =
           )
       | inr there ↦
           let past = All-contains (λ (m : Move). first.time < m.time) issued one (later first.time issued rise.1) there in
-          let after_first = All-weaker (λ (m : Move). one.time < m.time) (λ (m : Move). first.time < m.time) (λ m lt. omega (arith, past, lt)) moves behind in
+          let after_first = All-weaker (λ (m : Move). one.time < m.time) (λ (m : Move). first.time < m.time) (λ m lt. omega (arith, past, lt)) moves after in
           let rest = stand_among first.time before issued (one ∷ moves) rise.1 rising
           (All-cons (Contains issued) one moves there (none_first first moves issued after_first others)) in
           (first ∷ rest.0, rest.1, ap (λ (l : List Move). first ∷ l) rest.2, rest.3)
@@ -208,11 +208,11 @@ marks_from : (least from most : ℕ) (moves : List Issued) → from ≤ least �
 marks_from least from most [] le rise = tt
 marks_from least from most (issued ∷ moves) le rise = let first = rise.0 in (omega (arith, le, first), rise.1, rise.2)
 
-marks_behind : (least most count : ℕ) (moves : List Issued) → MarksRise least most moves → MarksRise least most (drop count moves)
-marks_behind least most zero moves rise = rise
-marks_behind least most (suc count) [] rise = tt
-marks_behind least most (suc count) (issued ∷ moves) rise =
-    marks_from issued.begun least most (drop count moves) rise.0 (marks_behind issued.begun most count moves rise.2)
+marks_after : (least most count : ℕ) (moves : List Issued) → MarksRise least most moves → MarksRise least most (drop count moves)
+marks_after least most zero moves rise = rise
+marks_after least most (suc count) [] rise = tt
+marks_after least most (suc count) (issued ∷ moves) rise =
+    marks_from issued.begun least most (drop count moves) rise.0 (marks_after issued.begun most count moves rise.2)
 
 marks_push : (least most : ℕ) (one : Move) (moves : List Issued) → least ≤ most → MarksRise least most moves → MarksRise least most (moves ++ record { begun = most; one = one } ∷ [])
 marks_push least most one [] le rise = (le, omega arith, tt)
@@ -245,7 +245,7 @@ KeepsMoves-push moves begun issued one is keeps =
           ∙ (ap (λ (l : List Move). keeps.before ++ l) (map-append one_of (take count more) (drop count more))
           ∙ sym (append_assoc keeps.before (map one_of (take count more)) (map one_of (drop count more)))));
       few = omega (arith, length-drop count more);
-      marks = marks_behind 0 begun count more (marks_push 0 begun one moves (omega arith) keeps.marks);
+      marks = marks_after 0 begun count more (marks_push 0 begun one moves (omega arith) keeps.marks);
       each = All-drop (λ (i : Issued). IsMove i.one) count more (All-push (λ (i : Issued). IsMove i.one) moves (record { begun = begun; one = one }) keeps.each is);
     }
 

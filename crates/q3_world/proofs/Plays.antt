@@ -1,4 +1,4 @@
--- The moves of a message run at a slot behind those that it ran before.
+-- The moves of a message run at a slot after those that it ran before.
 use Rattle.std.proofs.Common.{[], List, arith, refl, subst, sym, ℕ, ◌++◌, ◌∷◌, ◌≡◌, ◌≤◌}
 use Rattle.std.specs.Prelude.{All}
 use Rattle.std.proofs.lemmas.List.{append-nil}
@@ -28,10 +28,10 @@ RisesTo run last = TimesRise 0 run × (last_time 0 run ≤ last)
 
 runs_on : (run moves : List Move) (before : ℕ) → last_time 0 run ≤ before → TimesRise 0 run → RisesTo (run ++ runs before moves) (last_run_of before moves)
 runs_on run moves before le rise =
-    let behind = runs before moves in
-    let whole = last_time-append 0 run behind in
-    let less = last_time-le (last_time 0 run) before behind le in
-    (TimesRise-append 0 run behind rise (TimesRise-from (last_time 0 run) before behind le (runs_rise before moves)), omega (arith, whole, less))
+    let after = runs before moves in
+    let whole = last_time-append 0 run after in
+    let less = last_time-le (last_time 0 run) before after le in
+    (TimesRise-append 0 run after rise (TimesRise-from (last_time 0 run) before after le (runs_rise before moves)), omega (arith, whole, less))
 
 runs_none : (run : List Move) (last : ℕ) → last_time 0 run ≤ last → TimesRise 0 run → RisesTo (run ++ []) last
 runs_none run last le rise = subst (λ (all : List Move). RisesTo all last) (sym (append-nil run)) (rise, le)

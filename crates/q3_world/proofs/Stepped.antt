@@ -29,10 +29,10 @@ few_sent kept c (Some place) = few_made kept.datagrams c (ToServer place.address
 -- ---- an answer that is told
 
 -- where a step's state is kept and its answer told, the world does it
-pub tells_does : (old new : Counting) (before behind : Option Written) (were are : ℕ) (step : KeptStep) (result : Result (Unit {0}) StepError) → new.kept ≡ step.kept
-    → Tells old.counts new.counts before behind were are step.answer result → length step.kept.datagrams ≤ length old.kept.datagrams + 1
-    → Does old new before behind were are step result
-tells_does old new before behind were are step (Ok x) kept tells few = record {
+pub tells_does : (old new : Counting) (before after : Option Written) (were are : ℕ) (step : KeptStep) (result : Result (Unit {0}) StepError) → new.kept ≡ step.kept
+    → Tells old.counts new.counts before after were are step.answer result → length step.kept.datagrams ≤ length old.kept.datagrams + 1
+    → Does old new before after were are step result
+tells_does old new before after were are step (Ok x) kept tells few = record {
   kept = kept;
   counts = tells.counts;
   printed = tells.printed;
@@ -41,7 +41,7 @@ tells_does old new before behind were are step (Ok x) kept tells few = record {
   no_memory = λ is. absurd (tells.memory is);
   few = rw kept few;
 }
-tells_does old new before behind were are step (Err e) kept tells few = record {
+tells_does old new before after were are step (Err e) kept tells few = record {
   kept = tt;
   counts = tt;
   printed = tells.printed;

@@ -17,41 +17,41 @@ use Rattle.q3_world.specs.Kept.{KeptStep}
 use Rattle.q3_world.specs.Outcome.{Prints, HasStepCause}
 
 -- an answer is counted, and its lines are printed, or a front of them
-pub record Tells (old new : Counts) (before behind : Option Written) (were are : ℕ) (answer : Answered) (result : Result (Unit {0}) StepError) : Type 0 where
+pub record Tells (old new : Counts) (before after : Option Written) (were are : ℕ) (answer : Answered) (result : Result (Unit {0}) StepError) : Type 0 where
   pub counts : new ≡ counted old answer
-  pub printed : Prints before behind (lines_of answer) result
-  pub flushed : OnOk result (NothingWaits behind)
+  pub printed : Prints before after (lines_of answer) result
+  pub flushed : OnOk result (NothingWaits after)
   pub cause : HasStepCause were are result
   pub memory : IsErrOf result NoMemory → ⊥
   pub files : IsErrOf result FileFault → ⊥
 
 -- a client took bytes, and its recording went on by what it applied; that is told, unless a file can't be written
-pub record TakesAt (old : Place) (taken : Taken) (new : Place) (front : Front) (c : ℕ) (counts_old counts : Counts) (before behind : Option Written) (were are : ℕ) (result : Result (Unit {0}) StepError) : Type 0 where
+pub record TakesAt (old : Place) (taken : Taken) (new : Place) (front : Front) (c : ℕ) (counts_old counts : Counts) (before after : Option Written) (were are : ℕ) (result : Result (Unit {0}) StepError) : Type 0 where
   pub kept : new ≡ record old { client = taken.client; recording = new.recording }
   pub recording : OnOk result (new.recording ≡ (note_taken old.recording old.client taken).recording)
   pub told : OnOk result (counts ≡ counted counts_old (taken_by_client front c taken (note_taken old.recording old.client taken).ended))
-  pub printed : Prints before behind (lines_of (taken_by_client front c taken (note_taken old.recording old.client taken).ended)) result
-  pub flushed : OnOk result (NothingWaits behind)
+  pub printed : Prints before after (lines_of (taken_by_client front c taken (note_taken old.recording old.client taken).ended)) result
+  pub flushed : OnOk result (NothingWaits after)
   pub cause : HasStepCause were are result
   pub memory : IsErrOf result NoMemory → ⊥
 
 -- the ends are those of a step, and its answer is told; at want of memory all stays as it was
-pub record EndsDo (old new : Ends) (counts_old counts : Counts) (before behind : Option Written) (were are : ℕ) (step : EndsStep) (result : Result (Unit {0}) StepError) : Type 0 where
+pub record EndsDo (old new : Ends) (counts_old counts : Counts) (before after : Option Written) (were are : ℕ) (step : EndsStep) (result : Result (Unit {0}) StepError) : Type 0 where
   pub ends : OnOk result (new ≡ step.ends)
   pub told : OnOk result (counts ≡ counted counts_old step.answer)
-  pub printed : Prints before behind (lines_of step.answer) result
-  pub flushed : OnOk result (NothingWaits behind)
+  pub printed : Prints before after (lines_of step.answer) result
+  pub flushed : OnOk result (NothingWaits after)
   pub cause : HasStepCause were are result
-  pub no_memory : IsErrOf result NoMemory → (new ≡ old) × (counts ≡ counts_old) × (behind ≡ before)
+  pub no_memory : IsErrOf result NoMemory → (new ≡ old) × (counts ≡ counts_old) × (after ≡ before)
 
 -- what a step gives is kept, its answer is counted, and its lines are printed, or a front of them; at want of memory all stays as it was
-pub record Does (old new : Counting) (before behind : Option Written) (were are : ℕ) (step : KeptStep) (result : Result (Unit {0}) StepError) : Type 0 where
+pub record Does (old new : Counting) (before after : Option Written) (were are : ℕ) (step : KeptStep) (result : Result (Unit {0}) StepError) : Type 0 where
   pub kept : OnOk result (new.kept ≡ step.kept)
   pub counts : OnOk result (new.counts ≡ counted old.counts step.answer)
-  pub printed : Prints before behind (lines_of step.answer) result
-  pub flushed : OnOk result (NothingWaits behind)
+  pub printed : Prints before after (lines_of step.answer) result
+  pub flushed : OnOk result (NothingWaits after)
   pub cause : HasStepCause were are result
-  pub no_memory : IsErrOf result NoMemory → (new ≡ old) × (behind ≡ before)
+  pub no_memory : IsErrOf result NoMemory → (new ≡ old) × (after ≡ before)
   pub few : length new.kept.datagrams ≤ length old.kept.datagrams + 1
 
 -- recordings stay as they are, with the numbers of their files, and no file fails

@@ -58,7 +58,7 @@ with_client ends c place client = with_place ends c (record place { client = cli
 abbrev pub new_ends : Profile → Ends
 new_ends profile = record { server = new_server profile places; clients = replicate places None }
 
--- the ends behind a line, and the answer
+-- the ends after a line, and the answer
 pub record EndsStep : Type 0 where
   pub ends : Ends
   pub answer : Answered
@@ -179,9 +179,9 @@ hand_server ends c bytes = hand_server_of ends c bytes (place_at ends c)
 
 -- ---- every line
 
--- what a line does: it hands something in, or shows a client, with the ends behind it and the answer; asks the server for a datagram for a
+-- what a line does: it hands something in, or shows a client, with the ends after it and the answer; asks the server for a datagram for a
 -- client, or a client for one; delivers the datagram of a number, or prints its bytes; or hands bytes of its own to an end, in the name of
--- a client, with the ends behind it and the answer
+-- a client, with the ends after it and the answer
 pub data Line : Type 0 where
   Hands : EndsStep → Line
   Serves : ℕ → Line

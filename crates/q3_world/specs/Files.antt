@@ -51,11 +51,11 @@ unfoldable pub acts_of : Kept → Event → List FileAct
 acts_of kept (events.Deliver number) = deliver_acts kept.ends (slice_get kept.datagrams (number - 1))
 acts_of kept event = line_acts kept.ends event
 
--- behind the last event every recording that goes on has its end, by client
+-- after the last event every recording that goes on has its end, by client
 abbrev pub ending_acts : Ends → List FileAct
 ending_acts ends = flat_map stop_acts ends.clients
 
--- what these events do to files, and the end behind them
+-- what these events do to files, and the end after them
 unfoldable pub acts_from : Kept → List Event → List FileAct
 acts_from kept [] = ending_acts kept.ends
 acts_from kept (event ∷ events) = acts_of kept event ++ acts_from (kept_step kept event).kept events
@@ -87,5 +87,5 @@ by_files (Err WriteFault) = Ok tt
 by_files (Err FileFault) = Err (record {})
 
 abbrev pub DoesFiles : Option Told → Option Told → ℕ → ℕ → ℕ → ℕ → ℕ → ℕ → List FileAct → Result (Unit {0}) StepError → Type 0
-DoesFiles told now given behind faults faults_behind write_faults write_faults_behind acts result =
-    WritesFiles told now given behind faults faults_behind write_faults write_faults_behind (acts_by result acts) (by_files result)
+DoesFiles told now given after faults faults_after write_faults write_faults_after acts result =
+    WritesFiles told now given after faults faults_after write_faults write_faults_after (acts_by result acts) (by_files result)

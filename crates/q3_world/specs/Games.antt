@@ -56,7 +56,7 @@ pub record OfMaps (map : MapState) (built : List Built) : Type 0 where
   pub rise : (m n x y : ℕ) (first second : Gamestate) → Carries built m first → Carries built n second → m < n → Tells first x → Tells second y → x ≤ y
   pub same : (n : ℕ) (game : Gamestate) → Carries built n game → Tells game map.id → (map.begun ≡ true) × (game.baselines ≡ map.baselines) × (game.feed ≡ map.feed)
 
--- a slot whose last gamestate of the present map is that of a number: none was built behind it; or none of the map was built
+-- a slot whose last gamestate of the present map is that of a number: none was built after it; or none of the map was built
 abbrev pub HasLast : MapState → List Built → Option ℕ → Type 0
 HasLast map built None = (n : ℕ) (game : Gamestate) → Carries built n game → Tells game map.id → ⊥
 HasLast map built (Some last) =
@@ -141,23 +141,23 @@ pub record HasGames (state : AppliedState) (taken last_time : ℕ) (built : List
   pub maps : MapsRise games
   pub shows : MatchOption (last_played games) (IsFresh state) (λ played. IsOf state played executed)
 
--- a client accepted a snapshot of a number under a gamestate that it had applied: behind it, and before each gamestate that it applied
+-- a client accepted a snapshot of a number under a gamestate that it had applied: after it, and before each gamestate that it applied
 -- later, which has a higher number
 pub record AcceptedUnder (games : List Played) (accepted : List Snapshot) (played : Played) (number : ℕ) : Type 0 where
   pub there : Contains games played
   pub place : ℕ
   pub within : place < length accepted
   pub is : (d : Snapshot) → (slice_index_or accepted place d).head.number ≡ number
-  pub behind : played.accepted ≤ place
+  pub after : played.accepted ≤ place
   pub before : (later : Played) → Contains games later → played.number < later.number → place < later.accepted
 
--- a message that a client said under a gamestate that it had applied: with its id and feed, behind it, and with moves that were issued
+-- a message that a client said under a gamestate that it had applied: with its id and feed, after it, and with moves that were issued
 -- since; one that asks for deltas acknowledges a snapshot that was accepted under this gamestate
 pub record SaidUnder (games : List Played) (accepted : List Snapshot) (said : Said) (played : Played) : Type 0 where
   pub there : Contains games played
   pub id : Tells played.game said.message.id
   pub feed : said.feed ≡ played.game.feed
-  pub behind : played.number ≤ said.message.acknowledged
+  pub after : played.number ≤ said.message.acknowledged
   pub asks : said.message.delta ≡ true → AcceptedUnder games accepted played said.message.acknowledged
   pub later : All (λ (one : Move). played.time < one.time) said.message.moves
 
@@ -171,7 +171,7 @@ IsSaidUnder games accepted said = SaidBefore said ⊎ ((played : Played) × Said
 -- ---- what was built
 
 -- a snapshot for a client that played: its gamestate was applied and is the last one before it, the baselines are its own, and its base
--- came behind it
+-- came after it
 pub record BuiltUnder (built : List Built) (games : List Played) (n g : ℕ) : Type 0 where
   pub was : WasPlayed games g
   pub below : g < n

@@ -39,11 +39,11 @@ pub record KeptStep : Type 0 where
 abbrev pub opening_kept : Profile → Kept
 opening_kept profile = record { profile = profile; ends = new_ends profile; datagrams = [] }
 
--- the ends behind a line, and its answer
+-- the ends after a line, and its answer
 abbrev pub kept_ends : Kept → EndsStep → KeptStep
 kept_ends kept step = record { kept = record kept { ends = step.ends }; answer = step.answer }
 
--- the datagrams, and behind them what an emission for a client, or of a client, hands out
+-- the datagrams, and after them what an emission for a client, or of a client, hands out
 abbrev pub datagrams_after : List SentBytes → ℕ → Direction → Option Piece → List SentBytes
 datagrams_after datagrams c direction None = datagrams
 datagrams_after datagrams c direction (Some piece) = datagrams ++ record { client = c; direction = direction; bytes = piece.bytes } ∷ []

@@ -9,9 +9,9 @@ TimesRise before (one ∷ moves) = (before < one.time) × TimesRise one.time mov
 
 -- moves were issued one directly after the other
 abbrev pub AreConsecutive : List Move → List Move → Type 0
-AreConsecutive moves issued = (before : List Move) × (behind : List Move) × (issued ≡ before ++ moves ++ behind)
+AreConsecutive moves issued = (before : List Move) × (after : List Move) × (issued ≡ before ++ moves ++ after)
 
 -- moves stand among those that were issued, each once and in their order
 abbrev pub StandAmong : List Move → List Move → Type 0
 StandAmong [] issued = Unit {0}
-StandAmong (one ∷ moves) issued = (before : List Move) × (behind : List Move) × (issued ≡ before ++ one ∷ behind) × StandAmong moves behind
+StandAmong (one ∷ moves) issued = (before : List Move) × (after : List Move) × (issued ≡ before ++ one ∷ after) × StandAmong moves after

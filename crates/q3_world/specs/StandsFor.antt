@@ -84,7 +84,7 @@ abbrev pub HasSnapshot : List Built → ℕ → Type 0
 HasSnapshot built number = (snapshot : Snapshot) × (snapshot_in (built_at built number).message.section ≡ Some snapshot)
 
 -- the frames that a slot holds under numbers of messages that were begun with a snapshot are what was built under them; under the
--- number of a gamestate, and behind the last number, one may be left of a message that proved too long
+-- number of a gamestate, and past the last number, one may be left of a message that proved too long
 abbrev pub AreOfBuilt : FramesState → ℕ → List Built → Type 0
 AreOfBuilt frames c began = (number : ℕ) (snapshot : Snapshot) → held_frame frames c number ≡ Some snapshot → 1 ≤ number → number ≤ length began → HasSnapshot began number
     → (snapshot.head.number ≡ number) × WasBuilt began snapshot

@@ -243,7 +243,7 @@ opening profile = record { ends = new_ends profile; histories = replicate places
 abbrev pub with_noted : Whole → List History → EndsStep → Step
 with_noted whole histories step = record { whole = record whole { ends = step.ends; histories = histories }; answer = step.answer }
 
--- the tags, and behind them that of what an emission for a client, or of a client, hands out
+-- the tags, and after them that of what an emission for a client, or of a client, hands out
 abbrev pub sent_after : List Tag → ℕ → Direction → Option Piece → List Tag
 sent_after sent c direction None = sent
 sent_after sent c direction (Some piece) =
@@ -287,7 +287,7 @@ abbrev pub game_in : ClientTook → Told → Option Gamestate
 game_in (took.Applied applied) (told.Game game) = Some game
 game_in other section = None
 
--- what is noted of a client that took a datagram of a message: what it accepted and executed, and behind that its gamestate
+-- what is noted of a client that took a datagram of a message: what it accepted and executed, and after that its gamestate
 abbrev pub with_taken : History → ℕ → Told → Taken → History
 with_taken history number section taken =
     with_game (with_heard history taken.accepted taken.heard) number taken.client.last_time (game_in taken.answer section)
@@ -340,7 +340,7 @@ deliver profile whole number (Some tag) = arrive profile whole number tag tag.di
 
 -- ---- bytes arrive
 
--- an end took bytes. What is noted of clients stays as it is: of what comes behind bytes that no end made nothing is noted
+-- an end took bytes. What is noted of clients stays as it is: of what comes after bytes that no end made nothing is noted
 abbrev pub with_took : Whole → EndsStep → Step
 with_took whole step = record { whole = record whole { ends = step.ends }; answer = step.answer }
 

@@ -219,10 +219,10 @@ HasActed-more start now after told mid behind events k event is lt had does step
   acted = both_on told mid behind had.done (acts_of now event) (Ok tt) had.acted does;
 }
 
--- some acts behind others are some
-some_behind : (first acts : List FileAct) → acts ≢ [] → first ++ acts ≢ []
-some_behind [] acts some none = some none
-some_behind (act ∷ first) acts some none = absurd cc
+-- some acts after others are some
+some_after : (first acts : List FileAct) → acts ≢ [] → first ++ acts ≢ []
+some_after [] acts some none = some none
+some_after (act ∷ first) acts some none = absurd cc
 
 -- the k-th event failed
 pub HasActed-early : (start now : Kept) (told mid behind : Option Told) (events : List Event) (k : ℕ) (event : Event) (e : StepError) (last : List FileAct)
@@ -234,7 +234,7 @@ HasActed-early start now told mid behind events k event errors.NoMemory last is 
   had.whole ∙ ap (λ (acts : List FileAct). acts ++ acts_from now (drop k events)) (sym (append-nil had.done)),
   both_on told mid behind had.done [] (Ok tt) had.acted does,
   tt,
-  λ failed. some_behind had.done [] (some failed),
+  λ failed. some_after had.done [] (some failed),
 )
 HasActed-early start now told mid behind events k event errors.WriteFault last is lt had does some = (
   had.done ++ acts_of now event,
@@ -242,7 +242,7 @@ HasActed-early start now told mid behind events k event errors.WriteFault last i
   more_whole start now told mid events k event is lt had,
   both_on told mid behind had.done (acts_of now event) (Ok tt) had.acted does,
   tt,
-  λ failed. some_behind had.done (acts_of now event) (some failed),
+  λ failed. some_after had.done (acts_of now event) (some failed),
 )
 HasActed-early start now told mid behind events k event errors.FileFault last is lt had does some = (
   had.done ++ acts_of now event,
@@ -250,7 +250,7 @@ HasActed-early start now told mid behind events k event errors.FileFault last is
   more_whole start now told mid events k event is lt had,
   both_on told mid behind had.done (acts_of now event) (Err (record {})) had.acted does,
   tt,
-  λ failed. some_behind had.done (acts_of now event) (some failed),
+  λ failed. some_after had.done (acts_of now event) (some failed),
 )
 
 -- every event was done

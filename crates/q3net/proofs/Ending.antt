@@ -14,21 +14,21 @@ use Rattle.q3_command.specs.Command.{Command}
 use Rattle.q3net.specs.Lines.{fault_status, ending_status, ending_line}
 use Rattle.q3net.specs.Faults.{Gets, node_fault, FileCause}
 use Rattle.q3net.specs.Verdict.{Place, Nowhere, First, Anywhere, Stops, Verdict, Outside, IsVerdict, stops_nowhere, settled}
-use Rattle.q3net.specs.Run.{Comes, ComesBehind, Executes, PrintsAll, HandsOn, Took, Prints, Reports, wire_by, Left, WiredBy, FailsBy, ExecutesWired}
+use Rattle.q3net.specs.Run.{Comes, ComesAfter, Executes, PrintsAll, HandsOn, Took, Prints, Reports, wire_by, Left, WiredBy, FailsBy, ExecutesWired}
 
 -- ---- where something may stop a command
 
 -- before its text
-comes_first : (place : Place) (text : List ℕ) → Comes place → ComesBehind place [] text
+comes_first : (place : Place) (text : List ℕ) → Comes place → ComesAfter place [] text
 comes_first Nowhere text comes = comes
 comes_first First text comes = refl
 comes_first Anywhere text comes = (text, refl)
 
 -- and anywhere at all
-pub comes_behind : (place : Place) (printed text : List ℕ) → ComesBehind place printed text → Comes place
-comes_behind Nowhere printed text behind = behind
-comes_behind First printed text behind = tt
-comes_behind Anywhere printed text behind = tt
+pub comes_after : (place : Place) (printed text : List ℕ) → ComesAfter place printed text → Comes place
+comes_after Nowhere printed text behind = behind
+comes_after First printed text behind = tt
+comes_after Anywhere printed text behind = tt
 
 -- what is settled stops where it is said to
 pub settled_memory : (stops : Stops) (names : List (List ℕ)) (answer : Result (List ℕ) Fault) → Comes stops.memory → Comes (settled stops names answer).stops.memory

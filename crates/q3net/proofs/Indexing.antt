@@ -27,7 +27,7 @@ use Rattle.q3net.proofs.Acting.{first_left}
 use Rattle.q3net.proofs.Looking.{got_ok, gave, gave_first, leaves_then, first_then}
 use Rattle.q3net.proofs.Ending.{refused_so, fails_writing}
 use Rattle.q3net.proofs.Early.{MayEnd, ends_early, leaves_early, is_outside, outside_of, printed_so}
-use Rattle.q3net.proofs.Numbered.{MadeBehind, made_behind, untold_made, puts_leave, none_left, found_one, made_none}
+use Rattle.q3net.proofs.Numbered.{MadeAfter, made_after, untold_made, puts_leave, none_left, found_one, made_none}
 use Rattle.q3net.proofs.Refusing.{OfDemo, Refuses, all_refuses}
 
 -- ---- the verdict
@@ -152,7 +152,7 @@ indexed_so : (told t1 t2 t3 : Option Told) (profile demo index : List ℕ) (by :
     → LooksUp t1 t2 demo (Ok first) → Creates t2 t3 index (Ok second) → ((now : Told) → t3 ≡ Some now → answer ≡ indexing_of by (contents_at now first)) → Indexes told by demo answer
 indexed_so None t1 t2 t3 profile demo index by first second answer apart leaves looks makes_it says = tt
 indexed_so (Some told) t1 t2 t3 profile demo index by first second answer apart leaves looks makes_it says =
-    let made = made_behind told t1 t2 t3 (looked_up profile ∷ []) demo index first second apart leaves looks makes_it in
+    let made = made_after told t1 t2 t3 (looked_up profile ∷ []) demo index first second apart leaves looks makes_it in
     says made.0 made.1 ∙ ap (indexing_in by) (sym made.2.of_demo)
 
 -- a build that failed was refused by what the demo holds, or by something from outside
@@ -214,7 +214,7 @@ was_made : (told t1 t2 t3 t4 : Option Told) (profile demo index : List ℕ) (by 
 unfolding made_answer
 was_made None t1 t2 t3 t4 profile demo index by first second built apart leaves looks makes_it builds = record { made = record { index = []; records = built.records }; is = tt; records = refl }
 was_made (Some told) t1 t2 t3 t4 profile demo index by first second built apart leaves looks makes_it builds =
-    let behind = made_behind told t1 t2 t3 (looked_up profile ∷ []) demo index first second apart leaves looks makes_it in
+    let behind = made_after told t1 t2 t3 (looked_up profile ∷ []) demo index first second apart leaves looks makes_it in
     record {
       made = record { index = indexes.index_text by (contents_at behind.0 first); records = built.records };
       is = made_of by behind.0 first second t4 built (builds behind.0 behind.1) ∙ ap (indexing_in by) (sym behind.2.of_demo);
@@ -285,7 +285,7 @@ both_looked : (told t1 t2 : Option Told) (profile demo : List ℕ) (by : Profile
 both_looked told t1 t2 profile demo by first one two =
     leaves_then told t1 t2 (looked_up profile) (looked_up demo ∷ []) (gave by (profile ∷ []) told t1 one) (gave first (demo ∷ []) t1 t2 two)
 
--- where nothing is told, nothing is told behind it
+-- where nothing is told, nothing is told after it
 untold_gives : (profile demo index : List ℕ) (by : Profile) (ended : Result (Unit {0}) Fault) (now : Option Told) → GetsFrom profile_in None profile (Ok by) → now ≡ None
     → LeavesFiles (makes profile demo index) (of_files None) now ended
 untold_gives profile demo index by ended now passes none =
@@ -322,7 +322,7 @@ named_so profile demo index acts rest is none = sym (ap (λ (all : List FileAct)
     ∙ ap (λ (others : List Named). looked_up profile ∷ looked_up demo ∷ record { name = index; call = Create } ∷ others) none)
 
 -- a front of it was written, of none that is refused
-begun_leaves : (told now : Told) (t4 : Option Told) (profile demo index : List ℕ) (by : Profile) (first second : ℕ) → MadeBehind told now (looked_up profile ∷ []) demo index first second
+begun_leaves : (told now : Told) (t4 : Option Told) (profile demo index : List ℕ) (by : Profile) (first second : ℕ) → MadeAfter told now (looked_up profile ∷ []) demo index first second
     → BeginsIndex by now first second t4
     → LeavesFirst (Some told) t4 (both profile demo ++ created (index_acts index (indexing_in by (contents_of told.files demo)))) (index_acts index (indexing_in by (contents_of told.files demo)))
 unfolding made_names indexed_as
@@ -369,7 +369,7 @@ index_broken : (told t1 t2 t3 t4 : Option Told) (profile demo index : List ℕ) 
 index_broken None t1 t2 t3 t4 profile demo index by first second e apart passes gives looks makes_it outside untold begins =
     untold_gives profile demo index by (Err e) t4 passes (untold (untold_made t1 t2 t3 demo index first second (gave by (profile ∷ []) None t1 gives) looks makes_it))
 index_broken (Some told) t1 t2 t3 t4 profile demo index by first second e apart passes gives looks makes_it outside untold begins =
-    let behind = made_behind told t1 t2 t3 (looked_up profile ∷ []) demo index first second apart (gave by (profile ∷ []) (Some told) t1 gives) looks makes_it in
+    let behind = made_after told t1 t2 t3 (looked_up profile ∷ []) demo index first second apart (gave by (profile ∷ []) (Some told) t1 gives) looks makes_it in
     let answer = indexing_in by (contents_of told.files demo) in (
       demo_indexed (profile ∷ demo ∷ []) index answer,
       index_verdict (Some told) profile demo index by answer passes refl,
@@ -403,7 +403,7 @@ index_gives_refused None t1 t2 t3 t4 profile demo index by first second e apart 
     untold_gives profile demo index by (Err (build_fault e)) t4 passes (untold (untold_made t1 t2 t3 demo index first second (gave by (profile ∷ []) None t1 gives) looks makes_it))
 index_gives_refused (Some told) t1 t2 t3 t4 profile demo index by first second e apart passes gives looks makes_it untold builds =
     let looked = gave by (profile ∷ []) (Some told) t1 gives in
-    let behind = made_behind told t1 t2 t3 (looked_up profile ∷ []) demo index first second apart looked looks makes_it in
+    let behind = made_after told t1 t2 t3 (looked_up profile ∷ []) demo index first second apart looked looks makes_it in
     elim (build_ends e) [
       | inl broken ↦ index_broken (Some told) t1 t2 t3 t4 profile demo index by first second (build_fault e) apart passes gives looks makes_it (broken_outside (build_fault e) broken.fault) untold
           (λ now is. broken.begins by now first second t4 (builds now is))
@@ -421,7 +421,7 @@ unfolding created made_names made_answer
 index_gives_all None t1 t2 t3 t4 profile demo index by first second built ended apart passes gives looks makes_it untold builds =
     untold_gives profile demo index by ended t4 passes (untold (untold_made t1 t2 t3 demo index first second (gave by (profile ∷ []) None t1 gives) looks makes_it))
 index_gives_all (Some told) t1 t2 t3 t4 profile demo index by first second built ended apart passes gives looks makes_it untold builds =
-    let behind = made_behind told t1 t2 t3 (looked_up profile ∷ []) demo index first second apart (gave by (profile ∷ []) (Some told) t1 gives) looks makes_it in
+    let behind = made_after told t1 t2 t3 (looked_up profile ∷ []) demo index first second apart (gave by (profile ∷ []) (Some told) t1 gives) looks makes_it in
     let whole = builds behind.0 behind.1 in
     let text = indexes.index_text by (contents_at behind.0 first) in
     let so = left_some behind.0 t4 second text whole.1 in

@@ -31,7 +31,7 @@ use Rattle.q3_command.specs.Command.{Command, Serve, Join}
 use Rattle.q3net.specs.Faults.{Gets, node_fault, ReadCause, WriteCause, FileCause, WireCause}
 use Rattle.q3net.specs.Input.{IsFront, Holds, looked_up, created, LeavesTold, LeavesFirst, LooksUpTold, LooksUpFirst, Touches, Gives}
 use Rattle.q3net.specs.Verdict.{Verdict, Outside, IsVerdict, memory_by, names_by, profile_in, events_in, ending_of, noded, served, client_turns, joined, GetsFrom}
-use Rattle.q3net.specs.Run.{ComesBehind, place_of, left_so, EndsEarly, IsBeforehand, ExecutesWired, LeavesFiles, MayBind}
+use Rattle.q3net.specs.Run.{ComesAfter, place_of, left_so, EndsEarly, IsBeforehand, ExecutesWired, LeavesFiles, MayBind}
 use Rattle.q3net.proofs.Loading.{held}
 use Rattle.q3net.proofs.Acting.{none_on, both_on, first_more, all_left, first_left}
 use Rattle.q3net.proofs.Looking.{got_ok, gave, gave_first, came_outside, profile_names}
@@ -124,22 +124,22 @@ noded_refused follow command told old names at answer e refuses is =
 
 -- where memory ran out, a read failed, or the wire did before an address was bound
 comes_before : {files : Option Told} (command : Option Command) (told : Outside) (names : List (List ℕ)) (at : Address) (answer : Result (List Turn) Fault) (fault : Fault) → IsBeforehand (Err fault)
-    → ComesBehind (place_of (noded names at answer).stops fault) [] (noded names at answer).text → (follow : TextsFollow) (old : Option Written) → IsVerdict told command (noded names at answer)
+    → ComesAfter (place_of (noded names at answer).stops fault) [] (noded names at answer).text → (follow : TextsFollow) (old : Option Written) → IsVerdict told command (noded names at answer)
     → ExecutesWired command told old old (left_so told.wire files) (Err fault)
 comes_before command told names at (Ok turns) fault outside comes follow old is =
     (noded names at (Ok turns), is, inl ([], inr (fault, refl, comes), inr (inl (outside, refl, refl)), follow.none, λ nothing. nothing))
 comes_before command told names at (Err e) fault outside comes follow old is =
     (noded names at (Err e), is, inl ([], inr (fault, refl, comes), refl, follow.none, tt))
 
-memory_comes : (wants : Bool) (text : List ℕ) → ComesBehind (memory_by wants) [] text
+memory_comes : (wants : Bool) (text : List ℕ) → ComesAfter (memory_by wants) [] text
 memory_comes true text = (text, refl)
 memory_comes false text = refl
 
-noded_memory : (names : List (List ℕ)) (at : Address) (answer : Result (List Turn) Fault) → ComesBehind (place_of (noded names at answer).stops faults.NoMemory) [] (noded names at answer).text
+noded_memory : (names : List (List ℕ)) (at : Address) (answer : Result (List Turn) Fault) → ComesAfter (place_of (noded names at answer).stops faults.NoMemory) [] (noded names at answer).text
 noded_memory names at (Ok turns) = memory_comes (want_memory turns) (text_of turns)
 noded_memory names at (Err e) = ([], refl)
 
-noded_reads : (names : List (List ℕ)) (at : Address) (answer : Result (List Turn) Fault) → ComesBehind (place_of (noded names at answer).stops faults.Read) [] (noded names at answer).text
+noded_reads : (names : List (List ℕ)) (at : Address) (answer : Result (List Turn) Fault) → ComesAfter (place_of (noded names at answer).stops faults.Read) [] (noded names at answer).text
 noded_reads names at (Ok turns) = refl
 noded_reads names at (Err e) = refl
 
@@ -286,7 +286,7 @@ arrive_bound (Some traffic) at arrivals to = to
 abbrev of_turns : List ℕ → List ℕ → Address → List Turn → Verdict
 of_turns profile script at turns = noded (profile ∷ script ∷ []) at (Ok turns)
 
--- turns behind others are those of all
+-- turns after others are those of all
 text_last : (turns first rest : List Turn) (last : Turn) → turns ≡ first ++ last ∷ rest → text_of turns ≡ (text_of first ++ text_of (last ∷ [])) ++ text_of rest
 text_last turns first rest last is =
     ap text_of (is ∙ sym (append_assoc first (last ∷ []) rest))
@@ -314,9 +314,9 @@ last_acts : (turns first rest : List Turn) (last : Turn) → turns ≡ first ++ 
 last_acts turns first rest last is some none = some (none_last (acts_of first) last.acts (acts_of rest) (sym (acts_whole turns first rest last is) ∙ none))
 
 -- want of memory comes where a turn wants some
-memory_behind : (wants : Bool) (printed text : List ℕ) → wants ≡ true → IsFront printed text → ComesBehind (memory_by wants) printed text
-memory_behind true printed text is front = front
-memory_behind false printed text is front = absurd cc
+memory_after : (wants : Bool) (printed text : List ℕ) → wants ≡ true → IsFront printed text → ComesAfter (memory_by wants) printed text
+memory_after true printed text is front = front
+memory_after false printed text is front = absurd cc
 
 -- a node's turns, in one of which it ended early
 abbrev ends_early : (told : Outside) (turns : List Turn) (at : Address) (looked : Option Told) (given : List Named) (clock : Option (List ℕ)) (old : Option Written) (after : Effects) (e : NodeError)
@@ -339,7 +339,7 @@ ran_failed follow told command profile script at turns clock old looked after no
       is,
       inl (
         text_of ran.first,
-        inr (faults.NoMemory, refl, memory_behind (want_memory turns) (text_of ran.first) (text_of turns) (last_wants turns ran.first ran.rest ran.last ran.whole ran.stops.0) front),
+        inr (faults.NoMemory, refl, memory_after (want_memory turns) (text_of ran.first) (text_of turns) (last_wants turns ran.first ran.rest ran.last ran.whole ran.stops.0) front),
         inr (inr (node.NoMemory, refl, ends_early told turns at looked (map looked_up (profile ∷ script ∷ [])) clock old after node.NoMemory looks ran, refl)),
         printed_first turns node.NoMemory told.clock clock (effects old (at_bound told.wire at) looked) after ran (ap (λ (x : Effects). x.written) ran.stops.1),
         flushed,
@@ -419,7 +419,7 @@ loop_done told command profile script at rules first false clock old looked afte
 
 -- ---- what it leaves of the files
 
--- what the first of these turns did, or a part of the one behind them
+-- what the first of these turns did, or a part of the one after them
 turns_left : (told looked now : Option Told) (names : List Named) (turns : List Turn) (done rest : List FileAct) (result : Result (Unit {0}) Failed) → LeavesTold told looked names []
     → ActsOn looked now done result → acts_of turns ≡ done ++ rest → LeavesFirst told now (names ++ created (acts_of turns)) (acts_of turns)
 turns_left told looked now names turns done rest result before acts whole = first_left told looked now names (acts_of turns) done rest result before acts whole
@@ -491,7 +491,7 @@ loop_all told command profile script at rules first false clock old looked after
 
 -- ---- a node that does nothing to files, and is told of none
 
--- none of the first turns does something, nor the one behind them
+-- none of the first turns does something, nor the one after them
 none_first : (turns first rest : List Turn) (last : Turn) → turns ≡ first ++ last ∷ rest → acts_of turns ≡ [] → (acts_of first ≡ []) × (last.acts ≡ [])
 none_first turns first rest last is none =
     let all = sym (acts_whole turns first rest last is) ∙ none in

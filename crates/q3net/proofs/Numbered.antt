@@ -1,4 +1,4 @@
--- Files that were looked up or made, one behind the other, and what their numbers stand for.
+-- Files that were looked up or made, one after the other, and what their numbers stand for.
 use Rattle.std.proofs.Common.{◌≡◌, ◌≢◌, ℕ, List, [], ◌∷◌, ◌++◌, length, Option, Some, None, Ok, Err, false, refl, sym, ap, ap₂, subst, ◌∙◌, append_assoc, inl, inr}
 use Rattle.std.specs.Prelude.{if◌then◌else◌, unwrap_or, slice_index_or}
 use Rattle.std.specs.Str.{bytes_eq}
@@ -75,7 +75,7 @@ found_one told t1 t2 names demo first leaves looks =
       ap (λ (files : List File). contents_of files demo) (sym leaves.2.files) ∙ some_held (contents_of leaves.0.files demo) one.0,
     )
 
--- ---- two files were looked up behind a name
+-- ---- two files were looked up after a name
 
 pub record TwoFound (told now : Told) (demo index : List ℕ) (first second : ℕ) : Type 0 where
   pub of_demo : contents_of told.files demo ≡ Some (contents_at now first)
@@ -106,7 +106,7 @@ two_found told t1 t2 t3 names demo index first second leaves looks next =
 
 -- ---- one was looked up, and another was made
 
-pub record MadeBehind (told now : Told) (names : List Named) (demo index : List ℕ) (first second : ℕ) : Type 0 where
+pub record MadeAfter (told now : Told) (names : List Named) (demo index : List ℕ) (first second : ℕ) : Type 0 where
   pub of_demo : contents_of told.files demo ≡ Some (contents_at now first)
   pub demo_name : name_of now first ≡ demo
   pub index_name : name_of now second ≡ index
@@ -114,7 +114,7 @@ pub record MadeBehind (told now : Told) (names : List Named) (demo index : List 
   pub named : now.named ≡ told.named ++ (names ++ looked_up demo ∷ record { name = index; call = Create } ∷ [])
 
 made_so : (told mid : Told) (names : List Named) (demo index : List ℕ) (first second : ℕ) → index ≢ demo → Leaves told mid names [] → LooksUp (Some mid) (Some (found_in mid demo)) demo (Ok first)
-    → second ≡ length (found_in mid demo).numbers → MadeBehind told (made_in (found_in mid demo) index) names demo index first second
+    → second ≡ length (found_in mid demo).numbers → MadeAfter told (made_in (found_in mid demo) index) names demo index first second
 unfolding after_acts
 made_so told mid names demo index first second apart leaves looks is =
     let demo_is = ap (λ (n : ℕ). slice_index_or ((mid.numbers ++ demo ∷ []) ++ index ∷ []) n []) looks.1 ∙ number_before mid.numbers demo index in
@@ -130,9 +130,9 @@ made_so told mid names demo index first second apart leaves looks is =
           ∙ append_assoc told.named names (looked_up demo ∷ record { name = index; call = Create } ∷ []));
     }
 
-pub made_behind : (told : Told) (t1 t2 t3 : Option Told) (names : List Named) (demo index : List ℕ) (first second : ℕ) → index ≢ demo → LeavesTold (Some told) t1 names [] → LooksUp t1 t2 demo (Ok first)
-    → Creates t2 t3 index (Ok second) → (now : Told) × (t3 ≡ Some now) × MadeBehind told now names demo index first second
-made_behind told t1 t2 t3 names demo index first second apart leaves looks makes =
+pub made_after : (told : Told) (t1 t2 t3 : Option Told) (names : List Named) (demo index : List ℕ) (first second : ℕ) → index ≢ demo → LeavesTold (Some told) t1 names [] → LooksUp t1 t2 demo (Ok first)
+    → Creates t2 t3 index (Ok second) → (now : Told) × (t3 ≡ Some now) × MadeAfter told now names demo index first second
+made_after told t1 t2 t3 names demo index first second apart leaves looks makes =
     let mid = leaves.0 in
     let one : LooksUp (Some mid) t2 demo (Ok first) = subst (λ (t : Option Told). LooksUp t t2 demo (Ok first)) leaves.1 looks in
     let two : Creates (Some (found_in mid demo)) t3 index (Ok second) = subst (λ (t : Option Told). Creates t t3 index (Ok second)) one.2 makes in
@@ -148,7 +148,7 @@ pub record MayBuild (told : Told) (first second : ℕ) : Type 0 where
   pub apart : name_of told first ≢ name_of told second
   pub empty : contents_of told.files (name_of told second) ≡ Some []
 
-may_build : (told now : Told) (names : List Named) (demo index : List ℕ) (first second : ℕ) → index ≢ demo → MadeBehind told now names demo index first second → MayBuild now first second
+may_build : (told now : Told) (names : List Named) (demo index : List ℕ) (first second : ℕ) → index ≢ demo → MadeAfter told now names demo index first second → MayBuild now first second
 may_build told now names demo index first second apart made = record {
   apart = λ same. apart (sym made.index_name ∙ (sym same ∙ made.demo_name));
   empty = ap₂ (λ (files : List File) (name : List ℕ). contents_of files name) made.files made.index_name ∙ same_name told.files index [];
@@ -158,7 +158,7 @@ pub builds_apart : (told t1 t2 t3 : Option Told) (profile demo index : List ℕ)
     → Creates t2 t3 index (Ok second) → (now : Told) → t3 ≡ Some now → MayBuild now first second
 builds_apart None t1 t2 t3 profile demo index first second apart leaves looks makes now is = absurd (let none = untold_made t1 t2 t3 demo index first second leaves looks makes in cc)
 builds_apart (Some told) t1 t2 t3 profile demo index first second apart leaves looks makes now is =
-    let made = made_behind told t1 t2 t3 (looked_up profile ∷ []) demo index first second apart leaves looks makes in
+    let made = made_after told t1 t2 t3 (looked_up profile ∷ []) demo index first second apart leaves looks makes in
     subst (λ (t : Told). MayBuild t first second) (same_some made.0 now (sym made.1 ∙ is)) (may_build told made.0 (looked_up profile ∷ []) demo index first second apart made.2)
 
 -- ---- what it leaves that bytes were put into the one that was made
@@ -167,7 +167,7 @@ builds_apart (Some told) t1 t2 t3 profile demo index first second apart leaves l
 abbrev pub made_with : List ℕ → List ℕ → List FileAct
 made_with index bytes = Makes index ∷ Extends index bytes ∷ []
 
-pub puts_leave : (told mid now : Told) (names : List Named) (demo index bytes : List ℕ) (first second : ℕ) → MadeBehind told mid names demo index first second → Puts mid now second bytes
+pub puts_leave : (told mid now : Told) (names : List Named) (demo index bytes : List ℕ) (first second : ℕ) → MadeAfter told mid names demo index first second → Puts mid now second bytes
     → Leaves told now (names ++ looked_up demo ∷ record { name = index; call = Create } ∷ []) (made_with index bytes)
 unfolding after_acts
 puts_leave told mid now names demo index bytes first second made puts = record {
@@ -177,7 +177,7 @@ puts_leave told mid now names demo index bytes first second made puts = record {
 }
 
 -- nothing was put into it
-pub none_left : (told mid now : Told) (names : List Named) (demo index : List ℕ) (first second : ℕ) → MadeBehind told mid names demo index first second → Puts mid now second []
+pub none_left : (told mid now : Told) (names : List Named) (demo index : List ℕ) (first second : ℕ) → MadeAfter told mid names demo index first second → Puts mid now second []
     → Leaves told now (names ++ looked_up demo ∷ record { name = index; call = Create } ∷ []) (Makes index ∷ [])
 unfolding after_acts
 none_left told mid now names demo index first second made puts = record {

@@ -39,8 +39,8 @@ use Rattle.q3_command.specs.Command.{Command, Help, Version, Replay, Make, Trial
 use Rattle.q3net.specs.Faults.{demo_fault, build_fault, index_fault, seek_fault, ReadCause, WriteCause, FileCause, WireCause}
 use Rattle.q3net.specs.Lines.{help_text, version_text, fault_status, ending_status}
 use Rattle.q3net.specs.Verdict.{Stops, Verdict, Outside, IsVerdict, stops_nowhere, takes_memory, reads_first, all_first, Schedule, settled, profile_in, events_in, replayed, replay_done, names_by, summary, tried, ending_of, noded, served, client_turns, joined, played, demo_played, Indexing, demo_indexed, IsIndexed, sought, sought_in, IsSeekFault, Sought, IsSoughtBy}
-use Rattle.q3net.specs.Run.{Left, left_so, Comes, ComesBehind, place_of, Executes, FilesFail, IsEarlyStatus, IsDecided, IsComplete, WiredBy, HandedOn, FailsBy, ExecutesWired}
-use Rattle.q3net.proofs.Ending.{comes_behind, settled_writes, settled_wire}
+use Rattle.q3net.specs.Run.{Left, left_so, Comes, ComesAfter, place_of, Executes, FilesFail, IsEarlyStatus, IsDecided, IsComplete, WiredBy, HandedOn, FailsBy, ExecutesWired}
+use Rattle.q3net.proofs.Ending.{comes_after, settled_writes, settled_wire}
 use Rattle.q3net.proofs.Looking.{schedules}
 use Rattle.q3net.proofs.Indexing.{indexed_writes}
 use Rattle.q3net.proofs.Refusing.{OfFault, OfInput, play_refuses}
@@ -272,8 +272,8 @@ never_ended command told old now ended fault other never executes is =
       | inl ends ↦ elim ends.1 [
         | inl said ↦ (never executes.0 executes.1).0 (sym said.0 ∙ is)
         | inr stopped ↦ (never executes.0 executes.1).1
-            (comes_behind (place_of executes.0.stops fault) ends.0 executes.0.text
-            (subst (λ (f : Fault). ComesBehind (place_of executes.0.stops f) ends.0 executes.0.text) (same_fault ended stopped.0 fault stopped.1 is) stopped.2))
+            (comes_after (place_of executes.0.stops fault) ends.0 executes.0.text
+            (subst (λ (f : Fault). ComesAfter (place_of executes.0.stops f) ends.0 executes.0.text) (same_fault ended stopped.0 fault stopped.1 is) stopped.2))
       ]
       | inr failed ↦ other (same_fault ended fault faults.Write is failed.0)
     ]
@@ -426,8 +426,8 @@ files_come command told old now executes = (
   elim executes.2 [
     | inl ends ↦ elim ends.1 [
       | inl said ↦ verdict_fails told command executes.0 executes.1 (sym said.0)
-      | inr stopped ↦ comes_behind executes.0.stops.writes ends.0 executes.0.text
-          (subst (λ (f : Fault). ComesBehind (place_of executes.0.stops f) ends.0 executes.0.text) (same_fault (Err faults.FileWrite) stopped.0 faults.FileWrite stopped.1 refl) stopped.2)
+      | inr stopped ↦ comes_after executes.0.stops.writes ends.0 executes.0.text
+          (subst (λ (f : Fault). ComesAfter (place_of executes.0.stops f) ends.0 executes.0.text) (same_fault (Err faults.FileWrite) stopped.0 faults.FileWrite stopped.1 refl) stopped.2)
     ]
     | inr failed ↦ absurd (let other : faults.FileWrite ≡ faults.Write = same_fault (Err faults.FileWrite) faults.FileWrite faults.Write refl failed.0 in cc)
   ],
@@ -474,13 +474,13 @@ four_fails command told old now ended status before after first mid last execute
     ]
 
 -- where no count rose, only want of memory stops a command
-stopped_by : (stops : Stops) (fault : Fault) (printed text : List ℕ) (reads read before after wires wired : ℕ) → ComesBehind (place_of stops fault) printed text
+stopped_by : (stops : Stops) (fault : Fault) (printed text : List ℕ) (reads read before after wires wired : ℕ) → ComesAfter (place_of stops fault) printed text
     → ReadCause {T = Unit {0}} reads read (Err fault) → FileCause before after (Err fault) → WireCause wires wired (Err fault)
     → (Rose reads read → ⊥) → (Rose wires wired → ⊥) → (Comes stops.writes → before ≤ after → Rose before after → ⊥) → fault_status fault ≡ 1
 stopped_by stops faults.NoMemory printed text reads read before after wires wired behind causes files wire none_read none_wired none_made = refl
 stopped_by stops faults.Read printed text reads read before after wires wired behind causes files wire none_read none_wired none_made = absurd (none_read causes.1)
 stopped_by stops faults.FileWrite printed text reads read before after wires wired behind causes files wire none_read none_wired none_made =
-    absurd (none_made (comes_behind stops.writes printed text behind) files.0 files.1)
+    absurd (none_made (comes_after stops.writes printed text behind) files.0 files.1)
 stopped_by stops faults.Wire printed text reads read before after wires wired behind causes files wire none_read none_wired none_made = absurd (none_wired wire.1)
 stopped_by stops other printed text reads read before after wires wired behind causes files wire none_read none_wired none_made = absurd behind
 
@@ -623,7 +623,7 @@ decides command told old now ended status mid last executes ends = (
     | inl same ↦ elim executes.2 [
       | inl done ↦ elim done.1 [
         | inl said ↦ inl (same.0 ∙ ap ending_status said.0)
-        | inr stopped ↦ inr (inr (stopped.0, comes_behind (place_of executes.0.stops stopped.0) done.0 executes.0.text stopped.2, same.0 ∙ ap ending_status stopped.1))
+        | inr stopped ↦ inr (inr (stopped.0, comes_after (place_of executes.0.stops stopped.0) done.0 executes.0.text stopped.2, same.0 ∙ ap ending_status stopped.1))
       ]
       | inr failed ↦ inr (inl (same.0 ∙ ap ending_status failed.0))
     ]

@@ -77,7 +77,7 @@ most_refuse played (Ok piece.End) = tt
 most_refuse played (Ok (piece.Message number length next)) = tt
 most_refuse played (Err e) = tt
 
-stepped_refuses : (played : Played) (stepped : Result (Option Stepped) DemoError) (others : Played → Play) → ((behind : Played) → Refuses (others behind).ending) → Refuses stepped
+stepped_refuses : (played : Played) (stepped : Result (Option Stepped) DemoError) (others : Played → Play) → ((after : Played) → Refuses (others after).ending) → Refuses stepped
     → Refuses (play_step played stepped others).ending
 stepped_refuses played (Ok None) others so is = tt
 stepped_refuses played (Ok (Some stepped)) others so is = so stepped.played
@@ -87,7 +87,7 @@ from_refuses : (left : ℕ) (bytes : List ℕ) (played : Played) → Refuses (pl
 unfolding play_from
 from_refuses zero bytes played = most_refuse played (next_piece bytes played)
 from_refuses (suc left) bytes played =
-    stepped_refuses played (step bytes played) (play_from left bytes) (λ behind. from_refuses left bytes behind) (step_refuses bytes played)
+    stepped_refuses played (step bytes played) (play_from left bytes) (λ after. from_refuses left bytes after) (step_refuses bytes played)
 
 of_input : (ending : Result (Unit {0}) DemoError) → Refuses ending → OfInput (result_map_both (λ x. x) demo_fault ending)
 of_input (Ok x) so = tt

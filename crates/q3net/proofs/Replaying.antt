@@ -27,7 +27,7 @@ use Rattle.q3_command.specs.Command.{Command, Replay}
 use Rattle.q3net.specs.Faults.{Gets, IsOutside, step_fault, ReadCause, WriteCause, FileCause}
 use Rattle.q3net.specs.Input.{IsFront, Holds, looked_up, created, LeavesFirst, Touches, LooksUpTold, LooksUpFirst, Gives}
 use Rattle.q3net.specs.Verdict.{Verdict, Outside, of_files, IsVerdict, Schedule, profile_in, events_in, replayed, recorded, writes_by, replay_done, names_by, GetsFrom}
-use Rattle.q3net.specs.Run.{Comes, ComesBehind, AddsLines, DoesFirst, Executes, LeavesFiles}
+use Rattle.q3net.specs.Run.{Comes, ComesAfter, AddsLines, DoesFirst, Executes, LeavesFiles}
 use Rattle.q3net.proofs.Acting.{none_on, first_more, all_left, first_left, acted_all}
 use Rattle.q3net.proofs.Loading.{held}
 use Rattle.q3net.proofs.Looking.{schedules, got_ok, gave, gave_first, leaves_then, first_then, came_outside, profile_names}
@@ -149,7 +149,7 @@ memory_ended follow told profile script by events old read =
 -- ---- its events
 
 -- a file fails only where something is done to files
-pub writes_some : (acts : List FileAct) (printed text : List ℕ) → acts ≢ [] → IsFront printed text → ComesBehind (writes_by acts) printed text
+pub writes_some : (acts : List FileAct) (printed text : List ℕ) → acts ≢ [] → IsFront printed text → ComesAfter (writes_by acts) printed text
 writes_some [] printed text some front = absurd (some refl)
 writes_some (act ∷ acts) printed text some front = front
 
@@ -177,7 +177,7 @@ unfolding report
 steps_done told profile script by events old now read adds =
     (verdict_by profile script by events, verdict_of told profile script by events read, inl (report by events, inl (refl, refl), adds))
 
--- what comes behind them couldn't be written
+-- what comes after them couldn't be written
 pub finish_failed : (told : Option Told) (profile script : List ℕ) (by : Profile) (events : List Event) (old now : Option Written)
     → BothRead told profile script by events → AddsLines (answers by (opening by) events) old now (Ok tt) → acts_from (opening_kept by) events ≢ []
     → Executes (Some (Replay profile script)) (of_files told) old now (Err faults.FileWrite)
@@ -265,7 +265,7 @@ opens profile kept stands =
     ∙ (ap (λ (ends : Ends). kept_of profile ends kept.datagrams) stands.ends
     ∙ ap (λ (datagrams : List SentBytes). kept_of profile (new_ends profile) datagrams) stands.datagrams)
 
--- where a step failed at a file, or what comes behind them, something was to be done to files
+-- where a step failed at a file, or what comes after them, something was to be done to files
 none_first : (first second : List FileAct) → first ++ second ≡ [] → first ≡ []
 none_first [] second none = refl
 none_first (act ∷ first) second none = absurd cc
@@ -297,7 +297,7 @@ steps_left told looked now profile script by events kept last e read names stand
     acts_left told looked now profile script by events does.0 does.1 (by_files (Err e)) (step_fault e) read names does.3
     (ap (λ (k : Kept). acts_from k events) (sym (opens by kept stands)) ∙ does.2) (step_outside e)
 
--- all was done, or what comes behind the events failed
+-- all was done, or what comes after the events failed
 finished_on : (looked mid now : Option Told) (by : Profile) (events : List Event) (kept : Kept) (last : List FileAct) (result : Result (Unit {0}) Failed)
     → StandsFor by kept (opening by) → DoesFirst looked mid (acts_from kept events) last (Ok tt) → ActsOn mid now last result → ActsOn looked now (acts_from (opening_kept by) events) result
 finished_on looked mid now by events kept last result stands does ends =

@@ -11,7 +11,7 @@ use Rattle.q3_world.specs.StandsFor.{StandsFor}
 use Rattle.q3net.specs.Trying.{CountsTo}
 use Rattle.q3net.proofs.Stepping.{answers-next, answers-none}
 
--- an event is counted, and those behind it are left
+-- an event is counted, and those after it are left
 pub totals_next : (profile : Profile) (total : Counts) (now after : Counting) (event : Event) (behind : List Event)
     → ((whole : Whole) → StandsFor profile now.kept whole → StandsFor profile after.kept (step profile whole event).whole)
     → ((whole : Whole) → StandsFor profile now.kept whole → after.counts ≡ counted now.counts (step profile whole event).answer)

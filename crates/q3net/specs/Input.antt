@@ -74,7 +74,7 @@ abbrev pub LeavesTold : Option Told → Option Told → List Named → List File
 LeavesTold None now named acts = now ≡ None
 LeavesTold (Some told) now named acts = (after : Told) × (now ≡ Some after) × Leaves told after named acts
 
--- of acts the first ones; of the last of these, where it puts bytes behind those of a file, maybe a front of the bytes
+-- of acts the first ones; of the last of these, where it puts bytes after those of a file, maybe a front of the bytes
 abbrev pub AreBegun : List FileAct → List FileAct → Type 0
 AreBegun begun acts =
     IsFront begun acts

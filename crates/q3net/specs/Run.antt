@@ -9,7 +9,7 @@ use Rattle.q3_io.specs.Traffic.{Traffic}
 use Rattle.q3_node.specs.declared.error.NodeError.{NodeError}
 use Rattle.q3_node.specs.declared.error.NodeError.TheVariants as node
 use Rattle.q3_node.specs.Node.{Turn, text_of}
-use Rattle.q3_node.specs.Running.{effects, wire_behind, at_bound, EndsIn}
+use Rattle.q3_node.specs.Running.{effects, wire_after, at_bound, EndsIn}
 use Rattle.q3_io.specs.Written.{Written, Wrote, NothingWaits}
 use Rattle.q3_report.specs.Answers.{Answered}
 use Rattle.q3_report.specs.AnswerLines.{lines_of}
@@ -29,7 +29,7 @@ use Rattle.q3net.specs.Verdict.{Place, Nowhere, First, Anywhere, Stops, Verdict,
 use Rattle.q3net.specs.declared.fault.Fault.{Fault}
 use Rattle.q3net.specs.declared.fault.Fault.TheVariants.{NoMemory, Read, Write, FileWrite, Wire}
 
--- all that waited in the sink was handed on, and the text behind it
+-- all that waited in the sink was handed on, and the text after it
 abbrev pub HandsOn : Option Written → Option Written → List ℕ → Type 0
 HandsOn old now text = Wrote old now text true × NothingWaits now
 
@@ -41,10 +41,10 @@ Comes Nowhere = ⊥
 Comes place = Unit {0}
 
 -- and so much of a text is printed by then
-abbrev pub ComesBehind : Place → List ℕ → List ℕ → Type 0
-ComesBehind Nowhere printed text = ⊥
-ComesBehind First printed text = printed ≡ []
-ComesBehind Anywhere printed text = IsFront printed text
+abbrev pub ComesAfter : Place → List ℕ → List ℕ → Type 0
+ComesAfter Nowhere printed text = ⊥
+ComesAfter First printed text = printed ≡ []
+ComesAfter Anywhere printed text = IsFront printed text
 
 -- where a fault from outside may stop a command; the sink is told of apart
 abbrev pub place_of : Stops → Fault → Place
@@ -58,7 +58,7 @@ place_of stops other = Nowhere
 abbrev pub Ends : Verdict → Result (Unit {0}) Fault → List ℕ → Type 0
 Ends verdict ended printed =
     ((ended ≡ verdict.ending) × (printed ≡ verdict.text))
-    ⊎ ((fault : Fault) × (ended ≡ Err fault) × ComesBehind (place_of verdict.stops fault) printed verdict.text)
+    ⊎ ((fault : Fault) × (ended ≡ Err fault) × ComesAfter (place_of verdict.stops fault) printed verdict.text)
 
 -- what the sink took of a command by then; where it failed, a front of the verdict's text
 abbrev pub Executes : Option Command → Outside → Option Written → Option Written → Result (Unit {0}) Fault → Type 0
@@ -80,7 +80,7 @@ PrintsAll text old now ended = ((ended ≡ Ok tt) × Wrote old now text true) �
 -- what is told of the wire where a verdict's turns were had at its address, or these of them; without an address it stays
 abbrev pub wire_by : Option Traffic → Option Address → List Turn → Option Traffic
 wire_by told None turns = told
-wire_by told (Some at) turns = wire_behind (at_bound told at) turns
+wire_by told (Some at) turns = wire_after (at_bound told at) turns
 
 -- what is told of the wire, and of the files, as a run leaves them
 pub record Left : Type 0 where
@@ -138,7 +138,7 @@ ExecutesWired command told old now left ended =
 abbrev pub Took : Result (Unit {0}) Fault → List ℕ → Option Written → Option Written → ℕ → Type 0
 Took ended text old now status = ((status ≡ ending_status ended) × HandsOn old now text) ⊎ ((status ≡ 4) × Wrote old now text false)
 
--- a run prints what its command prints, and behind that the fault line, if any, which is that of a file's write exactly where the files'
+-- a run prints what its command prints, and after that the fault line, if any, which is that of a file's write exactly where the files'
 -- count of these changed, and of which the sink may take a front; or the sink failed before, and took a front of the text; and it left of
 -- the wire, and of the files, what goes with that
 abbrev pub Prints : Option Command → Outside → ℕ → ℕ → Option Written → Option Written → Left → ℕ → Type 0
@@ -231,7 +231,7 @@ AddsLines all old now (Err step.NoMemory) = (k : ℕ) × Wrote old now (flat_map
 AddsLines all old now (Err step.FileFault) = (k : ℕ) × Wrote old now (flat_map lines_of (take k all)) true
 AddsLines all old now (Err step.WriteFault) = Wrote old now (flat_map lines_of all) false
 
--- what the first of these acts did, of which there are some where one failed, and all of them where what comes behind the events is left
+-- what the first of these acts did, of which there are some where one failed, and all of them where what comes after the events is left
 abbrev pub DoesFirst : Option Told → Option Told → List FileAct → List FileAct → Result (Unit {0}) StepError → Type 0
 DoesFirst told now acts last result =
     (done : List FileAct) × (rest : List FileAct) × (acts ≡ done ++ rest) × ActsOn told now done (by_files result) × OnOk result (rest ≡ last)

@@ -7,7 +7,7 @@ use Rattle.q3_world.specs.Counts.{Counting, counted_all}
 use Rattle.q3_world.specs.World.{Whole, answers}
 use Rattle.q3_world.specs.StandsFor.{StandsFor}
 
--- the answers of the events that are left, counted behind those so far, come to a total
+-- the answers of the events that are left, counted on from those so far, come to a total
 pub record CountsTo (profile : Profile) (now : Counting) (left : List Event) (total : Counts) : Type 0 where
   pub whole : Whole
   pub stands : StandsFor profile now.kept whole

@@ -107,7 +107,7 @@ memory_by false = First
 abbrev pub goes_on_wire : List Turn → Stops
 goes_on_wire turns = record { memory = memory_by (want_memory turns); reads = First; writes = writes_by (acts_of turns); wire = Anywhere }
 
--- of a command that does nothing to files: it looks up these names, and prints a text, and behind it may come a cause
+-- of a command that does nothing to files: it looks up these names, and prints a text, and after it may come a cause
 abbrev pub printing : Stops → List (List ℕ) → List ℕ → Result (Unit {0}) Fault → Verdict
 printing stops names text ending = record { text = text; ending = ending; named = map looked_up names; acts = []; at = None; turns = []; stops = stops }
 
@@ -140,7 +140,7 @@ replayed profile script = do
   events ← events_in kinds.Replay script
   Ok (record { by = by; events = events })
 
--- what its events do to files, with the ends of the recordings that go on behind the last one
+-- what its events do to files, with the ends of the recordings that go on after the last one
 abbrev pub recorded : Schedule → List FileAct
 recorded replay = acts_from (opening_kept replay.by) replay.events
 

@@ -120,8 +120,8 @@ fn step_part(world: &mut World, events: &[Event]) -> Result<(), NoMemory>
     requires events { All IsReplayEvent events.now }
     requires few { length world.old.kept.datagrams + length events.now < most_datagrams }
     requires numbered { AreNumbered None 1 world.old.numbers world.old.kept.ends }
-    ensures counts { OnOk result ((profile : ProfileValue) (total : CountsValue) (behind : List EventValue)
-        → CountsTo profile world.old (events.now ++ behind) total → CountsTo profile world.new behind total) }
+    ensures counts { OnOk result ((profile : ProfileValue) (total : CountsValue) (after : List EventValue)
+        → CountsTo profile world.old (events.now ++ after) total → CountsTo profile world.new after total) }
     ensures few { OnOk result (length world.new.kept.datagrams ≤ length world.old.kept.datagrams
         + length events.now) }
     ensures numbered { AreNumbered None 1 world.new.numbers world.new.kept.ends }
@@ -137,8 +137,8 @@ fn step_quietly(world: &mut World, event: &Event) -> Result<(), NoMemory>
     requires event { IsReplayEvent event.now }
     requires few { length world.old.kept.datagrams < most_datagrams }
     requires numbered { AreNumbered None 1 world.old.numbers world.old.kept.ends }
-    ensures counts { OnOk result ((profile : ProfileValue) (total : CountsValue) (behind : List EventValue)
-        → CountsTo profile world.old (event.now ∷ behind) total → CountsTo profile world.new behind total) }
+    ensures counts { OnOk result ((profile : ProfileValue) (total : CountsValue) (after : List EventValue)
+        → CountsTo profile world.old (event.now ∷ after) total → CountsTo profile world.new after total) }
     ensures few { OnOk result (length world.new.kept.datagrams ≤ length world.old.kept.datagrams + 1) }
     ensures numbered { AreNumbered None 1 world.new.numbers world.new.kept.ends }
 {

@@ -66,7 +66,7 @@ pub fn run<F: Files, W: Wire, C: Clock, O: Sink>(
         (outside (F.told files.old) (W.told wire.old) (C.readings clock.old)) (F.write_faults files.old)
         (F.write_faults files.new) }
 
-    // An address is bound only by a command that has one, and the clock is read behind that alone.
+    // An address is bound only by a command that has one, and the clock is read after that alone.
     ensures binds { W.bound wire.new ≡ true → MayBind (command_of (map string_bytes words.now))
         (outside (F.told files.old) (W.told wire.old) (C.readings clock.old)) }
     ensures unbound { W.bound wire.new ≡ false → clock.new ≡ clock.old }

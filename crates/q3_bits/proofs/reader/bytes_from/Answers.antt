@@ -24,7 +24,7 @@ loop-k-preserved c =
       fits = fits.1;
       most = omega (arith, c.in_ok-byte.ensures.most, c.loop-k.invariant.most);
       near = omega (arith, c.in_ok-byte.ensures.near, c.loop-k.invariant.near);
-      reads = rw (fits.0, fits.2, c.from.ensures) (sym (bytes_more c.args.code.now (c.args.count - c.loop-k.k) (c.args.count - (c.loop-k.k + 1)) c.loop-k.number (256 ^ c.loop-k.k) (bits_ahead c.loop-k.left) (c.in_ok-byte.byte, bits_ahead c.in_ok-byte.behind) (omega arith) (sym c.in_ok-byte.ensures.byte)) ∙ c.loop-k.invariant.reads);
+      reads = rw (fits.0, fits.2, c.from.ensures) (sym (bytes_more c.args.code.now (c.args.count - c.loop-k.k) (c.args.count - (c.loop-k.k + 1)) c.loop-k.number (256 ^ c.loop-k.k) (bits_ahead c.loop-k.left) (c.in_ok-byte.byte, bits_ahead c.in_ok-byte.after) (omega arith) (sym c.in_ok-byte.ensures.byte)) ∙ c.loop-k.invariant.reads);
     }
 
 pub returns-clause-bytes_at : goal.returns-clause-bytes_at

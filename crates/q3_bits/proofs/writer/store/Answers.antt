@@ -13,11 +13,11 @@ returns-clause-bits c =
     let first = c.args.place / 8 in
     let rest : ℕ = c.from.result + c.args.bits * 2 ^ (c.args.place % 8) % 18446744073709551616 in
     (stored_at_once c.args.bytes.now c.store_eight.new.bytes c.args.place c.args.bits c.args.count first rest c.requires.clear c.requires.fits c.requires.few refl
-    (omega (arith, c.if-first.false, c.told-bytes)) (omega (arith, c.from.ensures)) c.store_eight.ensures.front c.store_eight.ensures.behind).stored
+    (omega (arith, c.if-first.false, c.told-bytes)) (omega (arith, c.from.ensures)) c.store_eight.ensures.front c.store_eight.ensures.after).stored
 
 pub returns-clause-clear : goal.returns-clause-clear
 returns-clause-clear c =
     let first = c.args.place / 8 in
     let rest : ℕ = c.from.result + c.args.bits * 2 ^ (c.args.place % 8) % 18446744073709551616 in
     (stored_at_once c.args.bytes.now c.store_eight.new.bytes c.args.place c.args.bits c.args.count first rest c.requires.clear c.requires.fits c.requires.few refl
-    (omega (arith, c.if-first.false, c.told-bytes)) (omega (arith, c.from.ensures)) c.store_eight.ensures.front c.store_eight.ensures.behind).clear
+    (omega (arith, c.if-first.false, c.told-bytes)) (omega (arith, c.from.ensures)) c.store_eight.ensures.front c.store_eight.ensures.after).clear

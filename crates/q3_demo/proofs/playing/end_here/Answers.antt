@@ -17,4 +17,4 @@ returns-in-Ok-Some-clause-ends g c =
 pub returns-in-Err-clause-ends : goal.returns-in-Err-clause-ends
 returns-in-Err-clause-ends g c =
     let plays = c.in-Err.ensures.plays in
-    rw c.behind_limit.ensures (plays.0, plays.1, limit_fails c.texts_follow.ensures plays.0 c.args.player.now c.next.new.self c.place-at.result c.in-Err.error (g.O.Sink.written c.args.out.now) plays.2 c.place-at.ensures)
+    rw c.after_limit.ensures (plays.0, plays.1, limit_fails c.texts_follow.ensures plays.0 c.args.player.now c.next.new.self c.place-at.result c.in-Err.error (g.O.Sink.written c.args.out.now) plays.2 c.place-at.ensures)

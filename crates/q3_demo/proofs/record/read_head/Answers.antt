@@ -10,5 +10,5 @@ returns-clause-finds g c =
     let buffer : List ℕ = c.read_whole.new.into in
     let room : length buffer ≡ head_bytes = c.in_ok-read_whole.ensures.room in
     let head = head_read fills.0 buffer c.in_ok-read_whole.field-0 fills.2 (omega arith) (omega arith) in
-    let behind : take 4 (drop 4 buffer) ≡ drop 4 buffer = take_all 4 (drop 4 buffer) (omega (arith, length-drop 4 buffer)) in
-    (fills.0, fills.1, (head.some, c.read_u32.ensures ∙ head.number_is, c.read_u32-2.ensures ∙ ap (λ (xs : List ℕ). number_of xs) behind ∙ head.size_is))
+    let after : take 4 (drop 4 buffer) ≡ drop 4 buffer = take_all 4 (drop 4 buffer) (omega (arith, length-drop 4 buffer)) in
+    (fills.0, fills.1, (head.some, c.read_u32.ensures ∙ head.number_is, c.read_u32-2.ensures ∙ ap (λ (xs : List ℕ). number_of xs) after ∙ head.size_is))

@@ -1,6 +1,6 @@
 use Rattle.std.proofs.Common.{true, false, rules, arith}
 use Rattle.std.proofs.lemmas.Result.{err_from_is_err_and}
-use Rattle.q3_demo.proofs.Printed.{held_texts-zero, held_texts-more, held_texts-behind}
+use Rattle.q3_demo.proofs.Printed.{held_texts-zero, held_texts-more, held_texts-after}
 use Rattle.q3_demo.proofs.state.print_held.Goals as goal
 
 pub loop-last-init : goal.loop-last-init
@@ -25,6 +25,6 @@ returns-in_err-print_age-clause-adds g c =
     let next = c.next_number-last in
     let none = rw c.rings-rings.ensures at next.ensures.least in
     let most = rw c.rings-rings.ensures at next.ensures.most in
-    let behind = held_texts-behind held next.result c.args.newest (omega (arith, most, c.requires)) in
+    let after = held_texts-after held next.result c.args.newest (omega (arith, most, c.requires)) in
     let here = held_texts-more held c.loop-last.last next.result next.ensures.above none in
-    rw p.1 (law.early behind.0 (law.more {all = false} c.loop-last.invariant.0 c.in_err-print_age.ensures.adds here) behind.1)
+    rw p.1 (law.early after.0 (law.more {all = false} c.loop-last.invariant.0 c.in_err-print_age.ensures.adds here) after.1)

@@ -17,9 +17,9 @@ returns-in_err-end-clause-many c =
     let many = c.in_err-end.ensures.many in
     let few : length first ≤ most_entities = omega (arith, long, c.requires, c.in_err-end.ensures.fits) in
     let more : most_entities < length first + length (take below part) = omega (arith, long, many.1) in
-    rw (p.1, p.2) (λ behind.
-    let parts = ap (λ xs. xs ++ behind) (sym (take-append-drop below part)) ∙ append_assoc (take below part) (drop below part) behind in
-    ap (kept_below number first) parts ∙ kept_below-many number first (take below part) (drop below part ++ behind) c.count_below-below.ensures.below few more
+    rw (p.1, p.2) (λ after.
+    let parts = ap (λ xs. xs ++ after) (sym (take-append-drop below part)) ∙ append_assoc (take below part) (drop below part) after in
+    ap (kept_below number first) parts ∙ kept_below-many number first (take below part) (drop below part ++ after) c.count_below-below.ensures.below few more
     ∙ refused many.0)
 
 pub returns-clause-kept : goal.returns-clause-kept
@@ -32,9 +32,9 @@ returns-clause-kept c =
     let fit : length first + length (take below part) ≤ most_entities = omega (arith, long, c.in_ok-end.ensures.few) in
     let items = c.in_ok-end.ensures.put in
     rw (take_rest part below) (record {
-      goes_on = λ behind.
-          ap (kept_below number first) (ap (λ xs. xs ++ behind) (sym (take-append-drop below part)) ∙ append_assoc (take below part) (drop below part) behind)
-          ∙ kept_below-fits number first (take below part) (drop below part ++ behind) c.count_below-below.ensures.below fit
-          ∙ ap (λ xs. kept_below number xs (drop below part ++ behind)) (sym items);
-      from = c.count_below-below.ensures.behind;
+      goes_on = λ after.
+          ap (kept_below number first) (ap (λ xs. xs ++ after) (sym (take-append-drop below part)) ∙ append_assoc (take below part) (drop below part) after)
+          ∙ kept_below-fits number first (take below part) (drop below part ++ after) c.count_below-below.ensures.below fit
+          ∙ ap (λ xs. kept_below number xs (drop below part ++ after)) (sym items);
+      from = c.count_below-below.ensures.after;
     })

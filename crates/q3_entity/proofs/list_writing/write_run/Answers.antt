@@ -3,7 +3,7 @@ use Rattle.std.proofs.lemmas.Result.{err_from_is_err_and}
 use Rattle.q3_fields.specs.Kinds.{end_mark}
 use Rattle.q3_entity.specs.Entities.{RiseFrom, run_of}
 use Rattle.q3_entity.specs.Lists.{entity_list_bits}
-use Rattle.q3_entity.specs.Merging.{end_bits, left_behind}
+use Rattle.q3_entity.specs.Merging.{end_bits, left_after}
 use Rattle.q3_entity.proofs.ListTexts.{is_turn, is_skipped, entity_list_bits-ends}
 use Rattle.q3_entity.proofs.list_writing.write_run.Goals as goal
 
@@ -29,17 +29,17 @@ loop-entity-preserved c =
     let others = run_of c.in-Some.others in
     let next = c.in-Some.ensures in
     let t = is_turn words table baselines c.loop-entity.w.words left to others (law.words _ _ _ _ h.written) h.base (subst (RiseFrom (end_mark table) 0) next h.now) in
-    let written = law.more _ _ _ _ _ _ _ h.written (ap (entity_list_bits words table baselines left) next ∙ t.text) c.in_ok-behind.ensures.writes in
-    let behind = c.in_ok-behind.ensures.left in
-    let s = is_skipped words table baselines c.last_changed_is_least.ensures (left_behind to left) others _ _ (rw behind at c.skip_same-in-Some.ensures) t.rise t.rise-now in
+    let written = law.more _ _ _ _ _ _ _ h.written (ap (entity_list_bits words table baselines left) next ∙ t.text) c.in_ok-after.ensures.writes in
+    let after = c.in_ok-after.ensures.left in
+    let s = is_skipped words table baselines c.last_changed_is_least.ensures (left_after to left) others _ _ (rw after at c.skip_same-in-Some.ensures) t.rise t.rise-now in
     record {
       written = rw s.text at written;
       base = s.rise;
       now = s.rise-now;
     }
 
-pub returns-in_err-behind : goal.returns-in_err-behind
-returns-in_err-behind c =
+pub returns-in_err-after : goal.returns-in_err-after
+returns-in_err-after c =
     let law = c.texts_are_written.ensures in
     let h = c.loop-entity.invariant in
     let table = c.args.table.now in
@@ -49,7 +49,7 @@ returns-in_err-behind c =
     let p = err_from_is_err_and c.from_residual.result c.from_residual.ensures.1 in
     let t = is_turn words table c.args.baselines.now c.loop-entity.w.words left c.in-Some.entity.now (run_of c.in-Some.others) (law.words _ _ _ _ h.written) h.base
     (subst (RiseFrom (end_mark table) 0) next h.now) in
-    rw (p.1, p.2) (law.stops _ _ _ _ _ _ _ _ h.written (ap (entity_list_bits words table c.args.baselines.now left) next ∙ t.text) c.in_err-behind.ensures.writes)
+    rw (p.1, p.2) (law.stops _ _ _ _ _ _ _ _ h.written (ap (entity_list_bits words table c.args.baselines.now left) next ∙ t.text) c.in_err-after.ensures.writes)
 
 pub returns : goal.returns
 returns c =

@@ -21,8 +21,8 @@ pub loop-r-smaller-in-Continue-branch-3 : goal.loop-r-smaller-in-Continue-branch
 loop-r-smaller-in-Continue-branch-3 c =
     let one = takes_turn c.turns_are_taken.ensures c.requires c.loop-r.invariant c.in-3.is c.in_ok-operation.ensures.reads in
     let config = rw one.words at c.in_ok-read_config-in-3.ensures.value in
-    let behind = config_shorter c.read_was_put.ensures c.string_read_is_spelled.ensures c.args.r.now.words c.requires c.loop-r.configs c.get.new.self.left (c.read_config.new.configs, c.read_config.new.r.left) (sym config) in
-    omega (arith, one.shorter, behind)
+    let after = config_shorter c.read_was_put.ensures c.string_read_is_spelled.ensures c.args.r.now.words c.requires c.loop-r.configs c.get.new.self.left (c.read_config.new.configs, c.read_config.new.r.left) (sym config) in
+    omega (arith, one.shorter, after)
 
 pub loop-r-preserved-in-Continue-branch-3 : goal.loop-r-preserved-in-Continue-branch-3
 loop-r-preserved-in-Continue-branch-3 c =
@@ -30,12 +30,12 @@ loop-r-preserved-in-Continue-branch-3 c =
     let profile = record c.args.profile.now { code = c.args.r.now.words } in
     let one = takes_turn c.turns_are_taken.ensures c.requires h c.in-3.is c.in_ok-operation.ensures.reads in
     let config = rw one.words at c.in_ok-read_config-in-3.ensures.value in
-    let behind = config_shorter c.read_was_put.ensures c.string_read_is_spelled.ensures profile.code c.requires c.loop-r.configs c.get.new.self.left (c.read_config.new.configs, c.read_config.new.r.left) (sym config) in
+    let after = config_shorter c.read_was_put.ensures c.string_read_is_spelled.ensures profile.code c.requires c.loop-r.configs c.get.new.self.left (c.read_config.new.configs, c.read_config.new.r.left) (sym config) in
     record {
       words = c.in_ok-read_config-in-3.ensures.words ∙ one.words;
       place = c.in_ok-read_config-in-3.ensures.place ∙ one.place;
       turns = one.left;
-      enough = omega (arith, one.enough, behind);
+      enough = omega (arith, one.enough, after);
       reads = sym (settings_config profile c.loop-r.configs c.loop-r.baselines c.loop-r.r.left c.get.new.self.left c.read_config.new.r.left c.read_config.new.configs h.turns one.left one.read one.is config) ∙ h.reads;
     }
 
@@ -57,9 +57,9 @@ loop-r-smaller c =
     let profile = record c.args.profile.now { code = c.args.r.now.words } in
     let one = takes_turn c.turns_are_taken.ensures c.requires c.loop-r.invariant c.in-4.is c.in_ok-operation.ensures.reads in
     let baseline = rw one.words at c.in_ok-read_baseline-in-4.ensures.value in
-    let behind = baseline_shorter c.read_was_put.ensures c.zero_is_normal.ensures c.entry_read_is_spelled.ensures profile c.requires c.count.ensures.is_table c.loop-r.baselines c.get.new.self.left
+    let after = baseline_shorter c.read_was_put.ensures c.zero_is_normal.ensures c.entry_read_is_spelled.ensures profile c.requires c.count.ensures.is_table c.loop-r.baselines c.get.new.self.left
     (c.read_baseline.new.baselines, c.read_baseline.new.r.left) (sym baseline) in
-    omega (arith, one.shorter, behind)
+    omega (arith, one.shorter, after)
 
 pub loop-r-preserved : goal.loop-r-preserved
 loop-r-preserved c =
@@ -67,13 +67,13 @@ loop-r-preserved c =
     let profile = record c.args.profile.now { code = c.args.r.now.words } in
     let one = takes_turn c.turns_are_taken.ensures c.requires h c.in-4.is c.in_ok-operation.ensures.reads in
     let baseline = rw one.words at c.in_ok-read_baseline-in-4.ensures.value in
-    let behind = baseline_shorter c.read_was_put.ensures c.zero_is_normal.ensures c.entry_read_is_spelled.ensures profile c.requires c.count.ensures.is_table c.loop-r.baselines c.get.new.self.left
+    let after = baseline_shorter c.read_was_put.ensures c.zero_is_normal.ensures c.entry_read_is_spelled.ensures profile c.requires c.count.ensures.is_table c.loop-r.baselines c.get.new.self.left
     (c.read_baseline.new.baselines, c.read_baseline.new.r.left) (sym baseline) in
     record {
       words = c.in_ok-read_baseline-in-4.ensures.words ∙ one.words;
       place = c.in_ok-read_baseline-in-4.ensures.place ∙ one.place;
       turns = one.left;
-      enough = omega (arith, one.enough, behind);
+      enough = omega (arith, one.enough, after);
       reads = sym (settings_baseline profile c.loop-r.configs c.loop-r.baselines c.loop-r.r.left c.get.new.self.left c.read_baseline.new.r.left c.read_baseline.new.baselines h.turns one.left one.read one.is baseline) ∙ h.reads;
     }
 

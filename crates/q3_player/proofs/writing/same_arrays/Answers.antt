@@ -7,7 +7,7 @@ fails : (a rest : Bool) → a ≡ false → false ≡ (a && rest)
 fails false rest x = refl
 fails true rest x = absurd cc
 
--- a test that holds leaves it to those behind it
+-- a test that holds leaves it to those after it
 holds : (a rest answer : Bool) → a ≡ true → answer ≡ rest → answer ≡ (a && rest)
 holds true rest answer x y = y
 holds false rest answer x y = absurd cc

@@ -1,5 +1,5 @@
-use Rattle.q3_rings.proofs.Behind.{held_behind}
+use Rattle.q3_rings.proofs.HeldAfter.{held_after}
 use Rattle.q3_rings.proofs.laws.held_was_held.Goals as goal
 
 pub returns : goal.returns
-returns c = held_behind
+returns c = held_after

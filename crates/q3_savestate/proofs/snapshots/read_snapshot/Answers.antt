@@ -1,7 +1,7 @@
 use Rattle.std.proofs.Common.{◌-◌, sym, ap, ◌∙◌}
 use Rattle.q3_rings.specs.Rings.{CanPutBack, end_in}
 use Rattle.q3_savestate.specs.Snapshots.{most_of}
-use Rattle.q3_savestate.proofs.SnapshotRead.{can_back, is_full, was_put_back, IsBehind}
+use Rattle.q3_savestate.proofs.SnapshotRead.{can_back, is_full, was_put_back, IsAfter}
 use Rattle.q3_savestate.proofs.snapshots.read_snapshot.Goals as goal
 
 pub begin_back-requires-clause-can : goal.begin_back-requires-clause-can
@@ -15,9 +15,9 @@ end_back-requires c =
     is_full c.args.profile.now.entity c.in_ok-count.count c.in_ok-age.age c.in_ok-head.head c.make_room.new.rings c.begin_back.new.self c.read_entities.new.rings c.short.new.self c.read_entities.new.cursor
     (rw (← c.from.ensures, ← c.from-2.ensures) c.begin_back.ensures) c.in_ok-read_entities.ensures
 
-behind : (c : goal.After-from-3)
-    → IsBehind c.args.profile.now c.args.newest c.args.left c.args.most (c.in_ok-age.age - c.in_ok-count.count) c.args.rings.now.held (end_in c.read_entities.new.rings) c.args.cursor.now c.read_entities.new.cursor
-behind c =
+is_after : (c : goal.After-from-3)
+    → IsAfter c.args.profile.now c.args.newest c.args.left c.args.most (c.in_ok-age.age - c.in_ok-count.count) c.args.rings.now.held (end_in c.read_entities.new.rings) c.args.cursor.now c.read_entities.new.cursor
+is_after c =
     let profile = c.args.profile.now in
     let held = c.args.rings.now.held in
     let may = c.requires.may in
@@ -37,7 +37,7 @@ behind c =
     c.make_room.ensures.are can may.older c.make_room.ensures.held c.make_room.ensures.placed (rw (← c.from.ensures, ← c.from-2.ensures) c.begin_back.ensures) c.in_ok-read_entities.ensures
 
 pub returns-clause-found : goal.returns-clause-found
-returns-clause-found c = rw (c.end_back.ensures, c.from-3.ensures) (behind c).found
+returns-clause-found c = rw (c.end_back.ensures, c.from-3.ensures) (is_after c).found
 
 pub returns-clause-may : goal.returns-clause-may
-returns-clause-may c = rw (c.end_back.ensures, c.from-3.ensures, ← c.requires.may.room_is) (behind c).may
+returns-clause-may c = rw (c.end_back.ensures, c.from-3.ensures, ← c.requires.may.room_is) (is_after c).may

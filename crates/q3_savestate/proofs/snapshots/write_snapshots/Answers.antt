@@ -4,7 +4,7 @@ use Rattle.std.proofs.lemmas.Result.{err_from_is_err_and}
 use Rattle.byteorder.specs.Endian.{little_bytes}
 use Rattle.q3_rings.specs.ByNumber.{by_number}
 use Rattle.q3_savestate.specs.Snapshots.{snapshot_bytes}
-use Rattle.q3_savestate.proofs.Numbered.{up_to-zero, texts_next, texts_behind}
+use Rattle.q3_savestate.proofs.Numbered.{up_to-zero, texts_next, texts_after}
 use Rattle.q3_savestate.proofs.WrittenRows.{row_ends}
 use Rattle.q3_savestate.proofs.snapshots.write_snapshots.Goals as goal
 
@@ -43,8 +43,8 @@ returns-in_err-write_numbered-clause-adds g c =
     let newest : c.newest-newest.result ≡ held.newest = c.newest-newest.ensures.newest in
     let text = snapshot_bytes c.args.profile.now in
     let here = texts_next text held c.loop-last.last c.next_number-last.result c.next_number-last.ensures.above c.next_number-last.ensures.least in
-    let behind = texts_behind text held c.next_number-last.result held.newest c.next_number-last.ensures.most in
-    let all = law.early behind.0 (law.more {all = false} c.loop-last.invariant.0 c.in_err-write_numbered.ensures.adds here) behind.1 in
+    let after = texts_after text held c.next_number-last.result held.newest c.next_number-last.ensures.most in
+    let all = law.early after.0 (law.more {all = false} c.loop-last.invariant.0 c.in_err-write_numbered.ensures.adds here) after.1 in
     rw p.1 (law.more (rw newest at c.in_ok-write_long.ensures.adds) (law.more (rw c.count.ensures at c.in_ok-write_byte.ensures.adds) (row_ends all) refl) refl)
 
 pub returns-clause-adds : goal.returns-clause-adds

@@ -50,7 +50,7 @@ pub returns-then-not-is_complete : goal.returns-then-not-is_complete
 returns-then-not-is_complete c =
     let t = YieldsList-end (YieldsList-from_slice_split _ (λ x. eqb x 10) c.args.bytes.now (cc) (cc) (cc) (λ x b q k. search (rules, tests))) c.loop-line.yielded _ c.loop-line.yielded_by _ _ c.in-None.is c.next.ensures.steps in
     let lacks : is_complete c.args.kind c.loop-line.course ≡ false = search rules in
-    rw (c.line_behind.ensures (c.loop-line.invariant.number ∙ t.1)) (lacks_end c.loop-line.invariant.reached t.1 lacks)
+    rw (c.line_after.ensures (c.loop-line.invariant.number ∙ t.1)) (lacks_end c.loop-line.invariant.reached t.1 lacks)
 
 pub returns : goal.returns
 returns c =

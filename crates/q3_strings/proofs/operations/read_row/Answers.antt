@@ -60,8 +60,8 @@ loop-operation-smaller c =
     let one = c.turns_are_taken.ensures.shorter words c.loop-operation.own.left c.read_operation.new.r.left c.in_ok-operation.operation c.requires (sym read) in
     let same : c.read_operation.new.r.words ≡ words = c.in_ok-operation.ensures.reads.words ∙ h.words in
     let more = rw same at c.in_ok-read_next_command.ensures.value in
-    let behind = more_shorter c.command_read_is_spelled.ensures words c.requires c.loop-operation.commands c.read_operation.new.r.left c.read_next_command.new.commands c.read_next_command.new.r.left more in
-    omega (arith, one, behind)
+    let after = more_shorter c.command_read_is_spelled.ensures words c.requires c.loop-operation.commands c.read_operation.new.r.left c.read_next_command.new.commands c.read_next_command.new.r.left more in
+    omega (arith, one, after)
 
 pub loop-operation-preserved : goal.loop-operation-preserved
 loop-operation-preserved c =
@@ -72,7 +72,7 @@ loop-operation-preserved c =
     let one = c.turns_are_taken.ensures.turn words c.loop-operation.own.left c.read_operation.new.r.left byte h.turns c.requires read h.enough in
     let same : c.read_operation.new.r.words ≡ words = c.in_ok-operation.ensures.reads.words ∙ h.words in
     let more = rw same at c.in_ok-read_next_command.ensures.value in
-    let behind = more_shorter c.command_read_is_spelled.ensures words c.requires c.loop-operation.commands c.read_operation.new.r.left c.read_next_command.new.commands c.read_next_command.new.r.left more in
+    let after = more_shorter c.command_read_is_spelled.ensures words c.requires c.loop-operation.commands c.read_operation.new.r.left c.read_next_command.new.commands c.read_next_command.new.r.left more in
     let not_nop : (byte == 1) ≡ false = grind (arith, nat_tests) in
     let here : (byte == c.args.command) ≡ true = grind (arith, nat_tests) in
     record {
@@ -81,7 +81,7 @@ loop-operation-preserved c =
         words = c.in_ok-read_next_command.ensures.words ∙ same;
         place = c.in_ok-read_next_command.ensures.place ∙ c.in_ok-operation.ensures.reads.place ∙ h.place;
         turns = one.left;
-        enough = omega (arith, one.enough, behind);
+        enough = omega (arith, one.enough, after);
         reads =
             sym (row_command words c.args.command c.loop-operation.commands c.loop-operation.own.left c.read_operation.new.r.left byte h.turns one.left read one.is
             c.read_next_command.new.commands c.read_next_command.new.r.left not_nop here more) ∙ h.reads;

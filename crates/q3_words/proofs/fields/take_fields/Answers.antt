@@ -7,7 +7,7 @@ pub returns-in_default-field-clause-values : goal.returns-in_default-field-claus
 returns-in_default-field-clause-values c = (stops c.loop-word.invariant.reached c.in-Some.word.now (words_left c.in-Some.others.now) c.in-Some.ensures c.in_default-field.ensures.value).put
 
 pub returns-in_default-field-clause-left : goal.returns-in_default-field-clause-left
-returns-in_default-field-clause-left c = (stops c.loop-word.invariant.reached c.in-Some.word.now (words_left c.in-Some.others.now) c.in-Some.ensures c.in_default-field.ensures.value).behind
+returns-in_default-field-clause-left c = (stops c.loop-word.invariant.reached c.in-Some.word.now (words_left c.in-Some.others.now) c.in-Some.ensures c.in_default-field.ensures.value).after
 
 pub loop-word-preserved : goal.loop-word-preserved
 loop-word-preserved c = record {
@@ -20,4 +20,4 @@ pub returns-clause-values : goal.returns-clause-values
 returns-clause-values c = (ends c.loop-word.invariant.reached c.in_default.ensures).put
 
 pub returns-clause-left : goal.returns-clause-left
-returns-clause-left c = (ends c.loop-word.invariant.reached c.in_default.ensures).behind
+returns-clause-left c = (ends c.loop-word.invariant.reached c.in_default.ensures).after

@@ -6,6 +6,6 @@ use Rattle.q3_words.proofs.words.only_word.Goals as goal
 
 pub returns-else-is_empty : goal.returns-else-is_empty
 returns-else-is_empty c =
-    let e = next_of_some c.in_ok-word.word.now (words_left c.in_ok-word.behind.now) (words_left c.args.left.now) c.in_ok-word.ensures in
-    let some : 0 < length c.in_ok-word.behind.now = grind (arith, nat_tests) in
-    rw e (only_of_more c.in_ok-word.word.now c.in_ok-word.behind.now some)
+    let e = next_of_some c.in_ok-word.word.now (words_left c.in_ok-word.after.now) (words_left c.args.left.now) c.in_ok-word.ensures in
+    let some : 0 < length c.in_ok-word.after.now = grind (arith, nat_tests) in
+    rw e (only_of_more c.in_ok-word.word.now c.in_ok-word.after.now some)

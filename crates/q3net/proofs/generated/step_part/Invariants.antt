@@ -8,6 +8,6 @@ use Rattle.q3net.proofs.generated.step_part.Given as goal
 
 abbrev pub invariant-loop-event : goal.invariant-loop-event
 invariant-loop-event l =
-    ((profile : Profile) (total : Counts) (behind : List Event) → CountsTo profile l.initial.world (l.events ++ behind) total → CountsTo profile l.world (drop l.event-index l.events ++ behind) total)
+    ((profile : Profile) (total : Counts) (after : List Event) → CountsTo profile l.initial.world (l.events ++ after) total → CountsTo profile l.world (drop l.event-index l.events ++ after) total)
     × (length l.world.kept.datagrams ≤ length l.initial.world.kept.datagrams + l.event-index)
     × AreNumbered None 1 l.world.numbers l.world.kept.ends

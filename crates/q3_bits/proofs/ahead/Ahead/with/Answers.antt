@@ -19,4 +19,4 @@ invariant_of-result c =
 pub returns-clause-bits : goal.returns-clause-bits
 returns-clause-bits c =
     let g = gathers c.args.self.count c.args.self.bits c.args.more c.args.word c.args.self.rest.now c.args.self.fits c.requires.room c.requires.there c.requires.word in
-    rw (one_shl (8 * c.args.more) 64 (omega (arith, c.requires.room)), g.shifted, c.behind.ensures) g.same
+    rw (one_shl (8 * c.args.more) 64 (omega (arith, c.requires.room)), g.shifted, c.bytes_after.ensures) g.same

@@ -13,9 +13,9 @@ returns-in-Some-clause-next c =
     let index = c.in-Some.index in
     let message : List ℕ = take kept.count kept.buffer.items in
     let same : take kept.count c.deref.result.now ≡ message = ap (take kept.count) c.deref.ensures.value in
-    let behind : Option ℕ = c.index_behind-self-inside.result in
+    let behind : Option ℕ = c.index_after-self-inside.result in
     let next : behind ≡ cond (ltb (index + 1) (piece_count (length message))) (Some (index + 1)) None =
-    c.index_behind-self-inside.ensures ∙ ap (λ (m : List ℕ). cond (ltb (index + 1) (piece_count (length m))) (Some (index + 1)) None) same in
+    c.index_after-self-inside.ensures ∙ ap (λ (m : List ℕ). cond (ltb (index + 1) (piece_count (length m))) (Some (index + 1)) None) same in
     let sent : c.write_datagram.new.out.items ≡ datagram s.header s.number message index =
     c.write_datagram.ensures.bytes ∙ ap (λ (m : List ℕ). datagram s.header s.number m index) same in
     let after : Option UnderWay = option_map (λ i. record { message = message; next = i }) behind in

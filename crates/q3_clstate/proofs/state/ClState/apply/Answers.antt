@@ -1,7 +1,7 @@
 use Rattle.std.proofs.Common.{rules, ◌≡◌, ◌^◌, ◌<◌, true, false, refl, arith}
 use Rattle.q3_window.specs.Incoming.{fresh_of}
 use Rattle.q3_svmsg.specs.declared.message.Section.TheVariants.{Nothing, Game, Snap}
-use Rattle.q3_clstate.specs.State.{is_stale, hearing, apply_at, state_behind}
+use Rattle.q3_clstate.specs.State.{is_stale, hearing, apply_at, state_after_message}
 use Rattle.q3_clstate.specs.contracts.state.ClState.{the_view}
 use Rattle.q3_clstate.proofs.Accepting.{snap_state, skip_state, stands_as}
 use Rattle.q3_clstate.proofs.state.ClState.apply.Goals as goal
@@ -48,7 +48,7 @@ invariant_of-self-in-Nothing c =
     let commands : c.as_slice.result.now ≡ message.commands = search rules in
     let ran : c.as_slice-2.result.now ≡ fresh_of now.executed.executed message.commands = search rules in
     record {
-      applied = stands_as (state_behind now (apply_at now c.args.number c.args.message.now)) _ (c.apply_stays.ensures.apply now c.args.number c.args.message.now fits c.self.invariant.applied)
+      applied = stands_as (state_after_message now (apply_at now c.args.number c.args.message.now)) _ (c.apply_stays.ensures.apply now c.args.number c.args.message.now fits c.self.invariant.applied)
           (rw (← c.in_ok-read_server_message.ensures.reads, none, c.execute.ensures.window, commands, c.execute-2.ensures, ran) refl);
       none = c.self.invariant.none;
     }
@@ -64,7 +64,7 @@ invariant_of-self-in-Snap-default-true c =
     let ran : c.as_slice-2.result.now ≡ fresh_of now.executed.executed message.commands = search rules in
     let heard = hearing now message.commands in
     record {
-      applied = stands_as (state_behind now (apply_at now c.args.number c.args.message.now)) _ (c.apply_stays.ensures.apply now c.args.number c.args.message.now fits c.self.invariant.applied)
+      applied = stands_as (state_after_message now (apply_at now c.args.number c.args.message.now)) _ (c.apply_stays.ensures.apply now c.args.number c.args.message.now fits c.self.invariant.applied)
           (rw (← c.in_ok-read_server_message.ensures.reads, held, c.accept-snap.ensures.held, c.accept-snap.ensures.baselines, c.execute.ensures.window, commands, c.execute-2.ensures, ran)
           (snap_state heard c.args.number base (record { head = message.head; entities = message.entities.value.items }) (is_stale now.held c.args.number)));
       none = c.accept-snap.ensures.none;
@@ -81,7 +81,7 @@ invariant_of-self-in-Snap-default-false c =
     let ran : c.as_slice-2.result.now ≡ fresh_of now.executed.executed message.commands = search rules in
     let heard = hearing now message.commands in
     record {
-      applied = stands_as (state_behind now (apply_at now c.args.number c.args.message.now)) _ (c.apply_stays.ensures.apply now c.args.number c.args.message.now fits c.self.invariant.applied)
+      applied = stands_as (state_after_message now (apply_at now c.args.number c.args.message.now)) _ (c.apply_stays.ensures.apply now c.args.number c.args.message.now fits c.self.invariant.applied)
           (rw (← c.in_ok-read_server_message.ensures.reads, skipped, c.execute.ensures.window, commands, c.execute-2.ensures, ran)
           (skip_state heard c.args.number base (is_stale now.held c.args.number)));
       none = c.self.invariant.none;
@@ -96,7 +96,7 @@ invariant_of-self-in-Game c =
     let commands : c.as_slice.result.now ≡ message.commands = search rules in
     let ran : c.as_slice-2.result.now ≡ fresh_of now.executed.executed message.commands = search rules in
     record {
-      applied = stands_as (state_behind now (apply_at now c.args.number c.args.message.now)) _ (c.apply_stays.ensures.apply now c.args.number c.args.message.now fits c.self.invariant.applied)
+      applied = stands_as (state_after_message now (apply_at now c.args.number c.args.message.now)) _ (c.apply_stays.ensures.apply now c.args.number c.args.message.now fits c.self.invariant.applied)
           (rw (← c.in_ok-read_server_message.ensures.reads, game, c.start.ensures.settings, c.start-in-Game.ensures.held, c.start-in-Game.ensures.baselines, c.start.ensures.baselines, c.jump.ensures, c.execute.ensures.window, commands, c.execute-2.ensures, ran) refl);
       none = c.start-in-Game.ensures.none;
     }

@@ -7,7 +7,7 @@ use Rattle.q3_savestate.proofs.buffer.BufferSink.write_all.Goals as goal
 some_is : (x y : Written) → Some x ≡ Some y → x ≡ y
 some_is x y e = cc
 
--- bytes behind those that are kept
+-- bytes after those that are kept
 sent_more : (sent now text : List ℕ) → now ≡ sent ++ text → Wrote (Some (all_sent sent)) (Some (all_sent now)) text true
 sent_more sent now text is = record {
   untold = λ e. absurd cc;

@@ -1,7 +1,7 @@
 use Rattle.std.proofs.Common.{◌≡◌, ◌∙◌, Option, Some, sym, ap, rules}
 use Rattle.q3_clmsg.specs.Values.{said_of}
 use Rattle.q3_slot.specs.Slot.{SlotState}
-use Rattle.q3_slot.specs.Slots.{came_of, slot_of, slot_behind, taken_of}
+use Rattle.q3_slot.specs.Slots.{came_of, slot_of, slot_after_datagram, taken_of}
 use Rattle.q3_slot.specs.Taking.{SlotTaken, run_read, take_slot}
 use Rattle.q3_slot.proofs.Taken.{whole_is_taken}
 use Rattle.q3_slot.proofs.slot.Slot.take.Goals as goal
@@ -26,7 +26,7 @@ taken c =
 pub returns-clause-slot : goal.returns-clause-slot
 returns-clause-slot c =
     ap (λ (slot : SlotState). Some slot) (c.run.ensures.slot c.self.inside.sender c.take.new.self ∙ ap (λ (t : SlotTaken). t.slot) (taken c))
-    ∙ ap (slot_behind c.args.profile.now c.args.map.now c.args.slot c.args.from c.args.datagram.now) (is_first c)
+    ∙ ap (slot_after_datagram c.args.profile.now c.args.map.now c.args.slot c.args.from c.args.datagram.now) (is_first c)
 
 pub returns-clause-answer : goal.returns-clause-answer
 returns-clause-answer c =

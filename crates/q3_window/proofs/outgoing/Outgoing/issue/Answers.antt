@@ -2,7 +2,7 @@ use Rattle.std.proofs.Common.{◌≡◌, ℕ, ◌+◌, List, length, true, sym, 
 use Rattle.q3_text.specs.declared.text.Command.{Command}
 use Rattle.q3_window.specs.Outgoing.{OutgoingState, fits, issue_at}
 use Rattle.q3_window.specs.Cells.{AreKept, window_of}
-use Rattle.q3_window.proofs.Held.{put_behind, fits_is, issued-window, issue_is, issued_are_kept}
+use Rattle.q3_window.proofs.Held.{put_after, fits_is, issued-window, issue_is, issued_are_kept}
 use Rattle.q3_window.proofs.outgoing.Outgoing.issue.Goals as goal
 
 pub overflow_add-number : goal.overflow_add-number
@@ -25,7 +25,7 @@ invariant_of-self c =
     record {
       kept =
           subst (λ (cells : List Command). AreKept cells inside.acknowledged (inside.issued + 1) (inside.bytes + length c.bytes.result.now)) (sym c.put.ensures)
-          (subst (λ (text : List ℕ). AreKept (put_behind inside.cells.items inside.issued c.args.text.now) inside.acknowledged (inside.issued + 1) (inside.bytes + length text)) (sym c.bytes.ensures.bytes) kept);
+          (subst (λ (text : List ℕ). AreKept (put_after inside.cells.items inside.issued c.args.text.now) inside.acknowledged (inside.issued + 1) (inside.bytes + length text)) (sym c.bytes.ensures.bytes) kept);
       empty = c.self.invariant.empty;
     }
 

@@ -4,8 +4,8 @@ use Rattle.q3_window.specs.Cells.{places}
 use Rattle.q3_window.proofs.Round.{lent_within, lent_past, length-texts_from}
 use Rattle.q3_window.proofs.outgoing.Outgoing.waiting.Goals as goal
 
-pub returns-then-count-behind-clause-waiting : goal.returns-then-count-behind-clause-waiting
-returns-then-count-behind-clause-waiting c =
+pub returns-then-count-after-clause-waiting : goal.returns-then-count-after-clause-waiting
+returns-then-count-after-clause-waiting c =
     let inside = c.self.inside in
     let cells = inside.cells.items in
     let kept = c.self.invariant.kept in

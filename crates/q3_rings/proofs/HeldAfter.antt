@@ -1,4 +1,4 @@
--- What is held behind a snapshot that is accepted.
+-- What is held after a snapshot that is accepted.
 use Rattle.std.proofs.Common.{◌≡◌, ◌⊎◌, ℕ, ◌+◌, true, eqb, length, get_or, Option, Some, None, Ok, inl, inr, sym, ap, ◌∙◌, arith}
 use Rattle.std.specs.Prelude.{option_map}
 use Rattle.std.proofs.lemmas.Bool.{cases_Bool, cases_eq, eqb-true, le-leb, leb-true}
@@ -44,11 +44,11 @@ under_accepted ring number one held is = elim (cases_Bool (eqb one.snapshot.head
   | inr other ↦ let e : err (Overwritten one.snapshot.head.number) ≡ ok held = rw other at is in absurd cc
 ]
 
-pub held_behind : (snapshots : HeldSnapshots) (accepted : Snapshot) (number : ℕ) (held : Snapshot) → AreHeldSnapshots snapshots
+pub held_after : (snapshots : HeldSnapshots) (accepted : Snapshot) (number : ℕ) (held : Snapshot) → AreHeldSnapshots snapshots
     → held_snapshot (accept_at snapshots accepted) number ≡ Ok held
     → ((number ≡ accepted.head.number) × (held ≡ accepted))
     ⊎ ((number ≡ accepted.head.number → ⊥) × (held_snapshot snapshots number ≡ Ok held))
-held_behind snapshots accepted number held are is = elim (cases_Bool (eqb number 0)) [
+held_after snapshots accepted number held are is = elim (cases_Bool (eqb number 0)) [
   | inl zero ↦ let e : err NeverHeld ≡ ok held = rw zero at is in absurd cc
   | inr some ↦
       let under : snapshot_under snapshots.ring number (at_number (accept_at snapshots accepted).places number) ≡ Ok held = rw some at is in

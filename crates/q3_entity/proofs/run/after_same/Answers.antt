@@ -1,6 +1,6 @@
 use Rattle.std.proofs.Common.{◌++◌, take, drop, sym, ap, ◌∙◌}
 use Rattle.std.proofs.lemmas.List.{take-append-drop, take_rest}
-use Rattle.q3_entity.proofs.run.behind_same.Goals as goal
+use Rattle.q3_entity.proofs.run.after_same.Goals as goal
 
 pub returns : goal.returns
 returns c =
