@@ -331,7 +331,7 @@ pow_bytes : (count : ℕ) → 2 ^ (8 * count) ≡ 256 ^ count
 pow_bytes zero = refl
 pow_bytes (suc count) = ap (λ (n : ℕ). 2 ^ n) (omega arith) ∙ pow-add 2 8 (8 * count) ∙ rw (pow_bytes count, pow-succ' 256 count) refl
 
--- a byte shifted after the bytes below it
+-- a byte shifted above the bytes below it
 pub byte_shifted : (number byte k : ℕ) → k < 4 → number < 256 ^ k → byte < 256
     → (byte * 2 ^ (8 * k) % 2 ^ 32 ≡ 256 ^ k * byte) × (number + byte * 2 ^ (8 * k) % 2 ^ 32 < 256 ^ (k + 1)) × (256 ^ (k + 1) ≡ 256 * 256 ^ k) × (256 ^ (k + 1) ≤ 2 ^ 32)
 byte_shifted number byte k few fits small =
@@ -399,7 +399,7 @@ pub field_no_bytes : (words : List (List Bool)) (width : ℕ) (bits : List Bool)
 unfolding field_at
 field_no_bytes words width bits raw e is none = rw (is, none) refl
 
--- the bytes of a field shifted after its raw bits
+-- the bytes of a field shifted above its raw bits
 pub field_shifted : (low high width : ℕ) → width ≤ 32 → low < 2 ^ (width % 8) → high < 256 ^ (width / 8)
     → (high * 2 ^ (width % 8) % 2 ^ 32 ≡ 2 ^ (width % 8) * high) × (low + high * 2 ^ (width % 8) % 2 ^ 32 < 2 ^ width) × (2 ^ width ≤ 2 ^ 32)
 field_shifted low high width most fits fits' =

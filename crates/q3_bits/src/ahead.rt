@@ -7,7 +7,7 @@ ghost use Rattle.q3_bits.specs.Bits.{bits_of, number_of};
 #[derive(Clone, Copy)]
 pub(crate) struct Ahead<'a> {
     pub(crate) bits: u64,
-    pub(crate) count: u32,
+    pub(crate) count: u64,
     pub(crate) rest: &'a [u8],
     ghost few: { count < 64 },
     ghost fits: { bits < 2 ^ count },
@@ -17,7 +17,7 @@ pub(crate) struct Ahead<'a> {
 #[derive(Clone, Copy)]
 pub(crate) struct Marks {
     pub(crate) zeros: u32,
-    pub(crate) length: u32,
+    pub(crate) length: u64,
 }
 
 impl<'a> Ahead<'a> {
@@ -39,7 +39,7 @@ impl<'a> Ahead<'a> {
 
     /// The same, made anew field by field, for the reader that a loop has of its own: by `Copy`, which serves everywhere else, it is
     /// copied as memory, and a loop over bytes then takes some 4% more instructions.
-    #[inline]
+    #[inline(always)]
     pub(crate) fn copy(&self) -> Ahead<'a>
         ensures { bits_ahead result ≡ bits_ahead self.now }
     {
@@ -67,7 +67,7 @@ impl<'a> Ahead<'a> {
 
     /// The same, with as many bytes more gathered as there is room for, where eight are left: the half of `refill` that is
     /// inlined, and takes and gives a value, so that a loop keeps it in registers.
-    #[inline]
+    #[inline(always)]
     pub(crate) fn fuller(self) -> Ahead<'a>
         ensures { bits_ahead result ≡ bits_ahead self.entry }
     {
@@ -80,18 +80,19 @@ impl<'a> Ahead<'a> {
     /// The same of fewer than eight bytes.
     #[cold]
     #[inline(never)]
-    fn refill_last(&mut self, room: u32)
+    fn refill_last(&mut self, room: u64)
         requires room { room ≡ (63 - self.old.count) / 8 }
         requires last { length self.old.rest.now < 8 }
         ensures bits { bits_ahead self.new ≡ bits_ahead self.old }
         ensures full { (56 ≤ self.new.count) ⊎ (length self.new.rest.now ≡ 0) }
     {
-        let more = room.min(self.rest.len() as u32);
+        let more = room.min(self.rest.len() as u64);
         *self = self.with(last_seven(self.rest), more);
     }
 
     /// The same, with the next bytes gathered, so many: `word` is the number that the first eight spell.
-    fn with(self, word: u64, more: u32) -> Ahead<'a>
+    #[inline(always)]
+    fn with(self, word: u64, more: u64) -> Ahead<'a>
         requires word { word ≡ number_of (take 64 (bits_of self.rest.now)) }
         requires room { self.count + 8 * more < 64 }
         requires there { more ≤ length self.rest.now }
@@ -120,7 +121,7 @@ impl<'a> Ahead<'a> {
     }
 
     /// Whether so many bits are left.
-    pub(crate) fn has(self, count: u32) -> bool
+    pub(crate) fn has(self, count: u64) -> bool
         requires full { IsFull self }
         requires few { count ≤ 24 }
         ensures gathered { IsTrue result ↔ (count ≤ self.entry.count) }
@@ -136,7 +137,7 @@ impl<'a> Ahead<'a> {
         ensures left { result ≡ min 25 (length (bits_ahead self.entry)) }
         ensures gathered { result ≤ self.entry.count }
     {
-        self.count.min(25)
+        self.count.min(25) as u32
     }
 
     /// The number that the next 24 bits spell, with zeros after the last.
@@ -149,6 +150,7 @@ impl<'a> Ahead<'a> {
     }
 
     /// The run of marks that is next, up to a limit, where its bits were gathered.
+    #[inline(always)]
     pub(crate) fn run(self, limit: u32) -> Option<Marks>
         ensures found { IfSome result (λ run. run_at limit (bits_ahead self.entry) ≡ Ok
             (run.zeros, drop run.length (bits_ahead self.entry))) }
@@ -157,7 +159,7 @@ impl<'a> Ahead<'a> {
             → run_at limit (bits_ahead self.entry) ≡ Err End) }
     {
         let zeros = self.bits.trailing_zeros();
-        let length = (zeros + 1).min(limit);
+        let length = (zeros + 1).min(limit) as u64;
         if length > self.count {
             return None;
         }
@@ -166,7 +168,8 @@ impl<'a> Ahead<'a> {
     }
 
     /// What follows the next bits, so many.
-    pub(crate) fn skip(self, count: u32) -> Ahead<'a>
+    #[inline(always)]
+    pub(crate) fn skip(self, count: u64) -> Ahead<'a>
         requires { count ≤ self.count }
         ensures { bits_ahead result ≡ drop count (bits_ahead self.entry) }
     {

@@ -68,7 +68,7 @@ impl<'a> Reader<'a> {
         ensures near { OnOk result (self.new.place ≤ self.old.place + 96) }
         ensures code { IsCode self.old.words }
     {
-        if self.ahead.count < width % 8 + 12 * (width / 8) {
+        if self.ahead.count < (width % 8 + 12 * (width / 8)) as u64 {
             self.refill();
         }
         if let Some(value) = self.get_gathered(width) {
@@ -78,7 +78,7 @@ impl<'a> Reader<'a> {
     }
 
     /// Reads a field of 8 bits, as `get` does.
-    /// A loop of its own reader, as `copy` makes one, keeps the gathered bits at hand.
+    /// A loop's own reader, as `copy` makes one, keeps the gathered bits at hand.
     #[inline]
     pub fn get_byte(&mut self) -> Result<u8, ReadError>
         ensures reads { Reads self.old self.new (field_at self.old.words 8 self.old.left) result }
@@ -91,15 +91,11 @@ impl<'a> Reader<'a> {
         if let Some(byte) = self.byte_gathered() {
             return Ok(byte);
         }
-        // a reader apart, so that this one can stay in registers
-        let mut apart = self.copy();
-        let byte = apart.byte_apart()?;
-        *self = apart.copy();
-        Ok(byte)
+        Ok(self.each_apart(BYTE)? as u8)
     }
 
-    /// Reads a field as `get` does, with one call exchanged: the words of the field are read where this is called. The caller
-    /// gives the width as a literal or a constant, and so the loop over them falls away.
+    /// Reads a field as `get` does, but for its slow way all of it where this is called, so that a loop's own reader keeps
+    /// the gathered bits at hand. Where the width is a literal or a constant, the loop over the words falls away.
     #[inline(always)]
     pub fn get_fixed(&mut self, width: u32) -> Result<u32, ReadError>
         requires some { 1 ≤ width }
@@ -110,17 +106,17 @@ impl<'a> Reader<'a> {
         ensures near { OnOk result (self.new.place ≤ self.old.place + 96) }
         ensures code { IsCode self.old.words }
     {
-        if self.ahead.count < width % 8 + 12 * (width / 8) {
-            self.refill();
+        if self.ahead.count < (width % 8 + 12 * (width / 8)) as u64 {
+            self.gather();
         }
         if let Some(value) = self.spelled_gathered(width % 8, width / 8) {
             return Ok(value);
         }
-        self.get_each(width)
+        self.each_apart(width)
     }
 
     /// Another reader that stands at the same place.
-    #[inline]
+    #[inline(always)]
     pub fn copy(&self) -> Reader<'a>
         ensures { result ≡ self.now }
     {
@@ -134,7 +130,7 @@ impl<'a> Reader<'a> {
     /// Passes over marks of 0, at most `limit` (up to 56), and, where there are fewer, over the mark of 1 after them, as
     /// the marks of a delta's fields stand: how many were 0. `MSG_ReadDeltaEntity` reads them one by one.
     /// `End` comes exactly where the bits end before; the reader then stays as it was.
-    #[inline]
+    #[inline(always)]
     pub fn get_run(&mut self, limit: u32) -> Result<u32, ReadError>
         requires { limit ≤ 56 }
         ensures reads { Reads self.old self.new (run_at limit self.old.left) result }
@@ -145,7 +141,7 @@ impl<'a> Reader<'a> {
             self.ahead = self.ahead.skip(run.length);
             return Ok(run.zeros);
         }
-        self.run_after(limit)
+        self.run_apart(limit)
     }
 
     /// How many bits were read.
@@ -166,9 +162,8 @@ impl<'a> Reader<'a> {
         self.ahead.refill();
     }
 
-    /// Gathers more where eight bytes are left: the half of `refill` that is inlined, for `get_byte`. Fewer are left to
-    /// `byte_apart`.
-    #[inline]
+    /// Gathers more where eight bytes are left: the half of `refill` that is inlined. Where fewer are left, `each_apart` gathers them.
+    #[inline(always)]
     fn gather(&mut self)
         ensures { self.new ≡ self.old }
     {
@@ -182,22 +177,12 @@ impl<'a> Reader<'a> {
             (λ byte. Reads self.old self.new (field_at self.old.words 8 self.old.left) (Ok byte)) }
     {
         let entry = self.code.entry((self.ahead.bits % (1 << 24)) as u32);
-        let length = u32::from(entry.length);
+        let length = u64::from(entry.length);
         if length == 0 || length > self.ahead.count {
             return None;
         }
         self.ahead = self.ahead.skip(length);
         Some(entry.byte)
-    }
-
-    /// Reads a field of 8 bits in any case.
-    #[cold]
-    #[inline(never)]
-    fn byte_apart(&mut self) -> Result<u8, ReadError>
-        ensures reads { Reads self.old self.new (field_at self.old.words 8 self.old.left) result }
-        ensures err { OnErr result (self.new ≡ self.old) }
-    {
-        Ok(self.get_each(BYTE)? as u8)
     }
 
     /// Reads a field whose bits were gathered and whose words are short; where they aren't, nothing.
@@ -223,11 +208,11 @@ impl<'a> Reader<'a> {
         ensures fits { IfSome result (λ value. value < 2 ^ width) }
         ensures near { self.new.place ≤ self.old.place + 63 }
     {
-        if self.ahead.count < width {
+        if self.ahead.count < width as u64 {
             return None;
         }
         let value = (self.ahead.bits % (1 << width)) as u32;
-        self.ahead = self.ahead.skip(width);
+        self.ahead = self.ahead.skip(width as u64);
         Some(value)
     }
 
@@ -245,8 +230,8 @@ impl<'a> Reader<'a> {
         self.spelled_gathered(raw, bytes)
     }
 
-    /// The same, inlined in `words_gathered` and in `get_fixed`, where the widths are known.
-    #[inline]
+    /// The same, inlined in `words_gathered` and in `get_fixed`.
+    #[inline(always)]
     fn spelled_gathered(&mut self, raw: u32, bytes: u32) -> Option<u32>
         requires raw { raw < 8 }
         requires most { raw + 8 * bytes ≤ 32 }
@@ -281,9 +266,39 @@ impl<'a> Reader<'a> {
         Ok(low + (high << raw))
     }
 
-    /// The same, with more gathered.
+    /// Reads any field as `get_each` does, by a reader apart, so that this one can stay in registers.
+    #[inline(always)]
+    fn each_apart(&mut self, width: u32) -> Result<u32, ReadError>
+        requires some { 1 ≤ width }
+        requires most { width ≤ 32 }
+        ensures reads { Reads self.old self.new (field_at self.old.words width self.old.left) result }
+        ensures fits { IfOk result (λ value. value < 2 ^ width) }
+        ensures err { OnErr result (self.new ≡ self.old) }
+        ensures near { OnOk result (self.new.place ≤ self.old.place + 96) }
+    {
+        let mut apart = self.copy();
+        let value = apart.get_each(width)?;
+        *self = apart.copy();
+        Ok(value)
+    }
+
+    /// Passes over a run of marks with more gathered, by a reader apart.
+    #[inline(always)]
+    fn run_apart(&mut self, limit: u32) -> Result<u32, ReadError>
+        requires { limit ≤ 56 }
+        ensures reads { Reads self.old self.new (run_at limit self.old.left) result }
+        ensures most { IfOk result (λ count. count ≤ limit) }
+        ensures err { OnErr result (self.new ≡ self.old) }
+    {
+        let mut apart = self.copy();
+        let zeros = apart.run_refilled(limit)?;
+        *self = apart.copy();
+        Ok(zeros)
+    }
+
+    /// Passes over a run of marks as `get_run` does, with more gathered.
     #[inline(never)]
-    fn run_after(&mut self, limit: u32) -> Result<u32, ReadError>
+    fn run_refilled(&mut self, limit: u32) -> Result<u32, ReadError>
         requires { limit ≤ 56 }
         ensures reads { Reads self.old self.new (run_at limit self.old.left) result }
         ensures most { IfOk result (λ count. count ≤ limit) }
@@ -302,11 +317,11 @@ impl<'a> Reader<'a> {
 #[derive(Clone, Copy)]
 struct Spelled {
     value: u32,
-    length: u32,
+    length: u64,
 }
 
 /// The field that bits spell, by words of at most 12 bits; nothing where one of the words is longer or there is none.
-#[inline]
+#[inline(always)]
 fn field_in(code: &Code, bits: u64, raw: u32, bytes: u32) -> Option<Spelled>
     requires raw { raw < 8 }
     requires most { raw + 8 * bytes ≤ 32 }
@@ -316,7 +331,7 @@ fn field_in(code: &Code, bits: u64, raw: u32, bytes: u32) -> Option<Spelled>
 {
     let mut value = (bits % (1 << raw)) as u32;
     let mut left = bits >> raw;
-    let mut length = raw;
+    let mut length = raw as u64;
     for k in 0..bytes {
         let entry = code.entry((left % (1 << 24)) as u32);
         if entry.length == 0 {
@@ -324,7 +339,7 @@ fn field_in(code: &Code, bits: u64, raw: u32, bytes: u32) -> Option<Spelled>
         }
         value += u32::from(entry.byte) << (raw + 8 * k);
         left >>= entry.length;
-        length += u32::from(entry.length);
+        length += u64::from(entry.length);
     }
     Some(Spelled { value, length })
 }
@@ -338,10 +353,10 @@ fn raw_from(ahead: Ahead, count: u32) -> Result<(u32, Ahead), ReadError>
     ensures most { IfOk result (λ found. length (bits_ahead found.1) ≤ length (bits_ahead ahead.entry)) }
     ensures fits { IfOk result (λ found. found.0 < 2 ^ count) }
 {
-    if !ahead.has(count) {
+    if !ahead.has(count as u64) {
         return Err(ReadError::End);
     }
-    Ok((ahead.window() % (1 << count), ahead.skip(count)))
+    Ok((ahead.window() % (1 << count), ahead.skip(count as u64)))
 }
 
 /// The byte whose word comes next, and what follows the word. Short words are found by the next 12 bits, others one by
@@ -355,13 +370,13 @@ fn byte_from<'a>(code: &Code, ahead: Ahead<'a>) -> Result<(u8, Ahead<'a>), ReadE
     let ready = ahead.ready();
     let window = ready.window();
     let entry = code.entry(window);
-    let short = u32::from(entry.length);
+    let short = u64::from(entry.length);
     if short > 0 && ready.has(short) {
         return Ok((entry.byte, ready.skip(short)));
     }
     let left = ready.left();
     match code.search(window, left) {
-        Some((byte, length)) => Ok((byte, ready.skip(u32::from(length)))),
+        Some((byte, length)) => Ok((byte, ready.skip(u64::from(length)))),
         None if code.begins_with(window, left) => Err(ReadError::End),
         None => Err(ReadError::NoWord),
     }

@@ -1,5 +1,5 @@
 -- What commands leave stays well formed and in range.
-use Rattle.std.proofs.Common.{◌≡◌, ℕ, zero, suc, ◌-◌, ◌^◌, ◌<◌, ◌≤◌, Bool, true, false, List, [], ◌∷◌, Option, Some, None, option_and_then, arith}
+use Rattle.std.proofs.Common.{◌≡◌, ℕ, ◌-◌, ◌^◌, ◌<◌, ◌≤◌, Bool, true, false, List, [], ◌∷◌, Option, Some, None, option_and_then, arith}
 use Rattle.std.specs.Prelude.{All, IfSome, ◌&&◌, nat_lt, nat_le, unwrap_or, codes}
 use Rattle.std.proofs.lemmas.Bool.{cond_both, leb-true}
 use Rattle.std.proofs.lemmas.List.Elements.{All-cons, All-head, All-tail}
@@ -8,11 +8,11 @@ use Rattle.q3_text.specs.Texts.{IsText}
 use Rattle.q3_text.specs.Info.{info_of}
 use Rattle.q3_text.specs.Decimals.{is_decimal, value_of, number_at, info_number}
 use Rattle.q3_strings.specs.Laws.{IsCommand}
-use Rattle.q3_window.specs.Incoming.{IncomingState, executing, fresh_of, executed_all}
+use Rattle.q3_window.specs.Incoming.{IncomingState, executing, fresh_of, executing_all}
 use Rattle.q3_config.specs.Strings.{Strings, AreStrings, string_at, server_id}
 use Rattle.q3_config.specs.Changes.{after_command}
 use Rattle.q3_config.specs.Laws.{HoldTexts}
-use Rattle.q3_clstate.specs.State.{AppliedState, Settings, id_in, settled, tells_id, after_texts, settings_after, hearing}
+use Rattle.q3_clstate.specs.State.{AppliedState, Settings, id_in, settled, tells_id, after_texts, hearing}
 use Rattle.q3_clstate.specs.Standing.{IsApplied}
 use Rattle.q3_clstate.proofs.Below.{Below}
 
@@ -80,8 +80,8 @@ record IsWindow (window : IncomingState) : Type 0 where
   number : window.executed < 2 ^ 32
   last : IsText window.last
 
-executed_all_is : (window : IncomingState) (commands : List Command) → IsWindow window → All IsCommand commands → IsWindow (executed_all window commands)
-unfolding executed_all
+executed_all_is : (window : IncomingState) (commands : List Command) → IsWindow window → All IsCommand commands → IsWindow (executing_all window commands)
+unfolding executing_all
 executed_all_is window [] is each = is
 executed_all_is window (command ∷ commands) is each =
     let first = All-head IsCommand command commands each in

@@ -18,7 +18,7 @@ ghost use Rattle.q3_clstate.specs.State.{new_state, apply_at, state_after_messag
 
 use crate::applied::{Applied, Log, SnapOutcome};
 use crate::holding::Holding;
-use crate::laws::{apply_stays, read_is_written};
+use crate::laws;
 use crate::settings::MapSettings;
 use q3_bits::NoMemory;
 use q3_config::Configs;
@@ -78,7 +78,7 @@ impl ClState {
         requires most { profile.now.parse_ring ≤ 65536 }
         ensures { IfOk result (λ state. state ≡ new_state profile.now) }
     {
-        apply_stays();
+        laws::apply_stays();
         Ok(ClState {
             profile: profile.copy()?,
             number: 0,
@@ -116,7 +116,7 @@ impl ClState {
     {
         log.commands.clear();
         list_rises();
-        apply_stays();
+        laws::apply_stays();
         read_server_message(
             &self.profile,
             number,
@@ -182,7 +182,7 @@ impl ClState {
         ensures { ReadsState profile.now (state_at profile.now bytes.now) result }
     {
         bytes_fit(bytes);
-        read_is_written();
+        laws::read_is_written();
         let own = profile.copy()?;
         let saved = Saved::read(alloc, profile, bytes)?;
         Ok(ClState {

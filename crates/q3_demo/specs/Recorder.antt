@@ -1,5 +1,5 @@
 -- A recording into a file.
-use Rattle.std.specs.Prelude.{◌≡◌, ℕ, Bool, true, false, List, [], ◌∷◌, Option, Some, None, IsOk, IsSome, Result, Ok, Err}
+use Rattle.std.specs.Prelude.{◌≡◌, ℕ, Bool, true, false, List, [], ◌∷◌, Option, None, IsOk, IsSome, Result, Ok, Err}
 use Rattle.q3_io.specs.declared.sink.Failed.{Failed}
 use Rattle.q3_io.specs.Told.{Told, Appends}
 use Rattle.q3_rings.specs.Rings.{view_at}
@@ -27,7 +27,7 @@ abbrev pub is_waiting : Stage → Bool
 is_waiting Waits = true
 is_waiting other = false
 
--- what is answered where a recording has come so far after a message
+-- what is answered after a message, by how far its recording has come
 abbrev pub noted_as : Stage → Noted
 noted_as Waits = noted.Waits
 noted_as (Runs first) = noted.Wrote

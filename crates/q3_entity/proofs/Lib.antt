@@ -1,6 +1,8 @@
 pub mod DeltaTexts
 pub mod Gone
 pub mod Risen
+pub mod Near
+pub mod Marks
 pub mod ListTexts
 pub mod Shared
 pub mod Numbers

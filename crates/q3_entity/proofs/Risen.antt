@@ -17,6 +17,11 @@ rise-after limit [] entities rise = rise
 rise-after limit (entity ∷ front) entities rise =
     rise-after limit front entities (rise-lower limit (entity.number + 1) 0 (front ++ entities) (omega arith) rise.2)
 
+-- the front of entities that rise
+pub rise-front : (limit least : ℕ) (front others : List EntityState) → RiseFrom limit least (front ++ others) → RiseFrom limit least front
+rise-front limit least [] others rise = tt
+rise-front limit least (entity ∷ front) others rise = (rise.0, rise.1, rise-front limit (entity.number + 1) front others rise.2)
+
 -- the first is found under its number
 pub with_number-first : (entity : EntityState) (others : List EntityState) → with_number entity.number (entity ∷ others) ≡ Some entity
 with_number-first entity others = rw (eq-eqb entity.number entity.number refl) refl

@@ -6,7 +6,7 @@ ghost use Rattle.std.specs.Option.{is_some, option_copied};
 ghost use Rattle.q3_bits.specs.Words.{IsCode, field_at};
 ghost use Rattle.q3_bits.specs.Streams.{Reads, holding};
 ghost use Rattle.q3_fields.specs.Kinds.{end_mark};
-ghost use Rattle.q3_entity.specs.Entities.{IsList, Rises, run_of, most_entities};
+ghost use Rattle.q3_entity.specs.Entities.{IsList, RiseFrom, Rises, run_of, most_entities};
 ghost use Rattle.q3_entity.specs.Lists.{number_at, words_from, entity_list_at, list_skipped};
 ghost use Rattle.q3_entity.specs.declared.state.EntityState.{EntityState};
 ghost use Rattle.q3_entity.specs.Walking.{kept_below, KeepsFront, next_at, entry_at, turn_at, skipped_at, with_kept, reached, first_of};
@@ -48,8 +48,9 @@ pub fn read_list(
     ensures list { OnOk result (IsList table.now into.new.items) }
 {
     laws::read_was_put();
+    let end = table.end();
     let mut cursor = read_next(r, table, 0, base, 0, into)?;
-    while cursor.next < table.end() {
+    while cursor.next < end {
         cursor = read_turn(r, table, baselines, cursor, into)?;
     }
     into.truncate(cursor.count);
@@ -65,6 +66,7 @@ fn read_turn<'a>(
     cursor: Cursor<'a>,
     into: &mut List,
 ) -> Result<Cursor<'a>, EntityError>
+    requires rise { RiseFrom (2 ^ 16) cursor.next (run_of cursor.base) }
     requires number { cursor.next + 1 < 2 ^ 16 }
     requires within { cursor.count ≤ length into.old.items }
     ensures reads { Reads r.old r.new (turn_at r.old.words table.now baselines.now
@@ -120,8 +122,9 @@ pub fn skip_list(r: &mut Reader, table: &Table) -> Result<(), EntityError>
     ensures { Reads r.old r.new (list_skipped r.old.words table.now r.old.left) result }
 {
     let zero = EntityState::zero(0);
+    let end = table.end();
     let mut next = read_number(r, table, 0)?;
-    while next < table.end() {
+    while next < end {
         next = skip_entry(r, table, &zero, next)?;
     }
     Ok(())
@@ -156,7 +159,8 @@ fn read_next<'a>(
     count: usize,
     into: &mut List,
 ) -> Result<Cursor<'a>, EntityError>
-    requires { count ≤ length into.old.items }
+    requires rise { RiseFrom (2 ^ 16) 0 (run_of base) }
+    requires within { count ≤ length into.old.items }
     ensures reads { Reads r.old r.new (next_at r.old.words table.now least (run_of base.entry)
         (take count into.old.items) r.old.left) (reached into.new.items result) }
     ensures within { IfOk result (λ cursor. cursor.count ≤ length into.new.items) }
@@ -266,8 +270,10 @@ fn get_number(r: &mut Reader, bits: u32) -> Result<u32, ReadError>
     ensures code { IsCode r.old.words }
 {
     // constants, so that no loop is left
+    if bits == 10 {
+        return r.get_fixed(10);
+    }
     match bits {
-        10 => r.get_fixed(10),
         11 => r.get_fixed(11),
         12 => r.get_fixed(12),
         _ => r.get(bits),
@@ -283,7 +289,8 @@ fn keep_below<'a>(
     count: usize,
     into: &mut List,
 ) -> Result<(Run<'a>, usize), EntityError>
-    requires { count ≤ length into.old.items }
+    requires rise { RiseFrom (2 ^ 16) 0 (run_of base) }
+    requires within { count ≤ length into.old.items }
     ensures kept { with_kept into.new.items result ≡ kept_below number (take count into.old.items)
         (run_of base.entry) }
     ensures within { IfOk result (λ kept. kept.1 ≤ length into.new.items) }
@@ -306,7 +313,8 @@ fn keep_front<'a>(
     count: usize,
     into: &mut List,
 ) -> Result<(&'a [EntityState], usize), EntityError>
-    requires { count ≤ length into.old.items }
+    requires rise { RiseFrom (2 ^ 16) 0 part.now }
+    requires within { count ≤ length into.old.items }
     ensures kept { IfOk result (λ kept. KeepsFront number (take count into.old.items) part.now
         (take kept.1 into.new.items) kept.0.now) }
     ensures within { IfOk result (λ kept. kept.1 ≤ length into.new.items) }

@@ -86,11 +86,11 @@ fn write_entry<'a>(
         write_entity(w, table, from, entity, false)?;
         return Ok(others);
     }
-    write_after(w, table, baselines, base, entity)
+    write_past_gone(w, table, baselines, base, entity)
 }
 
 /// The same, where the base doesn't begin with the entity.
-fn write_after<'a>(
+fn write_past_gone<'a>(
     w: &mut Writer,
     table: &Table,
     baselines: &Baselines,

@@ -7,7 +7,7 @@ ghost use Rattle.q3_entity.specs.Delta.{entity_at, with_words};
 
 use crate::error::EntityError;
 use crate::state::EntityState;
-use q3_bits::{BIT, Reader};
+use q3_bits::{Reader, laws};
 use q3_fields::{StateKind, Table, read_counted};
 
 /// What follows an entity's number.
@@ -34,12 +34,13 @@ pub fn read_entity(
         (with_words into.new.words result) }
     ensures number { into.new.number ≡ into.old.number }
 {
+    laws::marks_are_bits();
     into.words = from.words;
-    if r.get(BIT)? != 0 {
-        return Ok(Entry::Removed);
-    }
-    if r.get(BIT)? == 0 {
-        return Ok(Entry::Same);
+    // the mark of a removal, and that of a change
+    match r.get_run(2)? {
+        0 => return Ok(Entry::Removed),
+        1 => {}
+        _ => return Ok(Entry::Same),
     }
     read_counted(r, StateKind::Entity, table, &mut into.words)?;
     Ok(Entry::Changed)

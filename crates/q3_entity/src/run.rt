@@ -1,8 +1,8 @@
 //! Goes along entities in order.
 
-ghost use Rattle.std.specs.Prelude.{◌≡◌, ◌<◌, ◌≤◌, [], ◌∷◌, length, take, drop, All, MatchOption};
+ghost use Rattle.std.specs.Prelude.{◌≡◌, ◌^◌, ◌<◌, ◌≤◌, [], ◌∷◌, length, take, drop, All, MatchOption};
 ghost use Rattle.std.specs.Option.{option_copied};
-ghost use Rattle.q3_entity.specs.Entities.{run_of};
+ghost use Rattle.q3_entity.specs.Entities.{RiseFrom, run_of};
 ghost use Rattle.q3_entity.specs.Runs.{taken, IsFrom, ShareFront};
 
 use crate::state::{EntityState, Run};
@@ -94,16 +94,34 @@ pub fn count_same(base: &[EntityState], now: &[EntityState]) -> usize
     most
 }
 
-/// How many of the first entities are below a number.
+/// How many of the first entities, which rise by number, are below a number.
 pub(crate) fn count_below(part: &[EntityState], number: u16) -> usize
+    requires { RiseFrom (2 ^ 16) 0 part.now }
     ensures below { All (λ entity. entity.number < number) (take result part.now) }
     ensures after { IsFrom number (drop result part.now) }
     ensures most { result ≤ length part.now }
 {
+    // often numbers follow each other, and then the last of so many is below it, too
+    let near = count_near(part, number);
+    if near == 0 || part[near - 1].number < number {
+        return near;
+    }
     for k in 0..part.len() {
         if part[k].number >= number {
             return k;
         }
     }
     part.len()
+}
+
+/// At most how many of the first entities are below a number: just so many where their numbers follow each other.
+fn count_near(part: &[EntityState], number: u16) -> usize
+    requires { RiseFrom (2 ^ 16) 0 part.now }
+    ensures after { IsFrom number (drop result part.now) }
+    ensures most { result ≤ length part.now }
+{
+    let Some(first) = part.first() else {
+        return 0;
+    };
+    usize::from(number.saturating_sub(first.number)).min(part.len())
 }

@@ -254,21 +254,25 @@ fn read_fields(
 {
     laws::lists_are_read();
     laws::marks_are_bits();
+    // a reader of its own stays in registers
+    let mut own = r.copy();
     let mut k = 0;
     while k < count {
         let limit = (count - k).min(RUN);
-        let same = r.get_run(limit as u32)? as usize;
+        let same = own.get_run(limit as u32)? as usize;
         k += same;
         if same == limit {
             continue;
         }
-        words[k] = read_changed(r, state, kind_at(table, k))?;
+        words[k] = read_changed(&mut own, state, kind_at(table, k))?;
         k += 1;
     }
+    *r = own;
     Ok(())
 }
 
 /// Reads a changed field.
+#[inline(always)]
 fn read_changed(r: &mut Reader, state: StateKind, kind: Kind) -> Result<u32, ReadError>
     requires { IsKind kind }
     ensures { Reads r.old r.new (changed_at state r.old.words kind r.old.left) result }

@@ -7,6 +7,7 @@ ghost use Rattle.q3_fields.specs.Laws.{IsSmall};
 
 /// The float pattern of a whole number from -4096 to 4095.
 #[tactic(auto, unfolding(crate::specs::Floats::pattern))]
+#[inline(always)]
 pub fn pattern_of(k: i32) -> u32
     requires least { neg_ℤ (pos 4096) ≤ℤ k }
     requires most { k ≤ℤ pos 4095 }
@@ -41,6 +42,7 @@ pub fn small_of(word: u32) -> Option<i32>
 }
 
 /// The exponent and fraction of a number from 1 to 4096.
+#[inline(always)]
 fn magnitude_of(number: u32) -> u32
     requires some { 1 ≤ number }
     requires most { number ≤ 4096 }
@@ -52,6 +54,7 @@ fn magnitude_of(number: u32) -> u32
 }
 
 /// The exponent of the greatest power of two that is at most a number from 1 to 4096.
+#[inline(always)]
 fn exponent_of(number: u32) -> u32
     requires some { 1 ≤ number }
     requires most { number ≤ 4096 }

@@ -31,11 +31,12 @@ pub fn read_player_field(r: &mut Reader, kind: Kind) -> Result<u32, ReadError>
 /// Reads a changed field of an entity delta, in normal form. `Err` is the first fault in reading order; the reader then
 /// stands anywhere.
 #[tactic(auto, unfolding(crate::specs::Texts::entity_field_at))]
+#[inline(always)]
 pub fn read_entity_field(r: &mut Reader, kind: Kind) -> Result<u32, ReadError>
     requires { IsKind kind }
     ensures { Reads r.old r.new (entity_field_at r.old.words kind r.old.left) result }
 {
-    if r.get(BIT)? == 0 {
+    if r.get_fixed(BIT)? == 0 {
         return Ok(0);
     }
     read_player_field(r, kind)
@@ -47,7 +48,7 @@ pub fn read_entity_field(r: &mut Reader, kind: Kind) -> Result<u32, ReadError>
 fn read_float(r: &mut Reader) -> Result<u32, ReadError>
     ensures { Reads r.old r.new (float_at r.old.words r.old.left) result }
 {
-    if r.get(BIT)? == 0 {
+    if r.get_fixed(BIT)? == 0 {
         let value = r.get_fixed(13)?;
         return Ok(pattern_of(unbiased(value)));
     }
@@ -64,10 +65,10 @@ fn read_unsigned(r: &mut Reader, width: u8) -> Result<u32, ReadError>
 {
     let width = u32::from(width);
     if width == LONG {
-        // the constant, so that no loop is left
+        // the constant, so that no loop is left; another width keeps its loop
         return r.get_fixed(LONG);
     }
-    r.get(width)
+    r.get_fixed(width)
 }
 
 /// Reads a signed integer of so many bits, and extends its sign.
@@ -78,5 +79,5 @@ fn read_signed(r: &mut Reader, width: u8) -> Result<u32, ReadError>
     requires most { width ≤ 24 }
     ensures { Reads r.old r.new (integer_at r.old.words (Signed width) width r.old.left) result }
 {
-    Ok(sign_extended(r.get(u32::from(width))?, width))
+    Ok(sign_extended(r.get_fixed(u32::from(width))?, width))
 }

@@ -35,9 +35,9 @@ pub record LieIn (ring new : RingState) (entities : List EntityState) (first : �
   pub there : entities_from new first (length entities) ≡ entities
   pub others : (from count : ℕ) → from + count ≤ ring.placed → new.placed ≤ from + length ring.recent → entities_from new from count ≡ entities_from ring from count
 
-placed_later : OthersStay → PlacedIsThere → (ring : RingState) (entities : List EntityState) → length entities ≤ length ring.recent
+placed_anew : OthersStay → PlacedIsThere → (ring : RingState) (entities : List EntityState) → length entities ≤ length ring.recent
     → LieIn ring (with_entities ring entities) entities ring.placed
-placed_later stay there ring entities few = record {
+placed_anew stay there ring entities few = record {
   room = room-stays ring entities few;
   grows = omega arith;
   few = omega arith;
@@ -61,7 +61,7 @@ pub lie_in : OthersStay → PlacedIsThere → (ring new : RingState) (entities :
 lie_in stay there ring new entities first few is = elim is [
   | inl behind ↦
       subst (λ (r : RingState). LieIn ring r entities first) (sym behind.0)
-      (subst (LieIn ring (with_entities ring entities) entities) (sym behind.1) (placed_later stay there ring entities few))
+      (subst (LieIn ring (with_entities ring entities) entities) (sym behind.1) (placed_anew stay there ring entities few))
   | inr before ↦ subst (λ (r : RingState). LieIn ring r entities first) (sym before.0) (placed_before ring entities first before.1)
 ]
 

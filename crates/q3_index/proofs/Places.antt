@@ -75,14 +75,14 @@ baselines_stay end table cursor is = search (then_stays, field_stays, ok_stays, 
 
 -- ---- strings
 
-stays_strings : (end count least : ℕ) (texts : List (List ℕ)) (cursor : Cursor) → Ends end cursor → Stays end (strings_after count least texts cursor)
+counted_strings_stay : (end count least : ℕ) (texts : List (List ℕ)) (cursor : Cursor) → Ends end cursor → Stays end (strings_after count least texts cursor)
 unfolding strings_after
-stays_strings end zero least texts cursor is = ok_stays end texts cursor is
-stays_strings end (suc count) least texts cursor is = search (then_stays, field_stays, stays_strings end count) depth 10
+counted_strings_stay end zero least texts cursor is = ok_stays end texts cursor is
+counted_strings_stay end (suc count) least texts cursor is = search (then_stays, field_stays, counted_strings_stay end count) depth 10
 
 strings_stay : (end : ℕ) (cursor : Cursor) → Ends end cursor → Stays end (strings_at cursor)
 unfolding strings_at
-strings_stay end cursor is = search (then_stays, field_stays, stays_strings)
+strings_stay end cursor is = search (then_stays, field_stays, counted_strings_stay)
 
 some_stays : (end : ℕ) (cursor : Cursor) → Ends end cursor → Stays end (some_pending_at cursor)
 some_stays end cursor is = search (then_stays, field_stays, ok_stays) depth 10
@@ -116,15 +116,15 @@ snapshot_stays : (end : ℕ) (profile : Profile) (held : HeldSnapshots) (newest 
 unfolding snapshot_at
 snapshot_stays end profile held newest left most cursor is = search (then_stays, field_stays, ok_stays, head_stays, entities_stay) depth 10
 
-stays_snapshots : (end : ℕ) (profile : Profile) (newest left most : ℕ) (held : HeldSnapshots) (cursor : Cursor) → Ends end cursor
+counted_snapshots_stay : (end : ℕ) (profile : Profile) (newest left most : ℕ) (held : HeldSnapshots) (cursor : Cursor) → Ends end cursor
     → Stays end (snapshots_after profile newest left most held cursor)
 unfolding snapshots_after
-stays_snapshots end profile newest zero most held cursor is = ok_stays end held cursor is
-stays_snapshots end profile newest (suc left) most held cursor is = search (then_stays, snapshot_stays, stays_snapshots end profile newest left)
+counted_snapshots_stay end profile newest zero most held cursor is = ok_stays end held cursor is
+counted_snapshots_stay end profile newest (suc left) most held cursor is = search (then_stays, snapshot_stays, counted_snapshots_stay end profile newest left)
 
 snapshots_stay : (end : ℕ) (profile : Profile) (cursor : Cursor) → Ends end cursor → Stays end (snapshots_at profile cursor)
 unfolding snapshots_at
-snapshots_stay end profile cursor is = search (then_stays, field_stays, stays_snapshots)
+snapshots_stay end profile cursor is = search (then_stays, field_stays, counted_snapshots_stay)
 
 -- ---- a state
 

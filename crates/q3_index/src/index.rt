@@ -12,7 +12,7 @@ ghost use Rattle.q3_index.specs.Running.{Seeks, SeekCause, RefusesDemo, IsMade, 
 ghost use Rattle.q3_index.specs.Steps.{Answers, IsPlaced, saved_at, played_by, play_one, refused_as};
 
 use crate::error::SeekError;
-use crate::laws::{seeking_goes_on, seeking_is_playing};
+use crate::laws;
 use q3_clstate::ClState;
 use q3_demo::laws::refused_for_its_bytes;
 use q3_demo::{DemoError, Player, read_whole};
@@ -114,8 +114,8 @@ impl Index {
         ensures cause { SeekCause (F.faults files.old) (F.faults files.new) result }
         ensures others { F.write_faults files.new ≡ F.write_faults files.old }
     {
-        seeking_is_playing();
-        seeking_goes_on();
+        laws::seeking_is_playing();
+        laws::seeking_goes_on();
         if number > self.records {
             return Err(SeekError::PastEnd(self.records));
         }

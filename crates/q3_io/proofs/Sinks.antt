@@ -4,7 +4,7 @@ use Rattle.std.proofs.lemmas.List.{append-nil, take_more, take-append-drop}
 use Rattle.std.proofs.lemmas.List.Concat.{flat_map-append}
 use Rattle.std.specs.List.{flat_map}
 use Rattle.q3_io.specs.Written.{Written, Wrote}
-use Rattle.q3_io.specs.Line.{held_after}
+use Rattle.q3_io.specs.Line.{with_held}
 
 some_is : (x y : Written) → Some x ≡ Some y → x ≡ y
 some_is x y e = cc
@@ -38,7 +38,7 @@ ends_early {front} rest wrote is = record {
 }
 
 -- the bytes that were held, and a text, went through the sink below
-through_held : (old new : Option Written) (held text : List ℕ) (all : Bool) → Wrote old new (held ++ text) all → Wrote (held_after old held) (held_after new []) text all
+through_held : (old new : Option Written) (held text : List ℕ) (all : Bool) → Wrote old new (held ++ text) all → Wrote (with_held old held) (with_held new []) text all
 through_held None new held text all wrote = rw (wrote.untold refl) (record { untold = λ e. refl; told = λ had e. absurd cc })
 through_held (Some w) new held text all wrote =
     let was = wrote.told w refl in
@@ -50,15 +50,15 @@ through_held (Some w) new held text all wrote =
     })
 
 -- the bytes that were held, or a front of them, went through the sink below, and no text was taken
-pub held_lost : (old new : Option Written) (held text : List ℕ) → Wrote old new held false → Wrote (held_after old held) (held_after new []) text false
+pub held_lost : (old new : Option Written) (held text : List ℕ) → Wrote old new held false → Wrote (with_held old held) (with_held new []) text false
 held_lost old new held text wrote = through_held old new held text false (ends_early text wrote refl)
 
 -- the bytes that were held, and then a text, went through the sink below
-pub held_passed : (old mid new : Option Written) (held text : List ℕ) (all : Bool) → Wrote old mid held true → Wrote mid new text all → Wrote (held_after old held) (held_after new []) text all
+pub held_passed : (old mid new : Option Written) (held text : List ℕ) (all : Bool) → Wrote old mid held true → Wrote mid new text all → Wrote (with_held old held) (with_held new []) text all
 held_passed old mid new held text all first second = through_held old new held text all (follow first second refl)
 
 -- the bytes that were held went through the sink below, and a text stands in their place
-pub held_next : (old new : Option Written) (held text : List ℕ) → Wrote old new held true → Wrote (held_after old held) (held_after new text) text true
+pub held_next : (old new : Option Written) (held text : List ℕ) → Wrote old new held true → Wrote (with_held old held) (with_held new text) text true
 held_next None new held text wrote = rw (wrote.untold refl) (record { untold = λ e. refl; told = λ had e. absurd cc })
 held_next (Some w) new held text wrote =
     let was = wrote.told w refl in

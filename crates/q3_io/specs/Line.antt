@@ -16,6 +16,6 @@ abbrev pub held_alone : {T E : Type 0} → List ℕ → Result T E → List ℕ
 held_alone bytes result = if is_ok result && nat_le (length bytes) most_held then bytes else []
 
 -- what is told where bytes are held after those of a sink
-abbrev pub held_after : Option Written → List ℕ → Option Written
-held_after None held = None
-held_after (Some written) held = Some (record written { waits = written.waits ++ held })
+abbrev pub with_held : Option Written → List ℕ → Option Written
+with_held None held = None
+with_held (Some written) held = Some (record written { waits = written.waits ++ held })

@@ -3,7 +3,7 @@
 ghost use Rattle.std.specs.Prelude.{◌≡◌, ◌↔◌, ◌+◌, ◌<◌, ◌≤◌, [], ◌++◌, length, if◌then◌else◌, IsOk, IsTrue};
 ghost use Rattle.q3_io.specs.Faults.{HasCause};
 ghost use Rattle.q3_io.specs.Written.{Adds, NothingWaits};
-ghost use Rattle.q3_io.specs.Line.{most_held, held_alone, held_after};
+ghost use Rattle.q3_io.specs.Line.{most_held, held_alone, with_held};
 
 use crate::sink::{Failed, Sink};
 use std::marker::Model;
@@ -73,13 +73,13 @@ impl<O: Sink> Line<O> {
 impl<O: Sink> Sink for Line<O> {
     ghost faults = { λ l. O.faults l.sink };
 
-    ghost written = { λ l. held_after (O.written l.sink) l.held };
+    ghost written = { λ l. with_held (O.written l.sink) l.held };
 
     /// Bytes that fit beside what is held wait with it, and nothing is handed on. Otherwise what is held is handed on,
     /// and then the bytes wait alone, or go straight on where they are more than 1,024.
     fn write_all(&mut self, bytes: &[u8]) -> Result<(), Failed>
-        ensures adds { Adds (held_after (O.written self.old.sink) self.old.held)
-            (held_after (O.written self.new.sink) self.new.held) bytes.now result }
+        ensures adds { Adds (with_held (O.written self.old.sink) self.old.held)
+            (with_held (O.written self.new.sink) self.new.held) bytes.now result }
         ensures cause { HasCause (O.faults self.old.sink) (O.faults self.new.sink) result }
         ensures holds { length self.old.held + length bytes.now ≤ most_held
             → IsOk result × (self.new ≡ record self.old { held = self.old.held ++ bytes.now }) }
@@ -97,9 +97,9 @@ impl<O: Sink> Sink for Line<O> {
     }
 
     fn flush(&mut self) -> Result<(), Failed>
-        ensures adds { Adds (held_after (O.written self.old.sink) self.old.held)
-            (held_after (O.written self.new.sink) self.new.held) [] result }
-        ensures flushed { NothingWaits (held_after (O.written self.new.sink) self.new.held) }
+        ensures adds { Adds (with_held (O.written self.old.sink) self.old.held)
+            (with_held (O.written self.new.sink) self.new.held) [] result }
+        ensures flushed { NothingWaits (with_held (O.written self.new.sink) self.new.held) }
         ensures cause { HasCause (O.faults self.old.sink) (O.faults self.new.sink) result }
         ensures empty { self.new.held ≡ [] }
     {

@@ -10,7 +10,7 @@ use Rattle.q3_script.specs.declared.event.Event.{Event}
 use Rattle.q3_script.specs.declared.event.Event.TheVariants.{Client, Port, Map, Entity, Remove, Baseline, Player, Area, Time, Config, Say, TypeText, Move, Serve, Send, Deliver, RecordTo, Stop, Show, Bytes, Toclient, Toserver, At, End}
 use Rattle.q3_script.specs.Grammar.{TimesRise, EndsLast}
 use Rattle.q3_node.specs.Node.{Rules, Node, Turn, Turned, due_at, time_after, is_end, start_at, due, line_turn, receive_turn, turn_of, turn_at, turns_of, arrivals_after, did_end}
-use Rattle.q3_node.specs.Running.{readings_later}
+use Rattle.q3_node.specs.Running.{readings_left}
 use Rattle.q3_node.specs.Laws.{end_time, lines_done, EndIsDone}
 
 -- ---- lines and their times
@@ -192,10 +192,10 @@ none_done (suc count) = refl
 
 all_done : {S : Type 0} (rules : Rules S) (count : ℕ) (node : Node S) (readings : List ℕ) (arrivals : List (Option Parcel)) (after start : ℕ)
     → start_at node.start (reading_of readings) ≡ start → TimesRise node.time node.left → EndsLast node.left → DontFall start readings
-    → end_time node.left ≤ reading_of (readings_later after readings) - start
+    → end_time node.left ≤ reading_of (readings_left after readings) - start
     → length node.left ≤ (count - after) + lines_done (take after (turns_of count rules node readings arrivals))
     → did_end (turns_of count rules node readings arrivals) ≡ true
-unfolding turns_of readings_later
+unfolding turns_of readings_left
 all_done rules zero node readings arrivals after start starts rise last fall reaches room =
     no_line node.left last (let none = none_done after in omega (arith, none, room))
   where
@@ -212,7 +212,7 @@ all_done {S} rules (suc count) node readings arrivals after start starts rise la
           let passed = subst (λ (t : Turned S). Passed node.left start (reading_of readings - start) t) (sym same)
           (turn_passed rules begun start (reading_of readings - start) node.left (next_of arrivals) refl refl rise last (subst (λ (t : Turned S). t.turn.ended ≡ false) same goes)) in
           let arrive = arrivals_after now.turn arrivals in
-          let again = λ (b : ℕ) (reaches : end_time now.node.left ≤ reading_of (readings_later b (readings_after readings)) - start)
+          let again = λ (b : ℕ) (reaches : end_time now.node.left ≤ reading_of (readings_left b (readings_after readings)) - start)
           (room : length now.node.left ≤ (count - b) + lines_done (take b (turns_of count rules now.node (readings_after readings) arrive))).
           all_done rules count now.node (readings_after readings) arrive b start (rw passed.starts refl) passed.rise passed.last (fall_after start readings fall) reaches room in
           let others : did_end (turns_of count rules now.node (readings_after readings) arrive) ≡ true = on after now arrive again passed (rw goes at room) reaches in
@@ -221,12 +221,12 @@ all_done {S} rules (suc count) node readings arrivals after start starts rise la
     ]
   where
     on : (after : ℕ) (now : Turned S) (arrive : List (Option Parcel))
-        → ((b : ℕ) → end_time now.node.left ≤ reading_of (readings_later b (readings_after readings)) - start
+        → ((b : ℕ) → end_time now.node.left ≤ reading_of (readings_left b (readings_after readings)) - start
         → length now.node.left ≤ (count - b) + lines_done (take b (turns_of count rules now.node (readings_after readings) arrive))
         → did_end (turns_of count rules now.node (readings_after readings) arrive) ≡ true)
         → Passed node.left start (reading_of readings - start) now
         → length node.left ≤ (suc count - after) + lines_done (take after (now.turn ∷ turns_of count rules now.node (readings_after readings) arrive))
-        → end_time node.left ≤ reading_of (readings_later after readings) - start
+        → end_time node.left ≤ reading_of (readings_left after readings) - start
         → did_end (turns_of count rules now.node (readings_after readings) arrive) ≡ true
     on zero now arrive again passed room reaches =
         elim (cases_Bool now.turn.received) [

@@ -17,7 +17,7 @@ use Rattle.q3_script.specs.declared.event.Event.{Event}
 use Rattle.q3_node.specs.declared.error.NodeError.{NodeError}
 use Rattle.q3_node.specs.declared.error.NodeError.TheVariants.{NoMemory, WireFault, WriteFault, FileFault, Turns}
 use Rattle.q3_node.specs.Node.{Rules, Node, Turn, Turned, cut_to_room, due, start_at, turn_of, turn_at, most_turns, turns_of, arrivals_after, did_end, answer_text, parcels_of, acts_of, want_memory}
-use Rattle.q3_node.specs.Running.{ToArrive, ToRead, Effects, all_acts, wire_after, traffic_after, Leaves, readings_later, clock_after, Ran, EndsIn, RanNode, RanBound, StaysFlushed, Finds, TakesTurn}
+use Rattle.q3_node.specs.Running.{ToArrive, ToRead, Effects, all_acts, wire_after, traffic_after, Leaves, readings_left, clock_after, Ran, EndsIn, RanNode, RanBound, StaysFlushed, Finds, TakesTurn}
 use Rattle.q3_node.proofs.Parts.{nothing_done}
 
 -- ---- what is still to come, before a turn
@@ -49,8 +49,8 @@ some_read None = (0 ∷ [], omega arith)
 some_read (Some told) = (told, refl)
 
 -- one reading more was taken
-one_further : (readings : List ℕ) (count : ℕ) → readings_after (readings_later count readings) ≡ readings_later (suc count) readings
-unfolding readings_later
+one_further : (readings : List ℕ) (count : ℕ) → readings_after (readings_left count readings) ≡ readings_left (suc count) readings
+unfolding readings_left
 one_further readings zero = refl
 one_further readings (suc count) = one_further (readings_after readings) count
 
@@ -61,10 +61,10 @@ next_clock : (started clock new : Option (List ℕ)) (count reading : ℕ) → c
 next_clock None clock new count reading same read = subst (λ (c : Option (List ℕ)). Reads c new reading) same read
 next_clock (Some readings) clock new count reading same read =
     let is = subst (λ (c : Option (List ℕ)). Reads c new reading) same read in
-    is.1 ∙ ap (λ (rs : List ℕ). Some rs) (one_further readings count ∙ ap (λ (n : ℕ). readings_later n readings) (plus_one count))
+    is.1 ∙ ap (λ (rs : List ℕ). Some rs) (one_further readings count ∙ ap (λ (n : ℕ). readings_left n readings) (plus_one count))
 
 clock_none : (started : Option (List ℕ)) → started ≡ clock_after started 0
-unfolding readings_later
+unfolding readings_left
 clock_none None = refl
 clock_none (Some readings) = refl
 
@@ -394,7 +394,7 @@ none_wants {S} rules none (suc count) node readings arrivals =
     behind rest true others = refl
     behind rest false others = others
 
--- so it doesn't run out of it after its address
+-- so memory doesn't run out once its address is bound
 pub keeps_memory : {S : Type 0} (rules : Rules S) → ((end : S) (event : Event) (number : ℕ) → (rules.line end event number).memory ≡ false)
     → (bound : Bool) (node : Node S) (at : Address) (clock now : Option (List ℕ)) (before after : Effects) → RanBound bound rules node at clock now before after (Err NoMemory) → bound ≡ false
 keeps_memory rules none false node at clock now before after ran = refl

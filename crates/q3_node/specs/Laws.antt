@@ -7,7 +7,7 @@ use Rattle.q3_script.specs.declared.event.Event.{Event}
 use Rattle.q3_script.specs.declared.event.Event.TheVariants.{End}
 use Rattle.q3_script.specs.Grammar.{TimesRise, EndsLast}
 use Rattle.q3_node.specs.Node.{Rules, Node, Turn, start_at, turns_of, did_end, acts_of, want_memory}
-use Rattle.q3_node.specs.Running.{readings_later}
+use Rattle.q3_node.specs.Running.{readings_left}
 
 -- the time of `end`, which is the last line
 unfoldable pub end_time : List Event → ℕ
@@ -17,7 +17,7 @@ end_time (event ∷ events) = end_time events
 
 -- the reading after so many others, in milliseconds since the node's first
 abbrev pub clock_at : {S : Type 0} → Node S → List ℕ → ℕ → ℕ
-clock_at node readings count = reading_of (readings_later count readings) - start_at node.start (reading_of readings)
+clock_at node readings count = reading_of (readings_left count readings) - start_at node.start (reading_of readings)
 
 -- how many of these turns did a line
 abbrev pub lines_done : List Turn → ℕ

@@ -63,13 +63,13 @@ pub record Leaves (turns : List Turn) (all : Bool) (before after : Effects) : Ty
   pub files : ActsOn before.files after.files (acts_of turns) all_acts
 
 -- readings of which so many were taken
-unfoldable pub readings_later : ℕ → List ℕ → List ℕ
-readings_later zero readings = readings
-readings_later (suc count) readings = readings_later count (readings_after readings)
+unfoldable pub readings_left : ℕ → List ℕ → List ℕ
+readings_left zero readings = readings
+readings_left (suc count) readings = readings_left count (readings_after readings)
 
 -- what is told of a clock then
 abbrev pub clock_after : Option (List ℕ) → ℕ → Option (List ℕ)
-clock_after told count = option_map (λ readings. readings_later count readings) told
+clock_after told count = option_map (λ readings. readings_left count readings) told
 
 -- all of these turns passed: each took one reading
 pub record Passes (turns : List Turn) (clock now : Option (List ℕ)) (before after : Effects) : Type 0 where

@@ -6,7 +6,7 @@ use Rattle.std.specs.Result.{result_ok}
 use Rattle.q3_bits.specs.Bits.{bits_of}
 use Rattle.q3_bits.specs.ResultBind.{◌>>=◌, bind_ok}
 use Rattle.q3_text.specs.declared.text.Command.{Command}
-use Rattle.q3_window.specs.Incoming.{IncomingState, fresh_of, executed_all, executes, jump_at, new_incoming}
+use Rattle.q3_window.specs.Incoming.{IncomingState, fresh_of, executing_all, executes, jump_at, new_incoming}
 use Rattle.q3_config.specs.Strings.{Strings}
 use Rattle.q3_config.specs.Changes.{after_command, without_pending}
 use Rattle.q3_player.specs.declared.head.SnapHead.{SnapHead}
@@ -78,14 +78,14 @@ pub record Plays (when : Type 0) (first : ℕ) (noted : Noted) (play : AppliedSt
 
 -- ---- commands
 
-after_alike : (window other : IncomingState) (commands : List Command) → other.executed ≡ window.executed → (executed_all other commands).executed ≡ (executed_all window commands).executed
-unfolding executed_all
+after_alike : (window other : IncomingState) (commands : List Command) → other.executed ≡ window.executed → (executing_all other commands).executed ≡ (executing_all window commands).executed
+unfolding executing_all
 after_alike window other [] same = same
 after_alike window other (command ∷ commands) same = refl
 
 executes_alike : (window other : IncomingState) (commands : List Command) → other.executed ≡ window.executed → (executes other commands).executed ≡ (executes window commands).executed
 executes_alike window other commands same =
-    ap (λ (executed : ℕ). (executed_all other (fresh_of executed commands)).executed) same ∙ after_alike window other (fresh_of window.executed commands) same
+    ap (λ (executed : ℕ). (executing_all other (fresh_of executed commands)).executed) same ∙ after_alike window other (fresh_of window.executed commands) same
 
 texts_alike : (settings other : Settings) (commands : List Command) → other.strings ≡ settings.strings → (after_texts other commands).strings ≡ (after_texts settings commands).strings
 unfolding after_texts

@@ -20,7 +20,7 @@ use Rattle.q3_demo.specs.declared.recorder.Stage.TheVariants.{Waits, Runs, Ended
 use Rattle.q3_demo.specs.Records.{longest_record, number_end, most_bytes}
 use Rattle.q3_demo.specs.Recording.{composed, game_bits, whole_of, whole_bits, Noting, goes_on, recomposed, begins, is_whole, is_before, composed_whole, Noted}
 use Rattle.q3_demo.specs.Playing.{play_of, last_played}
-use Rattle.q3_recordings.specs.Plays.{IsNoted, Follows, AreNoted, recorded_with, recorded_from, applied_of, after_game, after_number, number_in, accepted_in, heard_in, BeginsTold, BeginsWhole, AreBy, LeftAs, LeftBy, RecordingPlays}
+use Rattle.q3_recordings.specs.Plays.{IsNoted, Follows, AreNoted, recorded_with, recorded_from, applied_of, game_first, number_before_first, number_in, accepted_in, heard_in, BeginsTold, BeginsWhole, AreBy, LeftAs, LeftBy, RecordingPlays}
 use Rattle.q3_recordings.proofs.DemoBytes.{Record, Does, state_after, bytes_of, demo_plays}
 use Rattle.q3_recordings.proofs.Composed.{begins_with, goes_with, none_ended, records_from, written_tailed, records_few}
 use Rattle.q3_recordings.proofs.ComposedGames.{told_in, told_applies, game_short}
@@ -191,9 +191,9 @@ runs_on {when} laws first last client play (noted ∷ others) are after like at 
 record BeginsOn (profile : Profile) (records : List Record) (recorded : List Noted) : Type 0 where
   applied : List Application
   does : Does (new_state profile) 0 records applied
-  numbers : map number_in applied ≡ after_number (map (λ (noted : Noted). noted.applied.answer.number) recorded)
-  accepted : map accepted_in applied ≡ after_game None (map (λ (noted : Noted). noted.applied.accepted) recorded)
-  heard : map heard_in applied ≡ after_game [] (map (λ (noted : Noted). noted.applied.heard) recorded)
+  numbers : map number_in applied ≡ number_before_first (map (λ (noted : Noted). noted.applied.answer.number) recorded)
+  accepted : map accepted_in applied ≡ game_first None (map (λ (noted : Noted). noted.applied.accepted) recorded)
+  heard : map heard_in applied ≡ game_first [] (map (λ (noted : Noted). noted.applied.heard) recorded)
   left : LeftBy (BeginsWhole recorded) recorded (state_after (new_state profile) applied)
 
 nothing_on : (profile : Profile) → BeginsOn profile [] []

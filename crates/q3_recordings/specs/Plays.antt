@@ -74,14 +74,14 @@ applied_of profile demo = applied_from most_records demo (unplayed profile)
 -- ---- the law
 
 -- nothing where nothing is recorded; otherwise the gamestate's first
-abbrev pub after_game : {A : Type 0} → A → List A → List A
-after_game game [] = []
-after_game game (first ∷ others) = game ∷ first ∷ others
+abbrev pub game_first : {A : Type 0} → A → List A → List A
+game_first game [] = []
+game_first game (first ∷ others) = game ∷ first ∷ others
 
 -- and of numbers that before the first
-abbrev pub after_number : List ℕ → List ℕ
-after_number [] = []
-after_number (first ∷ others) = (first - 1) ∷ first ∷ others
+abbrev pub number_before_first : List ℕ → List ℕ
+number_before_first [] = []
+number_before_first (first ∷ others) = (first - 1) ∷ first ∷ others
 
 -- the number of a message, the snapshot that is accepted of it, if one is, and the commands that are executed of it
 abbrev pub number_in : Application → ℕ
@@ -127,9 +127,9 @@ LeftBy strings_too (noted ∷ next ∷ others) state = LeftBy strings_too (next 
 -- that the client accepted of it and the commands that it executed of it; and in the end the state is as the client's
 pub record PlaysTo (profile : Profile) (demo : List ℕ) (recorded : List Noted) : Type 0 where
   pub ending : (play_of profile demo).ending ≡ Ok tt
-  pub numbers : map number_in (applied_of profile demo) ≡ after_number (map (λ (noted : Noted). noted.applied.answer.number) recorded)
-  pub accepted : map accepted_in (applied_of profile demo) ≡ after_game None (map (λ (noted : Noted). noted.applied.accepted) recorded)
-  pub heard : map heard_in (applied_of profile demo) ≡ after_game [] (map (λ (noted : Noted). noted.applied.heard) recorded)
+  pub numbers : map number_in (applied_of profile demo) ≡ number_before_first (map (λ (noted : Noted). noted.applied.answer.number) recorded)
+  pub accepted : map accepted_in (applied_of profile demo) ≡ game_first None (map (λ (noted : Noted). noted.applied.accepted) recorded)
+  pub heard : map heard_in (applied_of profile demo) ≡ game_first [] (map (λ (noted : Noted). noted.applied.heard) recorded)
   pub left : LeftBy (BeginsWhole recorded) recorded (last_played profile demo).state
 
 -- so it is of all messages that a client applied one after the other, where the recording begins by strings that tell the map's id, and

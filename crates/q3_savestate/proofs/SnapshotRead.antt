@@ -14,7 +14,7 @@ use Rattle.q3_rings.specs.Rings.{HeldSnapshot, HeldSnapshots, RingsState, AreHel
 use Rattle.q3_savestate.specs.Cursor.{Cursor, Field, number_at}
 use Rattle.q3_savestate.specs.Entities.{entity_at, entities_at}
 use Rattle.q3_savestate.specs.Snapshots.{slot_at, head_at, most_of, snapshot_at}
-use Rattle.q3_savestate.specs.Reading.{as_field, placed_in, past_one, MayPutBack}
+use Rattle.q3_savestate.specs.Reading.{as_field, placed_in, left_by_one, MayPutBack}
 use Rattle.q3_savestate.proofs.Ranges.{in_range}
 
 -- ---- whether it may be put back
@@ -124,7 +124,7 @@ snapshot_is profile newest left most least held number age count head entities s
 
 -- the ring after it, and what is read of it
 pub record IsAfter (profile : Profile) (newest left most next : ℕ) (held : HeldSnapshots) (rings : RingsState) (start last : Cursor) : Type 0 where
-  pub found : Ok ((next, rings.held), last) ≡ as_field (past_one held) (snapshot_at profile held newest left most start)
+  pub found : Ok ((next, rings.held), last) ≡ as_field (left_by_one held) (snapshot_at profile held newest left most start)
   pub may : MayPutBack held.ring next rings
 
 -- it is held, in a ring in which so many count as placed
@@ -149,7 +149,7 @@ was_put_back profile newest left most least held number age count head old begun
     subst (λ rings. IsAfter profile newest left most (age - count) held rings start last) (sym is) (record {
       found =
           ap (λ (count : ℕ). Ok ((age - count, put_back_at held one), last)) (sym size)
-          ∙ ap (as_field (past_one held)) (sym (snapshot_is profile newest left most least held number age count head entities.0 start first second third fourth last was entities.1));
+          ∙ ap (as_field (left_by_one held)) (sym (snapshot_is profile newest left most least held number age count head entities.0 start first second third fourth last was entities.1));
       may = record {
         room_is = refl;
         none = refl;

@@ -7,7 +7,7 @@ use Rattle.q3_entity_ring.specs.Places.{most_places}
 use Rattle.q3_rings.specs.Rings.{HeldSnapshot, HeldSnapshots, RingsState, no_snapshots, no_rings}
 use Rattle.q3_savestate.specs.Cursor.{Cursor, Field, number_at}
 use Rattle.q3_savestate.specs.Snapshots.{last_number, snapshot_at, snapshots_after, snapshots_at}
-use Rattle.q3_savestate.specs.Reading.{as_field, past_one, MayPutBack}
+use Rattle.q3_savestate.specs.Reading.{as_field, left_by_one, MayPutBack}
 use Rattle.q3_savestate.proofs.SnapshotRead.{as_field_ok}
 
 -- so many are put back, and what is left makes the whole
@@ -32,16 +32,16 @@ begin profile newest count start rings none = subst (HasBack profile newest coun
   left = ap (λ count. snapshots_after profile newest count 4294967295 (no_snapshots profile.parse_ring) start) (let all : count - 0 ≡ count = omega arith in all);
 })
 
-next_back : (profile : Profile) (newest left most next : ℕ) (held after : HeldSnapshots) (now behind : Cursor) → Ok ((next, after), behind) ≡ as_field (past_one held) (snapshot_at profile held newest left most now)
+next_back : (profile : Profile) (newest left most next : ℕ) (held after : HeldSnapshots) (now behind : Cursor) → Ok ((next, after), behind) ≡ as_field (left_by_one held) (snapshot_at profile held newest left most now)
     → snapshots_after profile newest (suc left) most held now ≡ snapshots_after profile newest left next after behind
 unfolding snapshots_after
 next_back profile newest left most next held after now behind read =
-    let one = as_field_ok (past_one held) (snapshot_at profile held newest left most now) (next, after) behind read in
+    let one = as_field_ok (left_by_one held) (snapshot_at profile held newest left most now) (next, after) behind read in
     rw one.1 (ap (λ (x : ℕ × HeldSnapshots). snapshots_after profile newest left x.0 x.1 behind) (sym one.2))
 
 -- one more is put back
 pub more : (profile : Profile) (newest count : ℕ) (start now behind : Cursor) (k most next : ℕ) (rings after : RingsState) → HasBack profile newest count start now k most rings → k < count
-    → Ok ((next, after.held), behind) ≡ as_field (past_one rings.held) (snapshot_at profile rings.held newest (count - k - 1) most now) → MayPutBack profile.parse_ring next after
+    → Ok ((next, after.held), behind) ≡ as_field (left_by_one rings.held) (snapshot_at profile rings.held newest (count - k - 1) most now) → MayPutBack profile.parse_ring next after
     → HasBack profile newest count start behind (k + 1) next after
 more profile newest count start now behind k most next rings after has less read may = record {
   may = may;
@@ -54,13 +54,13 @@ more profile newest count start now behind k most next rings after has less read
       ∙ has.left;
 }
 
-refused_one : (held : HeldSnapshots) (read : Field HeldSnapshot) (at : ℕ) → Err at ≡ as_field (past_one held) read → read ≡ Err at
+refused_one : (held : HeldSnapshots) (read : Field HeldSnapshot) (at : ℕ) → Err at ≡ as_field (left_by_one held) read → read ≡ Err at
 refused_one held (Ok x) at e = absurd cc
 refused_one held (Err place) at e = cc
 
 -- one can't be read
 pub stops : (profile : Profile) (newest count : ℕ) (start now : Cursor) (k most at : ℕ) (rings : RingsState) → HasBack profile newest count start now k most rings → k < count
-    → Err at ≡ as_field (past_one rings.held) (snapshot_at profile rings.held newest (count - k - 1) most now)
+    → Err at ≡ as_field (left_by_one rings.held) (snapshot_at profile rings.held newest (count - k - 1) most now)
     → Err at ≡ snapshots_after profile newest count 4294967295 (no_snapshots profile.parse_ring) start
 unfolding snapshots_after
 stops profile newest count start now k most at rings has less read =

@@ -206,12 +206,12 @@ string_was least size texts cursor next last rest index text fit e f g =
     }
 
 -- it is put in its place, and others are read after it
-past_one : (count least room index : ℕ) (front all : List (List ℕ)) (cursor next : Cursor) (texts : List (List ℕ)) (rest : Cursor) (text : List ℕ) → length front ≡ least → least + room ≡ places
+one_more_put : (count least room index : ℕ) (front all : List (List ℕ)) (cursor next : Cursor) (texts : List (List ℕ)) (rest : Cursor) (text : List ℕ) → length front ≡ least → least + room ≡ places
     → all ≡ front ++ replicate room [] → ReadsString least all cursor index text next
     → ((ahead : List (List ℕ)) → length ahead ≡ index + 1 → slice_set all index text ≡ ahead ++ replicate (places - (index + 1)) [] → config_size (slice_set all index text) ≤ most_size
     → ReadsAfter count (index + 1) (places - (index + 1)) ahead next texts rest)
     → ReadsAfter (suc count) least room front cursor texts rest
-past_one count least room index front all cursor next texts rest text long whole are one more =
+one_more_put count least room index front all cursor next texts rest text long whole are one more =
     let before : ℕ = index - least in
     let after : ℕ = places - (index + 1) in
     let head : List (List ℕ) = front ++ replicate before [] in
@@ -239,7 +239,7 @@ after_were (suc count) least room front all cursor texts rest long whole are fit
     (λ length. text_at length.0 length.1 >>= λ text. strings_after count (index.0.0 + 1) (slice_set all index.0.0 text.0) text.1) (texts, rest) index.2 in
     let text = bind_ok (text_at size.0.0 size.0.1) (λ text. strings_after count (index.0.0 + 1) (slice_set all index.0.0 text.0) text.1) (texts, rest) size.2 in
     let one = string_was least size.0.0 all cursor index.0.1 size.0.1 text.0.1 index.0.0 text.0.0 fit index.1 size.1 text.1 in
-    past_one count least room index.0.0 front all cursor text.0.1 texts rest text.0.0 long whole are one
+    one_more_put count least room index.0.0 front all cursor text.0.1 texts rest text.0.0 long whole are one
     (λ ahead ahead_long ahead_is ahead_fits. after_were count (index.0.0 + 1) (places - (index.0.0 + 1)) ahead (slice_set all index.0.0 text.0.0) text.0.1 texts rest ahead_long (omega (arith, one.below)) ahead_is
     ahead_fits one.took.fit text.2)
 

@@ -25,8 +25,8 @@ placed_in rings entities =
     record rings { begun = option_map (λ (begun : Begun). record begun { entities = begun.entities ++ entities }) rings.begun }
 
 -- what a snapshot leaves that is read: the greatest age of the next, which is older than none by its own entities, and all that is held then
-abbrev pub past_one : HeldSnapshots → HeldSnapshot → ℕ × HeldSnapshots
-past_one held one = (one.age - length one.snapshot.entities, put_back_at held one)
+abbrev pub left_by_one : HeldSnapshots → HeldSnapshot → ℕ × HeldSnapshots
+left_by_one held one = (one.age - length one.snapshot.entities, put_back_at held one)
 
 -- a snapshot of at most this age may be put back into a ring with so much room: after the first, so many entities count as placed, and all
 -- that is held is older, each by its own entities

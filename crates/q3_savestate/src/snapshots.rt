@@ -10,7 +10,7 @@ ghost use Rattle.q3_rings.specs.Rings.{AreHeldSnapshots, no_rings, no_snapshots}
 ghost use Rattle.q3_rings.specs.ByNumber.{held_under, one_of};
 ghost use Rattle.q3_savestate.specs.Entities.{counted, entity_bytes, entities_at};
 ghost use Rattle.q3_savestate.specs.Lending.{HasAges};
-ghost use Rattle.q3_savestate.specs.Reading.{as_field, found_with, placed_in, past_one, MayPutBack};
+ghost use Rattle.q3_savestate.specs.Reading.{as_field, found_with, placed_in, left_by_one, MayPutBack};
 ghost use Rattle.q3_io.specs.Faults.{HasCause};
 ghost use Rattle.q3_io.specs.Written.{Adds};
 ghost use Rattle.q3_savestate.specs.Cursor.{found, found_in};
@@ -211,7 +211,7 @@ fn read_snapshot(
 ) -> Result<u32, usize>
     requires least { 512 ≤ profile.now.parse_ring }
     requires may { MayPutBack profile.now.parse_ring most rings.old }
-    ensures found { found_with result rings.new.held cursor.new ≡ as_field (past_one rings.old.held)
+    ensures found { found_with result rings.new.held cursor.new ≡ as_field (left_by_one rings.old.held)
         (snapshot_at profile.now rings.old.held newest left most cursor.old) }
     ensures may { IfOk result (λ most. MayPutBack profile.now.parse_ring most rings.new) }
 {

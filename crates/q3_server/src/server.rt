@@ -16,7 +16,7 @@ ghost use Rattle.q3_server.specs.Standing.{BeginsBuilt, IsServer};
 ghost use Rattle.q3_server.specs.Server.{places, new_server, add_client_at, new_map_at, set_time_at, set_entity_at, remove_entity_at, set_baseline_at, refused_for, set_config_at, set_player_at, set_area_at, set_delayed_at, sending_at, say_at, emit_at, slot_at};
 ghost use Rattle.q3_server.specs.Taking.{take_at};
 
-use crate::laws::below;
+use crate::laws;
 use crate::slots::{begin_map, first_without_room, tell_all};
 use q3_bits::NoMemory;
 use q3_chan::{Datagram, LONGEST_MESSAGE, NoQport, is_checked, qport_of};
@@ -118,7 +118,7 @@ impl Server {
         requires ring_most { profile.now.server_ring ≤ 262144 }
         ensures { IfOk result (λ server. server ≡ new_server profile.now slots) }
     {
-        below();
+        laws::below();
         let copy = profile.copy()?;
         let map = Map::new(alloc)?;
         let empty = empty_slots(alloc, slots)?;
@@ -150,7 +150,7 @@ impl Server {
     ) -> Result<(), SlotError>
         ensures { add_client_at self.old slot challenge qport from ≡ record { server = self.new; answer = result } }
     {
-        below();
+        laws::below();
         if !self.has(slot) {
             return Err(SlotError::Range);
         }
@@ -173,7 +173,7 @@ impl Server {
         requires { id < 2 ^ 31 }
         ensures { new_map_at self.old id feed ≡ record { server = self.new; answer = result } }
     {
-        below();
+        laws::below();
         self.map.new_map(id, feed)?;
         begin_map(&mut self.slots);
         self.frames.note_change();
@@ -187,7 +187,7 @@ impl Server {
         requires most { state.now.number < end_mark self.old.profile.entity }
         ensures { set_baseline_at self.old state.now ≡ record { server = self.new; answer = result } }
     {
-        below();
+        laws::below();
         are_words(&state.words);
         self.map.set_baseline(&self.profile.entity, state)
     }
@@ -205,7 +205,7 @@ impl Server {
     pub fn set_config(&mut self, index: u32, text: &[u8]) -> Result<(), ConfigRefused>
         ensures { set_config_at self.old index text.now ≡ record { server = self.new; answer = result } }
     {
-        below();
+        laws::below();
         if index == SYSTEM_INFO {
             return Err(ConfigRefused::Own);
         }
@@ -243,7 +243,7 @@ impl Server {
         requires { state.now.number < end_mark self.old.profile.entity }
         ensures { self.new ≡ set_entity_at self.old state.now }
     {
-        below();
+        laws::below();
         are_words(&state.words);
         self.map.set_entity(&self.profile.entity, state);
         self.frames.note_change();
@@ -253,7 +253,7 @@ impl Server {
     pub fn remove_entity(&mut self, number: u16)
         ensures { self.new ≡ remove_entity_at self.old number }
     {
-        below();
+        laws::below();
         self.map.remove_entity(number);
         self.frames.note_change();
     }
@@ -262,7 +262,7 @@ impl Server {
     pub fn set_player(&mut self, slot: u8, player: &PlayerState) -> Result<(), NoClient>
         ensures { set_player_at self.old slot player.now ≡ record { server = self.new; answer = result } }
     {
-        below();
+        laws::below();
         is_state(player);
         if !self.has(slot) {
             return Err(NoClient);
@@ -392,7 +392,7 @@ impl Server {
         ensures piece { HandsOut (emit_at self.old slot).piece out.new.items }
         ensures began { BeginsBuilt self.old slot }
     {
-        below();
+        laws::below();
         out.clear();
         if !self.has(slot) {
             return Emitted::NoClient;

@@ -21,6 +21,7 @@ use crate::answer::{Emitted, NoClient, SayError};
 use crate::beginning::{begin_game, begin_snapshot};
 use crate::emitting::{Recipient, has_ended};
 use crate::joined::Joined;
+use crate::laws;
 use crate::stage::ClientStage;
 use crate::taking::{Heard, ServerTook};
 use arrayvec::ArrayVec;
@@ -32,7 +33,7 @@ use q3_config::{SYSTEM_INFO, piece, pieces, shape};
 use q3_frames::Frames;
 use q3_io::Address;
 use q3_map::Map;
-use q3_player::{MOST_AREA, PlayerState, SnapHead};
+use q3_player::{PlayerState, SnapHead};
 use q3_profile::Profile;
 use q3_text::Text;
 use q3_window::{Incoming, Outgoing, WindowFull};
@@ -47,9 +48,9 @@ pub struct Slot {
     /// Gathers the datagrams that come from it.
     gatherer: Gatherer,
     /// The window of the commands that are issued to it.
-    issued: Outgoing,
+    pub(crate) issued: Outgoing,
     /// The client at the other end of these three, which are as they were at first until it joins.
-    client: Option<Joined>,
+    pub(crate) client: Option<Joined>,
 }
 
 impl Model for Slot {
@@ -241,21 +242,6 @@ impl Slot {
         }
     }
 
-    /// What the parts of the slot tell.
-    fn stand(&self)
-        ensures { IfSome self.now IsSlot }
-    {
-        let Some(client) = &self.client else {
-            return;
-        };
-        let _issued = self.issued.issued();
-        let _executed = client.executed.executed();
-        let _last = client.executed.last().bytes();
-        let area = client.area.as_slice();
-        // there is room for no more
-        prove!(area.len() <= MOST_AREA);
-    }
-
     /// Takes a datagram of the client in this slot, from an address, which it takes over. The answer is the first that fits:
     /// - `Stranger`: there is no client.
     /// - `Runt`, `Connectionless`, `BadCheck`, `Old`, `OutOfOrder`, `BadFragment`, `Partial`: no message came whole, as the
@@ -343,7 +329,8 @@ impl Slot {
         ensures buffer { length buffer.new ≡ longest_message }
         ensures stands { IfSome self.old IsSlot }
     {
-        self.stand();
+        // what the types of its parts tell
+        laws::slot_stands(self);
         let Some(client) = &self.client else {
             return Emitted::NoClient;
         };

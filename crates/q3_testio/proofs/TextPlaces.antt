@@ -5,7 +5,7 @@ use Rattle.std.proofs.lemmas.List.{length-append, append-nil, map-append, map-se
 use Rattle.std.proofs.lemmas.List.Folds.{concat-append}
 use Rattle.std.proofs.lemmas.List.Sums.{sum_by-cons, sum_by_more_le}
 use Rattle.std.specs.List.{concat, sum}
-use Rattle.q3_testio.specs.Texts.{texts_of, LieAfter, AreCutFrom, StartsAt}
+use Rattle.q3_testio.specs.Texts.{texts_of, LieInTurn, AreCutFrom, StartsAt}
 
 -- texts are cut again as they were
 texts_of-concat : (texts : List (List ℕ)) → texts_of (map length texts) (concat texts) ≡ texts
@@ -76,17 +76,17 @@ starts_at texts lengths bytes place start l b within is =
     }
 
 -- where a text starts, as the sum of the lengths before it
-pub starts : (lengths bytes : List ℕ) (place start : ℕ) → LieAfter lengths bytes → place < length lengths → start ≡ sum (take place lengths) → StartsAt lengths bytes place start
+pub starts : (lengths bytes : List ℕ) (place start : ℕ) → LieInTurn lengths bytes → place < length lengths → start ≡ sum (take place lengths) → StartsAt lengths bytes place start
 starts lengths bytes place start lie within is = starts_at (texts_of lengths bytes) lengths bytes place start lie.lengths_are lie.bytes_are within is
 
 -- the sum of the first lengths is within the bytes
-pub sum_within : (lengths bytes : List ℕ) (k : ℕ) → LieAfter lengths bytes → k < length lengths → sum (take k lengths) + get_or lengths k 0 ≤ length bytes
+pub sum_within : (lengths bytes : List ℕ) (k : ℕ) → LieInTurn lengths bytes → k < length lengths → sum (take k lengths) + get_or lengths k 0 ≤ length bytes
 sum_within lengths bytes k lie within =
     let whole : length bytes ≡ sum lengths = ap length (sym lie.bytes_are) ∙ (length-concat (texts_of lengths bytes) ∙ ap sum lie.lengths_are) in
     omega (arith, whole, sum_by_more_le (λ n. n) lengths k 0 within)
 
 -- a text more
-pub pushed : (lengths bytes text : List ℕ) → LieAfter lengths bytes → AreCutFrom (texts_of lengths bytes ++ text ∷ []) (lengths ++ length text ∷ []) (bytes ++ text)
+pub pushed : (lengths bytes text : List ℕ) → LieInTurn lengths bytes → AreCutFrom (texts_of lengths bytes ++ text ∷ []) (lengths ++ length text ∷ []) (bytes ++ text)
 pushed lengths bytes text lie =
     let texts = texts_of lengths bytes in
     are_cut_from (texts ++ text ∷ []) (lengths ++ length text ∷ []) (bytes ++ text)

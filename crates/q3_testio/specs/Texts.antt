@@ -14,13 +14,13 @@ texts_of [] bytes = []
 texts_of (count ∷ counts) bytes = take count bytes ∷ texts_of counts (drop count bytes)
 
 -- the bytes are those of the texts and no others
-pub record LieAfter (lengths bytes : List ℕ) : Type 0 where
+pub record LieInTurn (lengths bytes : List ℕ) : Type 0 where
   pub bytes_are : concat (texts_of lengths bytes) ≡ bytes
   pub lengths_are : map length (texts_of lengths bytes) ≡ lengths
 
 -- texts of these lengths in these bytes
 pub record AreCutFrom (texts : List (List ℕ)) (lengths bytes : List ℕ) : Type 0 where
-  pub lie : LieAfter lengths bytes
+  pub lie : LieInTurn lengths bytes
   pub same : texts_of lengths bytes ≡ texts
 
 -- the text at a place starts here, and what stands when it is taken away or bytes are put after it

@@ -1,7 +1,7 @@
 //! Texts in one piece of memory, which is taken when they are made.
 
 ghost use Rattle.std.specs.Prelude.{◌≡◌, ◌+◌, ◌-◌, ◌≤◌, ◌<◌, ◌^◌, [], ◌∷◌, ◌++◌, length, take, drop, slice_index_or, slice_set, vec_capacity, IfOk};
-ghost use Rattle.q3_testio.specs.Texts.{LieAfter, StartsAt};
+ghost use Rattle.q3_testio.specs.Texts.{LieInTurn, StartsAt};
 
 use q3_io::NoMemory;
 use std::alloc::Global;
@@ -18,7 +18,7 @@ pub struct Texts {
 
 impl Model for Texts {
     ghost use Rattle.std.specs.Prelude.{◌≤◌, ◌-◌, length, vec_capacity};
-    ghost use Rattle.q3_testio.specs.Texts.{TextsState, texts_of, LieAfter};
+    ghost use Rattle.q3_testio.specs.Texts.{TextsState, texts_of, LieInTurn};
 
     ghost Value = { TextsState };
 
@@ -28,7 +28,7 @@ impl Model for Texts {
       room = t.room - length t.bytes.items;
     } };
 
-    ghost invariant = { λ t. LieAfter t.lengths.items t.bytes.items
+    ghost invariant = { λ t. LieInTurn t.lengths.items t.bytes.items
         × (length t.bytes.items ≤ t.room) × (t.room ≤ vec_capacity t.bytes)
         × (length t.lengths.items ≤ t.most) × (t.most ≤ vec_capacity t.lengths) };
 }
@@ -124,7 +124,7 @@ impl Texts {
 
 /// Where the text at a place starts.
 fn start_of(lengths: &[usize], bytes: &[u8], place: usize) -> usize
-    requires lie { LieAfter lengths.now bytes.now }
+    requires lie { LieInTurn lengths.now bytes.now }
     requires fits { length bytes.now < 2 ^ 64 }
     requires within { place < length lengths.now }
     ensures { StartsAt lengths.now bytes.now place result }

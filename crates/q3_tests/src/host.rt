@@ -50,7 +50,7 @@ fn size_of_new(files: &mut impl Files, bytes: &[u8]) -> Result<u64, Failed> {
 }
 
 /// What is read of the file `long` where no file ends.
-fn read_far_after(files: &mut impl Files) -> Result<usize, Failed> {
+fn read_far_past_the_end(files: &mut impl Files) -> Result<usize, Failed> {
     let file = files.lookup("long")?;
     files.read_at(file, u64::MAX, &mut [0; 4])
 }
@@ -60,7 +60,7 @@ fn a_long_file_of_the_system(rt: HostRuntime) {
     let long = vec![in rt.alloc(); b'.'; 2_000].expect(&rt, "memory");
     let mut files = HostFiles::new(rt.alloc(), &rt).expect(&rt, "memory");
     assert_eq!(rt; size_of_new(&mut files, &long), Ok(2_000));
-    assert_eq!(rt; read_far_after(&mut files), Err(Failed));
+    assert_eq!(rt; read_far_past_the_end(&mut files), Err(Failed));
 }
 
 /// Whether bytes are put into a file of this name.

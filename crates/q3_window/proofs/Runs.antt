@@ -6,7 +6,7 @@ use Rattle.std.proofs.lemmas.List.{drop_all, drop_more}
 use Rattle.std.proofs.lemmas.Option.{slice_get-get_or}
 use Rattle.q3_text.specs.declared.text.Command.{Command}
 use Rattle.q3_text.specs.Commands.{numbered}
-use Rattle.q3_window.specs.Incoming.{IncomingState, Taking, executing, take_at, take_any_at, fresh_of, gap_in, executed_all, executes}
+use Rattle.q3_window.specs.Incoming.{IncomingState, Taking, executing, take_at, take_any_at, fresh_of, gap_in, executing_all, executes}
 use Rattle.q3_window.specs.Issued.{issued_text, carried_of}
 use Rattle.q3_window.specs.Executed.{IncomingStandsFor, takes, takes_any, RiseAbove}
 use Rattle.q3_window.specs.Laws.{CarriedAreExecuted, TakenAreExecuted, TakenWithoutGap, ExecutedRise}
@@ -70,8 +70,8 @@ runs_on (suc more) first executed (text ∷ texts) is =
     }
 
 stands_after : (window : IncomingState) (texts more : List (List ℕ)) → IncomingStandsFor window texts
-    → IncomingStandsFor (executed_all window (numbered (length texts + 1) more)) (texts ++ more)
-unfolding executed_all numbered
+    → IncomingStandsFor (executing_all window (numbered (length texts + 1) more)) (texts ++ more)
+unfolding executing_all numbered
 stands_after window texts [] stands = subst (IncomingStandsFor window) (sym (append-nil texts)) stands
 stands_after window texts (text ∷ more) stands =
     let command : Command = record { number = length texts + 1; text = text } in
@@ -82,9 +82,9 @@ stands_after window texts (text ∷ more) stands =
       last = sym (ap (issued_text (texts ++ text ∷ [])) at ∙ get_or-append_seam texts text [] []);
     } in
     let rest = stands_after (executing command) (texts ++ text ∷ []) more one in
-    let same : executed_all (executing command) (numbered (length (texts ++ text ∷ []) + 1) more) ≡ executed_all (executing command) (numbered (length texts + 1 + 1) more) =
-    ap (λ (k : ℕ). executed_all (executing command) (numbered (k + 1) more)) count in
-    subst (IncomingStandsFor (executed_all (executing command) (numbered (length texts + 1 + 1) more))) (append_assoc texts (text ∷ []) more)
+    let same : executing_all (executing command) (numbered (length (texts ++ text ∷ []) + 1) more) ≡ executing_all (executing command) (numbered (length texts + 1 + 1) more) =
+    ap (λ (k : ℕ). executing_all (executing command) (numbered (k + 1) more)) count in
+    subst (IncomingStandsFor (executing_all (executing command) (numbered (length texts + 1 + 1) more))) (append_assoc texts (text ∷ []) more)
     (subst (λ (window : IncomingState). IncomingStandsFor window ((texts ++ text ∷ []) ++ more)) same rest)
 
 all_taken : (issued : List (List ℕ)) (executed last : ℕ) → last ≤ length issued → take executed issued ++ drop executed (take last issued) ≡ take (max executed last) issued
@@ -112,8 +112,8 @@ carried_are_executed issued window acknowledged last executed above within most 
     let fresh : fresh_of window.executed commands ≡ numbered (executed + 1) (drop executed (take last issued)) =
     ap (λ (k : ℕ). fresh_of k commands) here ∙ runs.fresh ∙ ap (numbered (executed + 1)) rest in
     let more = stands_after window (take executed issued) (drop executed (take last issued)) stands in
-    let same : executed_all window (numbered (length (take executed issued) + 1) (drop executed (take last issued))) ≡ executes window commands =
-    ap (λ (k : ℕ). executed_all window (numbered (k + 1) (drop executed (take last issued)))) count ∙ ap (executed_all window) (sym fresh) in (
+    let same : executing_all window (numbered (length (take executed issued) + 1) (drop executed (take last issued))) ≡ executes window commands =
+    ap (λ (k : ℕ). executing_all window (numbered (k + 1) (drop executed (take last issued)))) count ∙ ap (executing_all window) (sym fresh) in (
       ap (λ (k : ℕ). gap_in k commands) here ∙ runs.no_gap,
       fresh,
       subst (IncomingStandsFor (executes window commands)) (all_taken issued executed last most)
@@ -137,19 +137,19 @@ take_next window command next =
     ∙ cond-false (ltb (window.executed + 1) command.number) _ _ (le-ltb (window.executed + 1) command.number (omega arith)))
 
 pub taken_are_executed : TakenAreExecuted
-unfolding takes_any executed_all fresh_of
+unfolding takes_any executing_all fresh_of
 taken_are_executed window [] = refl
 taken_are_executed window (command ∷ commands) = elim (cases_lt window.executed command.number) [
   | inl new ↦
       ap (λ (window : IncomingState). takes_any window commands) (any_new window command new) ∙ taken_are_executed (executing command) commands
-      ∙ sym (ap (executed_all window) (fresh_new window.executed command commands new))
+      ∙ sym (ap (executing_all window) (fresh_new window.executed command commands new))
   | inr known ↦
       ap (λ (window : IncomingState). takes_any window commands) (any_known window command known) ∙ taken_are_executed window commands
-      ∙ sym (ap (executed_all window) (fresh_known window.executed command commands known))
+      ∙ sym (ap (executing_all window) (fresh_known window.executed command commands known))
 ]
 
 pub taken_without_gap : TakenWithoutGap
-unfolding takes executed_all fresh_of
+unfolding takes executing_all fresh_of
 taken_without_gap window [] none = refl
 taken_without_gap window (command ∷ commands) none = elim (cases_lt window.executed command.number) [
   | inl new ↦ elim (cases_lt (window.executed + 1) command.number) [
@@ -158,12 +158,12 @@ taken_without_gap window (command ∷ commands) none = elim (cases_lt window.exe
         let is : command.number ≡ window.executed + 1 = omega arith in
         ap (λ (window : IncomingState). takes window commands) (take_next window command is)
         ∙ taken_without_gap (executing command) commands (sym (gap_next window.executed command commands is) ∙ none)
-        ∙ sym (ap (executed_all window) (fresh_new window.executed command commands new))
+        ∙ sym (ap (executing_all window) (fresh_new window.executed command commands new))
   ]
   | inr known ↦
       ap (λ (window : IncomingState). takes window commands) (take_known window command known)
       ∙ taken_without_gap window commands (sym (gap_known window.executed command commands known) ∙ none)
-      ∙ sym (ap (executed_all window) (fresh_known window.executed command commands known))
+      ∙ sym (ap (executing_all window) (fresh_known window.executed command commands known))
 ]
 
 pub executed_rise : ExecutedRise
@@ -184,8 +184,8 @@ item_is commands place command within is =
 
 -- the window after commands is that of the last one
 after_from : (window : IncomingState) (commands : List Command) (command : Command) → slice_get commands (length commands - 1) ≡ Some command
-    → executed_all window commands ≡ executing command
-unfolding executed_all
+    → executing_all window commands ≡ executing command
+unfolding executing_all
 after_from window [] command is = let never : ◌≡◌ {A = Option Command} None (Some command) = is in cc
 after_from window (one ∷ []) command is = let same : one ≡ command = cc in ap executing same
 after_from window (one ∷ two ∷ commands) command is =
@@ -194,12 +194,12 @@ after_from window (one ∷ two ∷ commands) command is =
 
 pub executes_some : (window : IncomingState) (commands ran : List Command) (command : Command) → ran ≡ fresh_of window.executed commands
     → slice_get ran (length ran - 1) ≡ Some command → executing command ≡ executes window commands
-executes_some window commands ran command is last = sym (ap (executed_all window) (sym is) ∙ after_from window ran command last)
+executes_some window commands ran command is last = sym (ap (executing_all window) (sym is) ∙ after_from window ran command last)
 
 pub executes_none : (window : IncomingState) (commands ran : List Command) → ran ≡ fresh_of window.executed commands
     → slice_get ran (length ran - 1) ≡ None → window ≡ executes window commands
-unfolding executed_all
-executes_none window commands [] is last = ap (executed_all window) is
+unfolding executing_all
+executes_none window commands [] is last = ap (executing_all window) is
 executes_none window commands (one ∷ others) is last =
     let some = slice_get-get_or (one ∷ others) (length (one ∷ others) - 1) one (omega arith) in
     let never : ◌≡◌ {A = Option Command} (Some (get_or (one ∷ others) (length (one ∷ others) - 1) one)) None = sym some ∙ last in

@@ -54,10 +54,10 @@ gap_in executed (command ∷ commands) =
     else Some command.number
 
 -- the window after commands that were executed
-unfoldable pub executed_all : IncomingState → List Command → IncomingState
-executed_all window [] = window
-executed_all window (command ∷ commands) = executed_all (executing command) commands
+unfoldable pub executing_all : IncomingState → List Command → IncomingState
+executing_all window [] = window
+executing_all window (command ∷ commands) = executing_all (executing command) commands
 
 -- the window after commands in order
 abbrev pub executes : IncomingState → List Command → IncomingState
-executes window commands = executed_all window (fresh_of window.executed commands)
+executes window commands = executing_all window (fresh_of window.executed commands)

@@ -1,8 +1,9 @@
-use Rattle.std.proofs.Common.{◌≡◌, [], ◌++◌, length, take, sym, ap, ◌∙◌, arith}
+use Rattle.std.proofs.Common.{◌≡◌, ◌^◌, [], ◌++◌, length, take, sym, ap, ◌∙◌, arith}
 use Rattle.std.proofs.lemmas.Bool.{eqb-true, eqb-false}
 use Rattle.std.proofs.lemmas.List.{append-nil, drop_all}
 use Rattle.std.proofs.lemmas.Result.{err_from_is_err_and}
 use Rattle.q3_entity.specs.Walking.{kept_below}
+use Rattle.q3_entity.proofs.Risen.{rise-front, rise-after}
 use Rattle.q3_entity.proofs.Numbers.{kept_below-left, kept_below-part}
 use Rattle.q3_entity.proofs.list_reading.keep_below.Goals as goal
 
@@ -33,3 +34,9 @@ returns-clause-kept c =
     let empty : head ≡ [] = drop_all 0 head (omega arith) in
     let first = c.in_ok-head.ensures.kept.goes_on tail ∙ ap (λ xs. kept_below c.args.number kept (xs ++ tail)) empty in
     rw empty (sym (first ∙ kept_below-part c.args.number kept tail (take c.in_ok-tail.count c.keep_front-2.new.into.items) c.in_ok-tail.tail.now c.in_ok-tail.ensures.kept))
+
+pub keep_front-requires-clause-rise : goal.keep_front-requires-clause-rise
+keep_front-requires-clause-rise c = rise-front (2 ^ 16) 0 c.args.base.head.now c.args.base.tail.now c.requires.rise
+
+pub keep_front-requires-2-clause-rise : goal.keep_front-requires-2-clause-rise
+keep_front-requires-2-clause-rise c = rise-after (2 ^ 16) c.args.base.head.now c.args.base.tail.now c.requires.rise

@@ -13,9 +13,9 @@ returns-in_err-end-clause-many c =
     let number = c.args.number in
     let first = take c.args.count c.args.into.now.items in
     let below = c.count_below-below.result in
-    let long : length first ≡ c.args.count = length-take-le c.args.count c.args.into.now.items c.requires in
+    let long : length first ≡ c.args.count = length-take-le c.args.count c.args.into.now.items c.requires.within in
     let many = c.in_err-end.ensures.many in
-    let few : length first ≤ most_entities = omega (arith, long, c.requires, c.in_err-end.ensures.fits) in
+    let few : length first ≤ most_entities = omega (arith, long, c.requires.within, c.in_err-end.ensures.fits) in
     let more : most_entities < length first + length (take below part) = omega (arith, long, many.1) in
     rw (p.1, p.2) (λ after.
     let parts = ap (λ xs. xs ++ after) (sym (take-append-drop below part)) ∙ append_assoc (take below part) (drop below part) after in
@@ -28,7 +28,7 @@ returns-clause-kept c =
     let number = c.args.number in
     let first = take c.args.count c.args.into.now.items in
     let below = c.count_below-below.result in
-    let long : length first ≡ c.args.count = length-take-le c.args.count c.args.into.now.items c.requires in
+    let long : length first ≡ c.args.count = length-take-le c.args.count c.args.into.now.items c.requires.within in
     let fit : length first + length (take below part) ≤ most_entities = omega (arith, long, c.in_ok-end.ensures.few) in
     let items = c.in_ok-end.ensures.put in
     rw (take_rest part below) (record {

@@ -1,4 +1,4 @@
-use Rattle.std.proofs.Common.{◌+◌, ◌≤◌, ◌<◌, ℕ, Bool, List, sym, ap, ◌∙◌, arith}
+use Rattle.std.proofs.Common.{◌+◌, ◌≤◌, ◌<◌, ℕ, Bool, List, sym, ap, ◌∙◌, arith, refl}
 use Rattle.std.proofs.lemmas.Result.{err_from_is_err_and}
 use Rattle.q3_bits.specs.Words.{run_at}
 use Rattle.q3_fields.specs.Deltas.{changed_at}
@@ -13,10 +13,10 @@ returns-in_err-same c =
     let e = c.in_err-same.field-0.0 in
     rw (p.1, p.2) (record {
       value = sym (c.lists_are_read.ensures.stops _ _ _ _ _ _ _ e so
-          (left-fault c.marks_are_bits.ensures c.args.state c.args.r.now.words c.args.table.now.kinds c.args.count c.loop-k.k limit c.args.words.now c.loop-k.r.left e
+          (left-fault c.marks_are_bits.ensures c.args.state c.args.r.now.words c.args.table.now.kinds c.args.count c.loop-k.k limit c.args.words.now c.loop-k.own.left e
           (omega (arith, c.min-limit.ensures, c.loop-k.invariant.most)) c.requires.in_table (omega (arith, c.requires.few)) (sym c.in_err-same.ensures.reads.value)));
-      words = c.in_err-same.ensures.reads.words ∙ so.words;
-      place = c.in_err-same.ensures.reads.place ∙ so.place;
+      words = refl;
+      place = refl;
     })
 
 pub loop-k-preserved-then-same-limit : goal.loop-k-preserved-then-same-limit
@@ -24,11 +24,11 @@ loop-k-preserved-then-same-limit c =
     let so = c.loop-k.invariant.reads in
     let n = c.in_ok-same.field-0 in
     let within : c.loop-k.k + n ≤ c.args.count = omega (arith, c.min-limit.ensures, c.loop-k.invariant.most, c.if-same-limit.true) in
-    let read = ap (λ (m : ℕ). run_at m c.loop-k.r.left) c.if-same-limit.true ∙ sym c.in_ok-same.ensures.reads.value in
+    let read = ap (λ (m : ℕ). run_at m c.loop-k.own.left) c.if-same-limit.true ∙ sym c.in_ok-same.ensures.reads.value in
     record {
       most = within;
       reads = c.lists_are_read.ensures.keep _ _ _ c.loop-k.k n _ _ _ _ _ so (omega (arith, within, c.requires.few)) c.in_ok-same.ensures.reads.words c.in_ok-same.ensures.reads.place
-          (left-kept c.marks_are_bits.ensures c.args.state c.args.r.now.words c.args.table.now.kinds c.args.count c.loop-k.k n c.args.words.now c.loop-k.r.left c.get_run.new.self.left within c.requires.in_table (omega (arith, c.requires.few)) read);
+          (left-kept c.marks_are_bits.ensures c.args.state c.args.r.now.words c.args.table.now.kinds c.args.count c.loop-k.k n c.args.words.now c.loop-k.own.left c.get_run.new.self.left within c.requires.in_table (omega (arith, c.requires.few)) read);
     }
 
 pub returns-in_err-words : goal.returns-in_err-words
@@ -43,14 +43,14 @@ returns-in_err-words c =
     let within : c.loop-k.k + limit ≤ c.args.count = omega (arith, c.min-limit.ensures, c.loop-k.invariant.most) in
     let words = run.words ∙ so.words in
     let here = c.lists_are_read.ensures.keep _ _ _ c.loop-k.k z _ _ _ _ _ so (omega (arith, within, short, c.requires.few)) run.words run.place
-    (left-changed c.marks_are_bits.ensures c.args.state c.args.r.now.words c.args.table.now.kinds c.args.count c.loop-k.k limit z c.args.words.now c.loop-k.r.left c.get_run.new.self.left within c.requires.in_table (omega (arith, c.requires.few)) short (sym run.value)) in
+    (left-changed c.marks_are_bits.ensures c.args.state c.args.r.now.words c.args.table.now.kinds c.args.count c.loop-k.k limit z c.args.words.now c.loop-k.own.left c.get_run.new.self.left within c.requires.in_table (omega (arith, c.requires.few)) short (sym run.value)) in
     rw (p.1, p.2) (record {
       value = sym (c.lists_are_read.ensures.stops _ _ _ _ _ _ _ e here
           (marked-fault c.args.state c.args.r.now.words c.args.table.now.kinds c.args.count (c.loop-k.k + z) c.kind_at.result c.args.words.now c.get_run.new.self.left e
           (omega (arith, within, short)) c.requires.in_table c.kind_at.ensures.kind (omega (arith, within, short, c.requires.few))
           (c.in_err-words.ensures.value ∙ ap (λ (ws : List (List Bool)). changed_at c.args.state ws c.kind_at.result c.get_run.new.self.left) words)));
-      words = c.in_err-words.ensures.words ∙ words;
-      place = c.in_err-words.ensures.place ∙ (run.place ∙ so.place);
+      words = refl;
+      place = refl;
     })
 
 pub loop-k-preserved : goal.loop-k-preserved
@@ -63,7 +63,7 @@ loop-k-preserved c =
     let within : c.loop-k.k + limit ≤ c.args.count = omega (arith, c.min-limit.ensures, c.loop-k.invariant.most) in
     let words = run.words ∙ so.words in
     let here = c.lists_are_read.ensures.keep _ _ _ c.loop-k.k z _ _ _ _ _ so (omega (arith, within, short, c.requires.few)) run.words run.place
-    (left-changed c.marks_are_bits.ensures c.args.state c.args.r.now.words c.args.table.now.kinds c.args.count c.loop-k.k limit z c.args.words.now c.loop-k.r.left c.get_run.new.self.left within c.requires.in_table (omega (arith, c.requires.few)) short (sym run.value)) in
+    (left-changed c.marks_are_bits.ensures c.args.state c.args.r.now.words c.args.table.now.kinds c.args.count c.loop-k.k limit z c.args.words.now c.loop-k.own.left c.get_run.new.self.left within c.requires.in_table (omega (arith, c.requires.few)) short (sym run.value)) in
     record {
       most = omega (arith, within, short);
       reads = c.lists_are_read.ensures.more _ _ _ _ _ _ _ _ _ _ here (omega (arith, within, short, c.requires.few)) c.in_ok-words.ensures.words c.in_ok-words.ensures.place

@@ -7,4 +7,4 @@ returns-then-width-eq-LONG c =
     unsigned-read c.args.r.now.words c.args.width 32 c.args.r.now c.get_fixed.new.self c.get_fixed.result (omega (arith, c.from-width.ensures)) c.get_fixed.ensures.reads c.get_fixed.ensures.fits
 
 pub returns : goal.returns
-returns c = unsigned-read c.args.r.now.words c.args.width c.from-width.result c.args.r.now c.get.new.self c.get.result c.from-width.ensures c.get.ensures.reads c.get.ensures.fits
+returns c = unsigned-read c.args.r.now.words c.args.width c.from-width.result c.args.r.now c.get_fixed-2.new.self c.get_fixed-2.result c.from-width.ensures c.get_fixed-2.ensures.reads c.get_fixed-2.ensures.fits

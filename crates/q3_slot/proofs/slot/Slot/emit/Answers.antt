@@ -35,7 +35,7 @@ returns c =
       piece = subst (λ (piece : Option Piece). HandsOut piece c.begin_snapshot.new.out.items)
           (ap (λ (e : SlotEmission). e.piece) emits ∙ ap (piece_of profile map frames slot) is_first) (c.begin_snapshot.ensures.piece gatherer);
       buffer = search rules;
-      stands = c.stand.ensures;
+      stands = c.slot_stands.ensures;
     }
 
 -- a gamestate that is owed

@@ -3,7 +3,7 @@ use Rattle.std.proofs.lemmas.Result.{err_from_is_err_and}
 use Rattle.q3_entity.specs.Entities.{run_of}
 use Rattle.q3_entity.specs.Lists.{piece}
 use Rattle.q3_entity.specs.Runs.{taken, from_number}
-use Rattle.q3_entity.proofs.list_writing.write_after.Goals as goal
+use Rattle.q3_entity.proofs.list_writing.write_past_gone.Goals as goal
 
 pub returns-in_err-write_present-clause-writes : goal.returns-in_err-write_present-clause-writes
 returns-in_err-write_present-clause-writes c =
