@@ -27,16 +27,16 @@ pub fn server_line(server: &mut Server, event: &Event) -> Option<HandedIn>
             outcome: server.new_map(*id, *feed),
         }),
         Event::Baseline { state } => Some(HandedIn::Baseline {
-            number: state.number,
-            outcome: set_baseline(server, state),
+            number: state.get().number,
+            outcome: set_baseline(server, state.get()),
         }),
         Event::Config { index, text } => Some(HandedIn::Config {
             index: *index,
             outcome: server.set_config(*index, text.bytes()),
         }),
         Event::Entity { state } => Some(HandedIn::Entity {
-            number: state.number,
-            outcome: set_entity(server, state),
+            number: state.get().number,
+            outcome: set_entity(server, state.get()),
         }),
         Event::Remove { number } => Some(HandedIn::Remove {
             number: *number,
@@ -44,7 +44,7 @@ pub fn server_line(server: &mut Server, event: &Event) -> Option<HandedIn>
         }),
         Event::Player { c, player } => Some(HandedIn::Player {
             c: *c,
-            outcome: server.set_player(*c, player),
+            outcome: server.set_player(*c, player.get()),
         }),
         Event::Area { c, area } => Some(HandedIn::Area {
             c: *c,
@@ -56,7 +56,7 @@ pub fn server_line(server: &mut Server, event: &Event) -> Option<HandedIn>
         }
         Event::Say { c, text } => Some(HandedIn::Say {
             c: *c,
-            outcome: server.say(*c, text.text()),
+            outcome: server.say(*c, text.get()),
         }),
         _ => None,
     }

@@ -12,7 +12,7 @@ use q3_entity::EntityState;
 use q3_player::PlayerState;
 use q3_script::Event;
 use q3_text::Text;
-use q3_words::{BoxedText, Bytes};
+use q3_words::{Boxed, Bytes};
 use rand_core::utils::NextWord;
 use rand_pcg::Lcg64Xsh32;
 use std::alloc::Global;
@@ -82,15 +82,15 @@ fn time_at(i: u32) -> u32
 }
 
 /// An entity with one word.
-fn entity_line(generator: &mut Lcg64Xsh32) -> Event
-    ensures { (result, generator.new) ≡ entity_line generator.old }
+fn entity_line(alloc: Global, generator: &mut Lcg64Xsh32) -> Result<Event, NoMemory>
+    ensures { IfOk result (λ event. (event, generator.new) ≡ entity_line generator.old) }
 {
     let number = 1 + draw(generator, 200);
     let place = draw(generator, 4);
     let word = draw(generator, 1_000);
-    Event::Entity {
-        state: entity_with(number as u16, place as usize, word),
-    }
+    Ok(Event::Entity {
+        state: Boxed::new(alloc, entity_with(number as u16, place as usize, word))?,
+    })
 }
 
 /// An entity that is gone.
@@ -110,18 +110,19 @@ fn draw_client(generator: &mut Lcg64Xsh32) -> u8
 }
 
 /// A player with one word and one stat.
-fn player_line(generator: &mut Lcg64Xsh32) -> Event
-    ensures { (result, generator.new) ≡ player_line generator.old }
+fn player_line(alloc: Global, generator: &mut Lcg64Xsh32) -> Result<Event, NoMemory>
+    ensures { IfOk result (λ event. (event, generator.new) ≡ player_line generator.old) }
 {
     let c = draw_client(generator);
     let place = draw(generator, 4);
     let word = draw(generator, 1_000);
     let stat = draw(generator, 16);
     let value = draw(generator, 200);
-    Event::Player {
+    let player = player_with(place as usize, word, stat as usize, value as u8);
+    Ok(Event::Player {
         c,
-        player: player_with(place as usize, word, stat as usize, value as u8),
-    }
+        player: Boxed::new(alloc, player)?,
+    })
 }
 
 /// A command to a client.
@@ -130,7 +131,7 @@ fn say_line(alloc: Global, i: u32, generator: &mut Lcg64Xsh32) -> Result<Event, 
 {
     Ok(Event::Say {
         c: draw_client(generator),
-        text: BoxedText::new(alloc, text_with(b"chat ", i))?,
+        text: Boxed::new(alloc, text_with(b"chat ", i))?,
     })
 }
 
@@ -140,7 +141,7 @@ fn type_line(alloc: Global, i: u32, generator: &mut Lcg64Xsh32) -> Result<Event,
 {
     Ok(Event::TypeText {
         c: draw_client(generator),
-        text: BoxedText::new(alloc, text_with(b"cmd ", i))?,
+        text: Boxed::new(alloc, text_with(b"cmd ", i))?,
     })
 }
 
@@ -225,9 +226,9 @@ fn line_of(
     ensures { IfOk result (λ event. (event, generator.new) ≡ line_of kind i made generator.old) }
 {
     match kind {
-        0..=1 => Ok(entity_line(generator)),
+        0..=1 => entity_line(alloc, generator),
         2 => Ok(remove_line(generator)),
-        3 => Ok(player_line(generator)),
+        3 => player_line(alloc, generator),
         4 => Ok(Event::Time { time: time_at(i) }),
         5 => say_line(alloc, i, generator),
         6 => type_line(alloc, i, generator),

@@ -13,6 +13,7 @@ use q3_bits::NoMemory;
 use q3_clmsg::Move;
 use q3_io::Address;
 use q3_script::Event;
+use q3_words::Boxed;
 use std::alloc::Global;
 
 /// How many lines open a script.
@@ -35,7 +36,7 @@ pub fn make_script(alloc: Global, number: u32, seed: u64) -> Result<Vec<Event>, 
 {
     crate::laws::generated_are_events();
     let mut events = Vec::with_capacity(alloc, OPENING_LINES + number as usize + CLOSING_LINES)?;
-    push_opening(&mut events)?;
+    push_opening(alloc, &mut events)?;
     let mut drawn = Drawn::new(seed);
     push_drawn(alloc, number, &mut drawn, &mut events)?;
     push_closing(drawn.made(), &mut events)?;
@@ -49,7 +50,7 @@ pub fn opening_lines(alloc: Global) -> Result<Vec<Event>, NoMemory>
     ensures each { IfOk result (λ events. All IsReplayEvent events.items) }
 {
     let mut events = Vec::with_capacity(alloc, OPENING_LINES)?;
-    push_opening(&mut events)?;
+    push_opening(alloc, &mut events)?;
     Ok(events)
 }
 
@@ -67,13 +68,13 @@ pub fn closing_lines(alloc: Global, drawn: &Drawn) -> Result<Vec<Event>, NoMemor
 
 /// Puts the opening lines after others.
 #[tactic(auto, unfolding(crate::specs::Generated::opening))]
-fn push_opening(events: &mut Vec<Event>) -> Result<(), NoMemory>
+fn push_opening(alloc: Global, events: &mut Vec<Event>) -> Result<(), NoMemory>
     ensures { IfOk result (λ _. events.new.items ≡ events.old.items ++ opening) }
 {
     push_clients(events)?;
     events.push(Event::Map { id: 1, feed: 4_242 })?;
-    push_baselines(events)?;
-    push_entities(events)?;
+    push_baselines(alloc, events)?;
+    push_entities(alloc, events)?;
     events.push(Event::Time { time: 1_000 })?;
     push_first_turns(events)?;
     Ok(())
@@ -107,26 +108,26 @@ fn joins(c: u8) -> Event
 }
 
 /// Forty baselines.
-fn push_baselines(events: &mut Vec<Event>) -> Result<(), NoMemory>
+fn push_baselines(alloc: Global, events: &mut Vec<Event>) -> Result<(), NoMemory>
     ensures { IfOk result (λ _. events.new.items ≡ events.old.items ++ map (λ n. Event.Baseline (state_with n 1 n))
         (range_with_len 1 40)) }
 {
     for k in 0..40 {
         events.push(Event::Baseline {
-            state: entity_with(1 + k, 1, u32::from(1 + k)),
+            state: Boxed::new(alloc, entity_with(1 + k, 1, u32::from(1 + k)))?,
         })?;
     }
     Ok(())
 }
 
 /// Forty entities.
-fn push_entities(events: &mut Vec<Event>) -> Result<(), NoMemory>
+fn push_entities(alloc: Global, events: &mut Vec<Event>) -> Result<(), NoMemory>
     ensures { IfOk result (λ _. events.new.items ≡ events.old.items ++ map (λ n. Event.Entity (state_with n 1 n))
         (range_with_len 1 40)) }
 {
     for k in 0..40 {
         events.push(Event::Entity {
-            state: entity_with(1 + k, 1, u32::from(1 + k)),
+            state: Boxed::new(alloc, entity_with(1 + k, 1, u32::from(1 + k)))?,
         })?;
     }
     Ok(())

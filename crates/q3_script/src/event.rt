@@ -5,7 +5,8 @@ use q3_clmsg::Move;
 use q3_entity::EntityState;
 use q3_io::Address;
 use q3_player::{MOST_AREA, PlayerState};
-use q3_words::{BoxedText, Bytes, Name};
+use q3_text::Text;
+use q3_words::{Boxed, Bytes, Name};
 
 /// What one line of a script says: one call of one end, or something that the game hands in.
 /// `c` is the number of a client, 0 to 15.
@@ -32,7 +33,7 @@ pub enum Event {
     },
     /// The whole state of an entity, under its number.
     Entity {
-        state: EntityState,
+        state: Boxed<EntityState>,
     },
     /// The entity of this number is gone from now on.
     Remove {
@@ -40,12 +41,12 @@ pub enum Event {
     },
     /// The baseline of an entity, under its number.
     Baseline {
-        state: EntityState,
+        state: Boxed<EntityState>,
     },
     /// The whole state of a client's player.
     Player {
         c: u8,
-        player: PlayerState,
+        player: Boxed<PlayerState>,
     },
     /// The area bytes of a client's snapshots, a bit for each area of the map: 1 where the client can't see it.
     Area {
@@ -64,12 +65,12 @@ pub enum Event {
     /// The server issues a command to the client.
     Say {
         c: u8,
-        text: BoxedText,
+        text: Boxed<Text>,
     },
     /// The client issues a command to the server.
     TypeText {
         c: u8,
-        text: BoxedText,
+        text: Boxed<Text>,
     },
     /// The client issues a move.
     Move {
@@ -91,7 +92,7 @@ pub enum Event {
     /// The client's messages are recorded into a file of this name from its next whole snapshot on.
     RecordTo {
         c: u8,
-        name: Name,
+        name: Boxed<Name>,
     },
     /// The client's recording ends.
     Stop {

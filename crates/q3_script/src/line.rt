@@ -12,7 +12,7 @@ use q3_bits::NoMemory;
 use q3_text::Text;
 use q3_words::words::{first_word, is, next_word, only_word, text_left};
 use q3_words::{
-    BoxedText, Bytes, LAST_ENTITY, LineCause, Name, area_bytes, client_word, config_bytes,
+    Boxed, Bytes, LAST_ENTITY, LineCause, Name, area_bytes, client_word, config_bytes,
     entity_state, entity_word, handed_bytes, number_word, player_state, read_address, text_word,
 };
 use std::alloc::Global;
@@ -93,15 +93,24 @@ fn map(left: &[u8]) -> Result<Event, LineCause>
     })
 }
 
+/// An `entity` line. `Err` is want of memory.
 #[tactic(auto, using(crate::proofs::Steps::entity_steps))]
-fn entity(left: &[u8]) -> Result<Event, LineCause>
-    ensures { result ≡ entity_line (words_left left.now) }
+fn entity(alloc: Global, left: &[u8]) -> Result<Result<Event, LineCause>, NoMemory>
+    ensures { IfOk result (λ answer. answer ≡ entity_line (words_left left.now)) }
 {
-    let (number, left) = next_word(left).ok_or(LineCause::Count)?;
-    let number = entity_word(number)?;
-    Ok(Event::Entity {
-        state: entity_state(number, left)?,
-    })
+    let Some((number, left)) = next_word(left) else {
+        return Ok(Err(LineCause::Count));
+    };
+    let number = match entity_word(number) {
+        Ok(number) => number,
+        Err(cause) => return Ok(Err(cause)),
+    };
+    match entity_state(number, left) {
+        Ok(state) => Ok(Ok(Event::Entity {
+            state: Boxed::new(alloc, state)?,
+        })),
+        Err(cause) => Ok(Err(cause)),
+    }
 }
 
 #[tactic(auto, unfolding(crate::specs::Lines::remove_line))]
@@ -113,26 +122,45 @@ fn remove(left: &[u8]) -> Result<Event, LineCause>
     })
 }
 
+/// A `baseline` line. `Err` is want of memory.
 #[tactic(auto, using(crate::proofs::Steps::baseline_steps))]
-fn baseline(left: &[u8]) -> Result<Event, LineCause>
-    ensures { result ≡ baseline_line (words_left left.now) }
+fn baseline(alloc: Global, left: &[u8]) -> Result<Result<Event, LineCause>, NoMemory>
+    ensures { IfOk result (λ answer. answer ≡ baseline_line (words_left left.now)) }
 {
-    let (number, left) = next_word(left).ok_or(LineCause::Count)?;
-    let number = number_word(number, 1, LAST_ENTITY)? as u16;
-    Ok(Event::Baseline {
-        state: entity_state(number, left)?,
-    })
+    let Some((number, left)) = next_word(left) else {
+        return Ok(Err(LineCause::Count));
+    };
+    let number = match number_word(number, 1, LAST_ENTITY) {
+        Ok(number) => number as u16,
+        Err(cause) => return Ok(Err(cause)),
+    };
+    match entity_state(number, left) {
+        Ok(state) => Ok(Ok(Event::Baseline {
+            state: Boxed::new(alloc, state)?,
+        })),
+        Err(cause) => Ok(Err(cause)),
+    }
 }
 
+/// A `player` line. `Err` is want of memory.
 #[tactic(auto, using(crate::proofs::Steps::player_steps))]
-fn player(left: &[u8]) -> Result<Event, LineCause>
-    ensures { result ≡ player_line (words_left left.now) }
+fn player(alloc: Global, left: &[u8]) -> Result<Result<Event, LineCause>, NoMemory>
+    ensures { IfOk result (λ answer. answer ≡ player_line (words_left left.now)) }
 {
-    let (c, left) = next_word(left).ok_or(LineCause::Count)?;
-    Ok(Event::Player {
-        c: client_word(c)?,
-        player: player_state(left)?,
-    })
+    let Some((c, left)) = next_word(left) else {
+        return Ok(Err(LineCause::Count));
+    };
+    let c = match client_word(c) {
+        Ok(c) => c,
+        Err(cause) => return Ok(Err(cause)),
+    };
+    match player_state(left) {
+        Ok(player) => Ok(Ok(Event::Player {
+            c,
+            player: Boxed::new(alloc, player)?,
+        })),
+        Err(cause) => Ok(Err(cause)),
+    }
 }
 
 #[tactic(auto, using(crate::proofs::Steps::area_steps))]
@@ -200,11 +228,11 @@ fn command_text(left: &[u8]) -> Result<(u8, Text), LineCause>
 }
 
 /// A client, and the command to it or from it. `Err` is want of memory.
-fn command(alloc: Global, left: &[u8]) -> Result<Result<(u8, BoxedText), LineCause>, NoMemory>
+fn command(alloc: Global, left: &[u8]) -> Result<Result<(u8, Boxed<Text>), LineCause>, NoMemory>
     ensures { IfOk result (λ answer. answer ≡ command_at (words_left left.now)) }
 {
     match command_text(left) {
-        Ok((c, text)) => Ok(Ok((c, BoxedText::new(alloc, text)?))),
+        Ok((c, text)) => Ok(Ok((c, Boxed::new(alloc, text)?))),
         Err(cause) => Ok(Err(cause)),
     }
 }
@@ -258,16 +286,29 @@ fn deliver(left: &[u8]) -> Result<Event, LineCause>
     })
 }
 
+/// A `record` line. `Err` is want of memory.
 #[tactic(auto, using(crate::proofs::Steps::record_steps))]
-fn record_to(left: &[u8]) -> Result<Event, LineCause>
-    ensures { result ≡ record_line (words_left left.now) }
+#[inline(never)]
+fn record_to(alloc: Global, left: &[u8]) -> Result<Result<Event, LineCause>, NoMemory>
+    ensures { IfOk result (λ answer. answer ≡ record_line (words_left left.now)) }
 {
-    let (c, left) = next_word(left).ok_or(LineCause::Count)?;
-    let word = only_word(left).ok_or(LineCause::Count)?;
-    Ok(Event::RecordTo {
-        c: client_word(c)?,
-        name: Name::of(word).ok_or(LineCause::Name)?,
-    })
+    let Some((c, left)) = next_word(left) else {
+        return Ok(Err(LineCause::Count));
+    };
+    let Some(word) = only_word(left) else {
+        return Ok(Err(LineCause::Count));
+    };
+    let c = match client_word(c) {
+        Ok(c) => c,
+        Err(cause) => return Ok(Err(cause)),
+    };
+    match Name::of(word) {
+        Some(name) => Ok(Ok(Event::RecordTo {
+            c,
+            name: Boxed::new(alloc, name)?,
+        })),
+        None => Ok(Err(LineCause::Name)),
+    }
 }
 
 #[tactic(auto, unfolding(crate::specs::Lines::stop_line))]
@@ -360,26 +401,26 @@ fn end(left: &[u8]) -> Result<Event, LineCause>
     })
 }
 
-/// The event of a replay's line by which an end does something or is looked at.
-fn turn_line(word: &[u8], left: &[u8]) -> Result<Event, LineCause>
-    ensures { result ≡ line_in turn_lines word.now (words_left left.now) }
+/// The event of a replay's line by which an end does something or is looked at. `Err` is want of memory.
+fn turn_line(alloc: Global, word: &[u8], left: &[u8]) -> Result<Result<Event, LineCause>, NoMemory>
+    ensures { IfOk result (λ answer. answer ≡ line_in turn_lines word.now (words_left left.now)) }
 {
     if is(word, b"serve") {
-        serve(left)
+        Ok(serve(left))
     } else if is(word, b"send") {
-        send(left)
+        Ok(send(left))
     } else if is(word, b"deliver") {
-        deliver(left)
+        Ok(deliver(left))
     } else if is(word, b"record") {
-        record_to(left)
+        record_to(alloc, left)
     } else if is(word, b"stop") {
-        stop(left)
+        Ok(stop(left))
     } else if is(word, b"show") {
-        show(left)
+        Ok(show(left))
     } else if is(word, b"bytes") {
-        bytes(left)
+        Ok(bytes(left))
     } else {
-        Err(LineCause::Word)
+        Ok(Err(LineCause::Word))
     }
 }
 
@@ -403,13 +444,13 @@ fn replay_line(
     } else if is(word, b"map") {
         Ok(map(left))
     } else if is(word, b"entity") {
-        Ok(entity(left))
+        entity(alloc, left)
     } else if is(word, b"remove") {
         Ok(remove(left))
     } else if is(word, b"baseline") {
-        Ok(baseline(left))
+        baseline(alloc, left)
     } else if is(word, b"player") {
-        Ok(player(left))
+        player(alloc, left)
     } else if is(word, b"area") {
         Ok(area(left))
     } else if is(word, b"time") {
@@ -423,7 +464,7 @@ fn replay_line(
     } else if is(word, b"move") {
         Ok(move_line(left))
     } else {
-        Ok(turn_line(word, left))
+        turn_line(alloc, word, left)
     }
 }
 
@@ -438,13 +479,13 @@ fn serve_line(alloc: Global, word: &[u8], left: &[u8]) -> Result<Result<Event, L
     } else if is(word, b"map") {
         Ok(map(left))
     } else if is(word, b"entity") {
-        Ok(entity(left))
+        entity(alloc, left)
     } else if is(word, b"remove") {
         Ok(remove(left))
     } else if is(word, b"baseline") {
-        Ok(baseline(left))
+        baseline(alloc, left)
     } else if is(word, b"player") {
-        Ok(player(left))
+        player(alloc, left)
     } else if is(word, b"area") {
         Ok(area(left))
     } else if is(word, b"time") {
@@ -479,7 +520,7 @@ fn join_line(alloc: Global, word: &[u8], left: &[u8]) -> Result<Result<Event, Li
     } else if is(word, b"send") {
         Ok(send(left))
     } else if is(word, b"record") {
-        Ok(record_to(left))
+        record_to(alloc, left)
     } else if is(word, b"stop") {
         Ok(stop(left))
     } else if is(word, b"show") {

@@ -3,7 +3,7 @@
 
 pub mod address;
 mod area;
-pub mod boxed_text;
+pub mod boxed;
 pub mod bytes;
 pub mod cause;
 mod fields;
@@ -14,7 +14,7 @@ pub mod words;
 
 pub use address::read_address;
 pub use area::{area_bytes, handed_bytes};
-pub use boxed_text::BoxedText;
+pub use boxed::Boxed;
 pub use bytes::Bytes;
 pub use cause::LineCause;
 pub use fields::{entity_state, player_state};

@@ -125,7 +125,7 @@ impl Ends {
                 tell(&Answer::HandedIn(handed), counts, out)
             }
             Event::TypeText { c, text } => {
-                let handed = self.type_text(*c, text.text());
+                let handed = self.type_text(*c, text.get());
                 tell(&Answer::HandedIn(handed), counts, out)
             }
             Event::Move { c, one } => {
@@ -133,7 +133,7 @@ impl Ends {
                 tell(&Answer::HandedIn(handed), counts, out)
             }
             Event::RecordTo { c, name } => {
-                let Ok(fresh) = Recording::new(alloc, name) else {
+                let Ok(fresh) = Recording::new(alloc, name.get()) else {
                     return Err(StepError::NoMemory);
                 };
                 self.record(*c, fresh, numbers, counts, files, out)

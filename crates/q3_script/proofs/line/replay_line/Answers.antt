@@ -1,7 +1,9 @@
-use Rattle.std.proofs.Common.{◌≡◌, ◌∷◌, ℕ, List, sym, subst, ◌∙◌}
+use Rattle.std.proofs.Common.{◌≡◌, ◌∷◌, ℕ, List, Result, sym, subst, ◌∙◌}
 use Rattle.std.specs.Prelude.{codes, IfOk}
 use Rattle.std.proofs.lemmas.Slice.Eq.{bytes_eq-Decides}
 use Rattle.q3_words.specs.Words.{words_left}
+use Rattle.q3_words.specs.declared.cause.LineCause.{LineCause}
+use Rattle.q3_script.specs.declared.event.Event.{Event}
 use Rattle.q3_script.specs.declared.cause.ScriptKind.TheVariants.{Replay}
 use Rattle.q3_script.specs.Lines.{line_at}
 use Rattle.q3_script.proofs.TurnLines.{others_turn}
@@ -31,4 +33,4 @@ returns-else-is-15 c =
     (sym c.is-else-is-12.ensures ∙ c.if-is-13.false)
     (sym c.is-else-is-13.ensures ∙ c.if-is-14.false)
     (sym c.is-else-is-14.ensures ∙ c.if-is-15.false) in
-    c.turn_line.ensures ∙ same
+    subst (λ (line : Result Event LineCause). IfOk c.turn_line.result (λ answer. answer ≡ line)) same c.turn_line.ensures

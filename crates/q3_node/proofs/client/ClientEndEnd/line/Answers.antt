@@ -1,4 +1,4 @@
-use Rattle.std.proofs.Common.{rules, refl}
+use Rattle.std.proofs.Common.{rules, refl, sym}
 use Rattle.q3_node.proofs.Parts.{memory_stays, nothing_done}
 use Rattle.q3_node.proofs.Joining.{other_line}
 use Rattle.q3_node.proofs.client.ClientEndEnd.line.Goals as goal
@@ -10,7 +10,7 @@ pub returns-in-Send-clause-file_cause : goal.returns-in-Send-clause-file_cause
 returns-in-Send-clause-file_cause g c = c.send.ensures.file_cause (g.F.Files.write_faults c.args.files.now)
 
 pub returns-in-RecordTo-clause-does : goal.returns-in-RecordTo-clause-does
-returns-in-RecordTo-clause-does g c = rw c.in-RecordTo.is (c.record.ensures.does (g.W.Wire.told c.args.wire.now))
+returns-in-RecordTo-clause-does g c = rw (c.in-RecordTo.is, sym c.get.ensures) (c.record.ensures.does (g.W.Wire.told c.args.wire.now))
 
 pub returns-in-RecordTo-clause-wire_cause : goal.returns-in-RecordTo-clause-wire_cause
 returns-in-RecordTo-clause-wire_cause g c = c.record.ensures.wire_cause (g.W.Wire.faults c.args.wire.now)
