@@ -158,9 +158,9 @@ field-onto words width bits raw is = rw is (under (bytes_at words (width / 8) ra
 -- so far a field's raw bits and words were read from the bits of a number: those that are left, read after the value, are the field
 pub record HasSpelled (words : List (List Bool)) (raw bytes bits k value left taken : ℕ) : Type 0 where
   pub fits : value < 2 ^ (raw + 8 * k)
-  pub few : taken ≤ raw + 12 * k
-  pub after : left ≡ bits / 2 ^ taken
-  pub reads : (count : ℕ) → bits < 2 ^ count → taken ≤ count
+  pub few : taken ≤ raw + 64 * k
+  pub after : taken < 64 → left ≡ bits / 2 ^ taken
+  pub reads : (count : ℕ) → count < 64 → bits < 2 ^ count → taken ≤ count
       → onto value (2 ^ (raw + 8 * k)) (bytes_at words (bytes - k) (low_bits (count - taken) left)) ≡ field_at words (raw + 8 * bytes) (low_bits count bits)
 
 pub spelled-none : (words : List (List Bool)) (raw bytes bits : ℕ) → raw < 8 → HasSpelled words raw bytes bits 0 (bits % 2 ^ raw) (bits / 2 ^ raw) raw
@@ -172,8 +172,8 @@ spelled-none words raw bytes bits small =
     record {
       fits = rw scale (mod-lt bits {m = 2 ^ raw} (omega (arith, pow-le-pow_right {n = 2} (omega arith) {i = 0} {j = raw} (omega arith))));
       few = omega arith;
-      after = refl;
-      reads = λ count fits enough.
+      after = λ some. refl;
+      reads = λ count most fits enough.
           let front : raw_at raw (low_bits count bits) ≡ Ok (bits % 2 ^ raw, low_bits (count - raw) (bits / 2 ^ raw)) =
           rw (raw_at_enough raw (low_bits count bits) (omega (arith, length-low_bits count bits)), drop-low_bits raw count bits enough, number-low_bits raw count bits enough) refl in
           sym (field-onto words (raw + 8 * bytes) (low_bits count bits) (bits % 2 ^ raw, low_bits (count - raw) (bits / 2 ^ raw)) (rw low front) ∙ rw (low, high, scale, all) refl);
@@ -197,26 +197,28 @@ shifts value byte place few fits small =
       most = pow-le-pow_right {n = 2} (omega arith) {i = place + 8} {j = 32} (omega arith);
     }
 
--- a word more was read
-pub spelled-more : (words : List (List Bool)) (raw bytes bits k value left taken byte long : ℕ) → HasSpelled words raw bytes bits k value left taken → k < bytes → raw + 8 * bytes ≤ 32 → byte < 256 → long ≤ 12 → 0 < long
-    → ((text : List Bool) → left % 2 ^ 24 ≡ number_of (take 24 text) → long ≤ length text → byte_from 0 words text ≡ Some (byte, drop long text))
-    → HasSpelled words raw bytes bits (k + 1) (value + 2 ^ (raw + 8 * k) * byte) (left / 2 ^ long) (taken + long)
-spelled-more words raw bytes bits k value left taken byte long so few most small short some found =
+-- a word more was read, or none was found, which makes it longer than any bits that are gathered
+pub spelled-more : (words : List (List Bool)) (raw bytes bits k value left taken byte long : ℕ) → HasSpelled words raw bytes bits k value left taken → k < bytes → raw + 8 * bytes ≤ 32 → byte < 256 → long ≤ 64
+    → ((text : List Bool) → left % 2 ^ 24 ≡ number_of (take 24 text) → long < 64 → long ≤ length text → byte_from 0 words text ≡ Some (byte, drop long text))
+    → HasSpelled words raw bytes bits (k + 1) (value + 2 ^ (raw + 8 * k) * byte) (left / 2 ^ (long % 64)) (taken + long)
+spelled-more words raw bytes bits k value left taken byte long so few most small short found =
     let s = shifts value byte (raw + 8 * k) (omega arith) so.fits small in
     let place : raw + 8 * (k + 1) ≡ raw + 8 * k + 8 = omega arith in
     record {
       fits = rw place s.fits;
       few = omega (arith, so.few);
-      after = ap (λ (n : ℕ). n / 2 ^ long) so.after ∙ shr-shr bits taken long;
-      reads = λ count fits enough.
+      after = λ some. (let same : long % 64 ≡ long = omega arith in rw same (ap (λ (n : ℕ). n / 2 ^ long) (so.after (omega arith)) ∙ shr-shr bits taken long));
+      reads = λ count limit fits enough.
+          let same : long % 64 ≡ long = omega arith in
           let rest = count - taken in
-          let below : left < 2 ^ rest = rw so.after (shr_below bits rest taken (rw (whole count taken (omega arith)) fits)) in
+          let left-is : left ≡ bits / 2 ^ taken = so.after (omega arith) in
+          let below : left < 2 ^ rest = rw left-is (shr_below bits rest taken (rw (whole count taken (omega arith)) fits)) in
           let text = low_bits rest left in
           let byte-is : byte_at words text ≡ Ok (byte, drop long text) =
-          rw (byte_at-is, found text (window-gathered rest left below) (omega (arith, length-low_bits rest left))) refl in
+          rw (byte_at-is, found text (window-gathered rest left below) (omega arith) (omega (arith, length-low_bits rest left))) refl in
           let after : drop long text ≡ low_bits (count - (taken + long)) (left / 2 ^ long) =
           drop-low_bits long rest left (omega arith) ∙ ap (λ (n : ℕ). low_bits n (left / 2 ^ long)) (omega arith) in
-          rw (place, s.scale, ← after) (sym (bytes_more words (bytes - k) (bytes - (k + 1)) value (2 ^ (raw + 8 * k)) text (byte, drop long text) (omega arith) byte-is)) ∙ so.reads count fits (omega arith);
+          rw (same, place, s.scale, ← after) (sym (bytes_more words (bytes - k) (bytes - (k + 1)) value (2 ^ (raw + 8 * k)) text (byte, drop long text) (omega arith) byte-is)) ∙ so.reads count limit fits (omega arith);
     }
   where
     whole : (count taken : ℕ) → taken ≤ count → count - taken + taken ≡ count
@@ -224,7 +226,7 @@ spelled-more words raw bytes bits k value left taken byte long so few most small
 
 -- all were
 pub spelled-end : (words : List (List Bool)) (raw bytes bits k value left taken : ℕ) → HasSpelled words raw bytes bits k value left taken → bytes ≤ k
-    → (count : ℕ) → bits < 2 ^ count → taken ≤ count → field_at words (raw + 8 * bytes) (low_bits count bits) ≡ Ok (value, low_bits (count - taken) (bits / 2 ^ taken))
-spelled-end words raw bytes bits k value left taken so past count fits enough =
+    → (count : ℕ) → count < 64 → bits < 2 ^ count → taken ≤ count → field_at words (raw + 8 * bytes) (low_bits count bits) ≡ Ok (value, low_bits (count - taken) (bits / 2 ^ taken))
+spelled-end words raw bytes bits k value left taken so past count limit fits enough =
     let none : bytes - k ≡ 0 = omega arith in
-    sym (so.reads count fits enough) ∙ rw (none, bytes_end, so.after) refl
+    sym (so.reads count limit fits enough) ∙ rw (none, bytes_end, so.after (omega arith)) refl

@@ -1,12 +1,12 @@
-pub mod Numbers
-pub mod Texts
-pub mod ReadOver
-pub mod Windows
-pub mod CodeText
-pub mod Causes
-pub mod WordTexts
-pub mod MessageBytes
-pub mod Written
-pub mod EightBytes
-pub mod Gathered
-pub mod Runs
+mod Numbers
+mod Texts
+mod ReadOver
+mod Windows
+mod CodeText
+mod Causes
+mod WordTexts
+mod MessageBytes
+mod Written
+mod EightBytes
+mod Gathered
+mod Runs

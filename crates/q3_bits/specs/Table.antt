@@ -30,11 +30,14 @@ pub record Leads (words : List Word) (entry : Entry) (bits : ℕ) : Type 0 where
   pub length : (slice_index_or words entry.byte no_word).length ≡ entry.length
   pub begins : bits % 2 ^ entry.length ≡ (slice_index_or words entry.byte no_word).bits
 
--- an entry for each 12 bits: it says nothing, or which word begins them
+-- an entry of 12 bits says nothing, or which word begins them
+abbrev pub SaysOf : List Word → ℕ → Entry → Type 0
+SaysOf words bits entry = (entry.length ≡ 64) ⊎ ((entry.length ≤ 12) × Leads words entry bits)
+
+-- there is one for each 12 bits
 pub record IsIndex (words : List Word) (entries : List Entry) : Type 0 where
   pub count : length entries ≡ 4096
-  pub each : (k : ℕ) → k < 4096 → (slice_index_or entries k no_entry).length ≤ 12
-      × (((slice_index_or entries k no_entry).length ≡ 0) ⊎ Leads words (slice_index_or entries k no_entry) k)
+  pub each : (k : ℕ) → k < 4096 → SaysOf words k (slice_index_or entries k no_entry)
 
 -- a word for each byte, of which none begins another
 pub record IsTable (code : Inside) : Type 0 where

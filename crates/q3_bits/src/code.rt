@@ -5,7 +5,7 @@ ghost use Rattle.std.specs.Option.{is_some};
 ghost use Rattle.q3_bits.specs.declared.words.CodeError.TheVariants as errors;
 ghost use Rattle.q3_bits.specs.Bits.{number_of};
 ghost use Rattle.q3_bits.specs.CodeWords.{texts_of, bits_of_text, code_fault};
-ghost use Rattle.q3_bits.specs.Table.{bits_of_word, IsWord, IsIndex, Leads};
+ghost use Rattle.q3_bits.specs.Table.{bits_of_word, IsWord, IsIndex, SaysOf};
 ghost use Rattle.q3_bits.specs.Found.{found_in};
 ghost use Rattle.q3_bits.specs.Words.{IsCode, plain_words, word_of, bits_after, byte_from, begins_word};
 
@@ -23,7 +23,7 @@ pub(crate) struct Word {
     pub(crate) length: u8,
 }
 
-/// A byte whose word begins some bits, and the word's length; 0 where that isn't said.
+/// A byte whose word begins some bits, and the word's length; `NO_WORD` where that isn't said.
 #[derive(Clone, Copy)]
 pub(crate) struct Entry {
     pub(crate) byte: u8,
@@ -32,6 +32,9 @@ pub(crate) struct Entry {
 
 /// Words up to this length are found by the next bits, so many.
 const INDEXED: u32 = 12;
+
+/// The length of a word that isn't there: more bits than a reader gathers, so that no test but that of the length is needed.
+pub(crate) const NO_WORD: u8 = 64;
 
 /// How many entries an index has: one for each 12 bits.
 const ENTRIES: usize = 4_096;
@@ -143,12 +146,12 @@ impl Code {
     }
 
     /// The byte whose word, of at most 12 bits, begins the bits to be read, and the word's length, by the number that
-    /// the next 24 bits spell; 0 where that isn't said.
+    /// the next 24 bits spell; `NO_WORD` where that isn't said.
     pub(crate) fn entry(&self, window: u32) -> Entry
-        ensures found { (left : List Bool) → window ≡ number_of (take 24 left) → 0 < result.length
+        ensures found { (left : List Bool) → window ≡ number_of (take 24 left) → result.length < 64
             → result.length ≤ length left
             → byte_from 0 self.now left ≡ Some (result.byte, drop result.length left) }
-        ensures short { result.length ≤ 12 }
+        ensures short { (result.length ≡ 64) ⊎ (result.length ≤ 12) }
     {
         self.index[(window % (1 << INDEXED)) as usize]
     }
@@ -189,8 +192,7 @@ fn index_of(alloc: Global, words: &[Word]) -> Result<Vec<Entry>, NoMemory>
 fn entry_of(words: &[Word], bits: u32) -> Entry
     requires few { length words.now ≡ 256 }
     requires words { All IsWord words.now }
-    ensures short { result.length ≤ 12 }
-    ensures leads { (result.length ≡ 0) ⊎ Leads words.now result bits }
+    ensures { SaysOf words.now bits result }
 {
     for (byte, word) in words.iter().enumerate() {
         if u32::from(word.length) <= INDEXED && bits % (1 << word.length) == word.bits {
@@ -200,5 +202,8 @@ fn entry_of(words: &[Word], bits: u32) -> Entry
             };
         }
     }
-    Entry { byte: 0, length: 0 }
+    Entry {
+        byte: 0,
+        length: NO_WORD,
+    }
 }

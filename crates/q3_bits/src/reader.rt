@@ -7,7 +7,7 @@ ghost use Rattle.q3_bits.specs.Streams.{Reads};
 ghost use Rattle.q3_bits.specs.Unread.{bits_ahead, found_ahead, IsFull};
 
 use crate::ahead::Ahead;
-use crate::code::Code;
+use crate::code::{Code, NO_WORD};
 use crate::widths::BYTE;
 use std::marker::Model;
 
@@ -178,7 +178,7 @@ impl<'a> Reader<'a> {
     {
         let entry = self.code.entry((self.ahead.bits % (1 << 24)) as u32);
         let length = u64::from(entry.length);
-        if length == 0 || length > self.ahead.count {
+        if length > self.ahead.count {
             return None;
         }
         self.ahead = self.ahead.skip(length);
@@ -240,7 +240,7 @@ impl<'a> Reader<'a> {
         ensures fits { IfSome result (λ value. value < 2 ^ (raw + 8 * bytes)) }
         ensures near { self.new.place ≤ self.old.place + 63 }
     {
-        let spelled = field_in(self.code, self.ahead.bits, raw, bytes)?;
+        let spelled = field_in(self.code, self.ahead.bits, raw, bytes);
         if spelled.length > self.ahead.count {
             return None;
         }
@@ -313,35 +313,33 @@ impl<'a> Reader<'a> {
     }
 }
 
-/// A field's value, and how many bits its text has.
+/// A field's value, and how many bits its text has: 64 or more where one of its words is longer than 12 bits or there is none.
 #[derive(Clone, Copy)]
 struct Spelled {
     value: u32,
     length: u64,
 }
 
-/// The field that bits spell, by words of at most 12 bits; nothing where one of the words is longer or there is none.
+/// The field that bits spell, fewer than 64, where it is no longer than these.
 #[inline(always)]
-fn field_in(code: &Code, bits: u64, raw: u32, bytes: u32) -> Option<Spelled>
+fn field_in(code: &Code, bits: u64, raw: u32, bytes: u32) -> Spelled
     requires raw { raw < 8 }
     requires most { raw + 8 * bytes ≤ 32 }
-    ensures { IfSome result (λ spelled. (count : ℕ) → bits < 2 ^ count → spelled.length ≤ count
+    ensures { (count : ℕ) → count < 64 → bits < 2 ^ count → result.length ≤ count
         → field_at code.now (raw + 8 * bytes) (low_bits count bits) ≡ Ok
-        (spelled.value, low_bits (count - spelled.length) (bits / 2 ^ spelled.length))) }
+        (result.value, low_bits (count - result.length) (bits / 2 ^ result.length)) }
 {
     let mut value = (bits % (1 << raw)) as u32;
     let mut left = bits >> raw;
     let mut length = raw as u64;
     for k in 0..bytes {
         let entry = code.entry((left % (1 << 24)) as u32);
-        if entry.length == 0 {
-            return None;
-        }
         value += u32::from(entry.byte) << (raw + 8 * k);
-        left >>= entry.length;
+        // a word that isn't there has 64 bits, and what is left is of no account then
+        left >>= entry.length % NO_WORD;
         length += u64::from(entry.length);
     }
-    Some(Spelled { value, length })
+    Spelled { value, length }
 }
 
 /// So many raw bits as a number, and what follows them.
@@ -371,7 +369,7 @@ fn byte_from<'a>(code: &Code, ahead: Ahead<'a>) -> Result<(u8, Ahead<'a>), ReadE
     let window = ready.window();
     let entry = code.entry(window);
     let short = u64::from(entry.length);
-    if short > 0 && ready.has(short) {
+    if short <= 24 && ready.has(short) {
         return Ok((entry.byte, ready.skip(short)));
     }
     let left = ready.left();

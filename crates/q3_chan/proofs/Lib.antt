@@ -1,14 +1,14 @@
-pub mod Headers
-pub mod Receiving
-pub mod Tags
-pub mod Tagging
-pub mod Whole
-pub mod Ends
-pub mod OneSender
-pub mod Outcomes
-pub mod AnyBytes
-pub mod Cutting
-pub mod Handing
-pub mod Senders
-pub mod Keys
-pub mod Scrambled
+mod Headers
+mod Receiving
+mod Tags
+mod Tagging
+mod Whole
+mod Ends
+mod OneSender
+mod Outcomes
+mod AnyBytes
+mod Cutting
+mod Handing
+mod Senders
+mod Keys
+mod Scrambled

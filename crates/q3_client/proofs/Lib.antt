@@ -1,4 +1,4 @@
-pub mod Applies
-pub mod Begins
-pub mod Stays
-pub mod Received
+mod Applies
+mod Begins
+mod Stays
+mod Received

@@ -1,12 +1,12 @@
-pub mod Keys
-pub mod Fields
-pub mod Fronts
-pub mod MoveRows
-pub mod Sections
-pub mod Steps
-pub mod TimeSpelled
-pub mod FieldsSpelled
-pub mod MovesSpelled
-pub mod MessageSpelled
-pub mod MessageRead
+mod Keys
+mod Fields
+mod Fronts
+mod MoveRows
+mod Sections
+mod Steps
+mod TimeSpelled
+mod FieldsSpelled
+mod MovesSpelled
+mod MessageSpelled
+mod MessageRead
 mod PrintedMoves

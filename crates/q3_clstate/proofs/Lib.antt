@@ -1,10 +1,10 @@
-pub mod Lines
-pub mod Accepting
-pub mod Commands
-pub mod Below
-pub mod Hearing
+mod Lines
+mod Accepting
+mod Commands
+mod Below
+mod Hearing
 pub mod HeldStays
-pub mod Stays
-pub mod Saving
-pub mod Within
+mod Stays
+mod Saving
+mod Within
 mod Printing

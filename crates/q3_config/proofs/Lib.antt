@@ -1,10 +1,10 @@
-pub mod Places
+mod Places
 pub mod Sizes
 pub mod Faults
-pub mod Kept
-pub mod Texts
-pub mod ReadTexts
-pub mod Stays
-pub mod InPieces
+mod Kept
+mod Texts
+mod ReadTexts
+mod Stays
+mod InPieces
 pub mod Makes
-pub mod TextBytes
+mod TextBytes

@@ -1,14 +1,14 @@
-pub mod Accepted
-pub mod Whole
+mod Accepted
+mod Whole
 pub mod Pieces
-pub mod Finding
+mod Finding
 pub mod Going
-pub mod Asking
-pub mod Refusals
-pub mod PlayingOn
-pub mod EndingAll
+mod Asking
+mod Refusals
+mod PlayingOn
+mod EndingAll
 pub mod Taking
-pub mod Printed
-pub mod Fronts
-pub mod Stepping
-pub mod Adding
+mod Printed
+mod Fronts
+mod Stepping
+mod Adding

@@ -1,24 +1,24 @@
-pub mod DeltaTexts
-pub mod Gone
+mod DeltaTexts
+mod Gone
 pub mod Risen
-pub mod Near
-pub mod Marks
-pub mod ListTexts
-pub mod Shared
-pub mod Numbers
-pub mod Turns
-pub mod Steps
-pub mod Listed
-pub mod Skipping
-pub mod Results
-pub mod EntrySpelled
-pub mod EntriesSpelled
-pub mod WrittenSpelled
-pub mod ListWritten
-pub mod OneNumber
-pub mod ListSpelled
-pub mod ListRead
-pub mod ListSkipped
+mod Near
+mod Marks
+mod ListTexts
+mod Shared
+mod Numbers
+mod Turns
+mod Steps
+mod Listed
+mod Skipping
+mod Results
+mod EntrySpelled
+mod EntriesSpelled
+mod WrittenSpelled
+mod ListWritten
+mod OneNumber
+mod ListSpelled
+mod ListRead
+mod ListSkipped
 pub mod SetBaselines
-pub mod SkippedSpelled
-pub mod Placed
+mod SkippedSpelled
+mod Placed

@@ -1,15 +1,15 @@
-pub mod KindsRead
-pub mod Magnitudes
-pub mod SmallFloats
-pub mod FieldBits
-pub mod Normal
-pub mod Results
-pub mod Spelled
-pub mod LastChanged
-pub mod NormalWords
-pub mod Changed
-pub mod FieldTexts
-pub mod FieldsRead
-pub mod FieldSpelled
-pub mod WordsSpelled
-pub mod Alike
+mod KindsRead
+mod Magnitudes
+mod SmallFloats
+mod FieldBits
+mod Normal
+mod Results
+mod Spelled
+mod LastChanged
+mod NormalWords
+mod Changed
+mod FieldTexts
+mod FieldsRead
+mod FieldSpelled
+mod WordsSpelled
+mod Alike

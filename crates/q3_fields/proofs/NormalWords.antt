@@ -1,10 +1,10 @@
 -- The normal form of a state's words, also as a loop makes it.
 use Rattle.std.proofs.Common.{◌≡◌, ℕ, zero, suc, ◌+◌, ◌^◌, ◌≤◌, ◌<◌, List, [], ◌∷◌, ◌++◌, length, take, drop, get_or, set, replicate, Some, None, slice_get, refl, sym, ap, ◌∙◌, append_assoc, add-one, arith}
 use Rattle.std.proofs.lemmas.List.{append-nil, drop_more, drop_all, length-replicate, drop-set-lt, take_all, take_more_set}
-use Rattle.std.proofs.lemmas.List.Elements.{All-cons, All-head, All-tail, All-replicate}
+use Rattle.std.proofs.lemmas.List.Elements.{All-cons, All-drop, All-head, All-tail, All-replicate}
 use Rattle.std.specs.List.{All}
 use Rattle.q3_fields.specs.declared.kind.Kind.{Kind}
-use Rattle.q3_fields.specs.Kinds.{IsKind, norm}
+use Rattle.q3_fields.specs.Kinds.{Layout, IsKind, IsTable, norm}
 use Rattle.q3_fields.specs.States.{normal_words}
 use Rattle.q3_fields.specs.Laws.{NormIsNormal, ZerosAreNormal}
 use Rattle.q3_fields.proofs.Normal.{norm-zero}
@@ -20,6 +20,15 @@ normal_words-first [] word y words is =
 normal_words-first (kind ∷ table) word y words is =
     let here : norm kind word ≡ y = cc in
     rw here refl
+
+-- a word of 0, whatever field it has
+zero_alone : (kinds : List Kind) → All IsKind kinds → normal_words kinds (0 ∷ []) ≡ 0 ∷ []
+unfolding normal_words
+zero_alone [] all = refl
+zero_alone (kind ∷ kinds) all = rw (norm-zero kind (All-head IsKind kind kinds all)) refl
+
+pub normal_word_of_zero : (table : Layout) (k word : ℕ) → IsTable table → word ≡ 0 → normal_words (drop k table.kinds) (word ∷ []) ≡ 0 ∷ []
+normal_word_of_zero table k word is zeros = rw zeros (zero_alone (drop k table.kinds) (All-drop IsKind k table.kinds is.kinds.each))
 
 -- a word that has a field, and one that has none
 pub normal_word_of_field : (table : List Kind) (k : ℕ) (kind : Kind) (word : ℕ) → slice_get table k ≡ Some kind → normal_words (drop k table) (word ∷ []) ≡ norm kind word ∷ []

@@ -56,10 +56,15 @@ pub fn normalize(table: &Table, words: &mut [u32; 64])
 }
 
 /// A word in the normal form of the table's field at its place, and 0 where the table has none.
-#[tactic(auto, using(crate::proofs::NormalWords::normal_word_of_field, crate::proofs::NormalWords::normal_word_of_none))]
+#[tactic(auto, using(crate::proofs::NormalWords::normal_word_of_zero, crate::proofs::NormalWords::normal_word_of_field, crate::proofs::NormalWords::normal_word_of_none))]
 fn normal_word(table: &Table, k: usize, word: u32) -> u32
     ensures { normal_words (drop k table.now.kinds) (word ∷ []) ≡ result ∷ [] }
 {
+    // most words are 0, which is normal in any field
+    prove!(table.count() <= 64);
+    if word == 0 {
+        return 0;
+    }
     match table.kind(k) {
         Some(kind) => norm(kind, word),
         None => 0,
@@ -289,5 +294,5 @@ fn kind_at(table: &Table, k: usize) -> Kind
     ensures kind { slice_get table.now.kinds k ≡ Some result }
     ensures allowed { IsKind result }
 {
-    table.kind(k).unwrap()
+    table.at(k)
 }

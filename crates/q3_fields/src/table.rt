@@ -1,6 +1,6 @@
 //! Tables of fields. Keeps the rule "field tables", the engine's `entityStateFields` and `playerStateFields`.
 
-ghost use Rattle.std.specs.Prelude.{◌≡◌, ◌≤◌, length, slice_get, IfOk, IfSome};
+ghost use Rattle.std.specs.Prelude.{◌≡◌, ◌<◌, ◌≤◌, length, slice_get, Some, IfOk, IfSome};
 ghost use Rattle.q3_fields.specs.Kinds.{HasNumberBits, IsKind, IsTable, kind_of, table_of, numbered_table, end_mark, least_number_bits, most_number_bits, least_end, most_end};
 
 use crate::kind::Kind;
@@ -102,6 +102,17 @@ impl Table {
             return None;
         }
         Some(self.kinds[i])
+    }
+
+    /// The kind of a field that the table has.
+    pub(crate) fn at(&self, i: usize) -> Kind
+        requires { i < length self.now.kinds }
+        ensures kind { slice_get self.now.kinds i ≡ Some result }
+        ensures allowed { IsKind result }
+    {
+        // each has a place
+        prove!(self.count <= 64);
+        self.kinds[i]
     }
 
     /// How many fields the table has: 1 to 64.

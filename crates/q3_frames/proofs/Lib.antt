@@ -1,4 +1,4 @@
-pub mod Remains
-pub mod Standing
-pub mod Building
-pub mod Lasting
+mod Remains
+mod Standing
+mod Building
+mod Lasting

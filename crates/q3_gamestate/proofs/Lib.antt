@@ -1,9 +1,9 @@
-pub mod Below
-pub mod Fields
-pub mod Parts
-pub mod Settings
-pub mod Kept
-pub mod WrittenSpelled
-pub mod SettingsSpelled
-pub mod ReadSpelled
-pub mod SpelledRead
+mod Below
+mod Fields
+mod Parts
+mod Settings
+mod Kept
+mod WrittenSpelled
+mod SettingsSpelled
+mod ReadSpelled
+mod SpelledRead

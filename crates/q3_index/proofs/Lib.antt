@@ -1,20 +1,20 @@
-pub mod Asking
-pub mod Fields
-pub mod Heads
-pub mod Listing
-pub mod Opened
-pub mod Places
-pub mod Seeking
-pub mod Stepping
-pub mod Standing
-pub mod ShortStates
-pub mod Points
-pub mod HeadsBack
-pub mod Sought
-pub mod Costing
-pub mod Putting
-pub mod Counting
-pub mod Writing
-pub mod Building
-pub mod Causes
-pub mod Refusals
+mod Asking
+mod Fields
+mod Heads
+mod Listing
+mod Opened
+mod Places
+mod Seeking
+mod Stepping
+mod Standing
+mod ShortStates
+mod Points
+mod HeadsBack
+mod Sought
+mod Costing
+mod Putting
+mod Counting
+mod Writing
+mod Building
+mod Causes
+mod Refusals

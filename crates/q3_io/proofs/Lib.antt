@@ -1,3 +1,3 @@
-pub mod Sinks
-pub mod Words
+mod Sinks
+mod Words
 mod HexWords

@@ -1,6 +1,6 @@
-pub mod PrintedWords
-pub mod PrintedLines
-pub mod Rows
-pub mod Lengths
-pub mod MadeLines
-pub mod MadeScripts
+mod PrintedWords
+mod PrintedLines
+mod Rows
+mod Lengths
+mod MadeLines
+mod MadeScripts

@@ -1,7 +1,7 @@
 pub mod Options
-pub mod BitFronts
-pub mod MessageKeys
+mod BitFronts
+mod MessageKeys
 pub mod BuiltText
-pub mod BuiltRead
-pub mod SaidRead
+mod BuiltRead
+mod SaidRead
 pub mod Survives

@@ -1,13 +1,13 @@
 mod Arrays
-pub mod Changes
-pub mod Normal
-pub mod Same
-pub mod PlacesRead
-pub mod Results
-pub mod ArraysRead
+mod Changes
+mod Normal
+mod Same
+mod PlacesRead
+mod Results
+mod ArraysRead
 pub mod Kept
 pub mod Maps
-pub mod BitsSpelled
-pub mod ArraySpelled
-pub mod PlayerSpelled
-pub mod Alike
+mod BitsSpelled
+mod ArraySpelled
+mod PlayerSpelled
+mod Alike

@@ -1,3 +1,3 @@
-pub mod Documents
-pub mod Items
-pub mod Rules
+mod Documents
+mod Items
+mod Rules

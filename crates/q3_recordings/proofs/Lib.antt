@@ -1,15 +1,15 @@
-pub mod ComposedGames
-pub mod ComposedWhole
-pub mod DemoBytes
-pub mod Composed
-pub mod HeldSince
-pub mod ReadAlike
-pub mod PlaysAs
-pub mod Recorded
-pub mod WholeRecorded
-pub mod Sound
-pub mod AtPlace
-pub mod Noting
-pub mod Replayed
-pub mod OwnReplays
-pub mod Joined
+mod ComposedGames
+mod ComposedWhole
+mod DemoBytes
+mod Composed
+mod HeldSince
+mod ReadAlike
+mod PlaysAs
+mod Recorded
+mod WholeRecorded
+mod Sound
+mod AtPlace
+mod Noting
+mod Replayed
+mod OwnReplays
+mod Joined

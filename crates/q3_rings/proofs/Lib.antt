@@ -1,10 +1,10 @@
-pub mod Lists
-pub mod Aging
-pub mod Accepting
-pub mod Rising
-pub mod Near
-pub mod HeldAfter
-pub mod Added
-pub mod Kept
-pub mod PuttingBack
-pub mod Numbered
+mod Lists
+mod Aging
+mod Accepting
+mod Rising
+mod Near
+mod HeldAfter
+mod Added
+mod Kept
+mod PuttingBack
+mod Numbered

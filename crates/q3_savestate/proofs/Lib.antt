@@ -1,29 +1,29 @@
 pub mod Fields
-pub mod Words
-pub mod EntitiesBack
-pub mod EntitiesWere
-pub mod Gaps
-pub mod BaselinesBack
-pub mod TextsBack
-pub mod Rows
-pub mod PartsRead
-pub mod Heads
+mod Words
+mod EntitiesBack
+mod EntitiesWere
+mod Gaps
+mod BaselinesBack
+mod TextsBack
+mod Rows
+mod PartsRead
+mod Heads
 pub mod HeldInOrder
 pub mod HeldRules
-pub mod SnapshotsBack
-pub mod HeldSoFar
-pub mod SnapshotsWere
-pub mod Whole
-pub mod WrittenRows
-pub mod Numbers
-pub mod Numbered
-pub mod Ranges
-pub mod WordsRead
-pub mod SetBaselines
-pub mod BaselinesRead
-pub mod EntitiesRead
-pub mod SnapshotRead
-pub mod SnapshotsRead
-pub mod SetStrings
-pub mod StringsRead
-pub mod Starts
+mod SnapshotsBack
+mod HeldSoFar
+mod SnapshotsWere
+mod Whole
+mod WrittenRows
+mod Numbers
+mod Numbered
+mod Ranges
+mod WordsRead
+mod SetBaselines
+mod BaselinesRead
+mod EntitiesRead
+mod SnapshotRead
+mod SnapshotsRead
+mod SetStrings
+mod StringsRead
+mod Starts

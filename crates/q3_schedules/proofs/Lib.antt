@@ -1,36 +1,36 @@
-pub mod Stood
-pub mod EverySchedule
-pub mod GamesLaws
-pub mod StringsId
-pub mod Usual
-pub mod Legible
-pub mod RunIssued
-pub mod Unknown
-pub mod InOrder
-pub mod Prefixes
-pub mod Keys
-pub mod ServedShown
-pub mod PiecesEnd
-pub mod Follows
-pub mod FollowsHeard
-pub mod FollowsGiven
-pub mod FollowsEvents
-pub mod Following
-pub mod Pends
-pub mod Entering
-pub mod PlainTexts
-pub mod SpelledLines
-pub mod PlacedLines
-pub mod LineEnds
-pub mod LinesUnder
-pub mod TakenLines
-pub mod AnswerLines
-pub mod CountedLines
-pub mod NamedFiles
+mod Stood
+mod EverySchedule
+mod GamesLaws
+mod StringsId
+mod Usual
+mod Legible
+mod RunIssued
+mod Unknown
+mod InOrder
+mod Prefixes
+mod Keys
+mod ServedShown
+mod PiecesEnd
+mod Follows
+mod FollowsHeard
+mod FollowsGiven
+mod FollowsEvents
+mod Following
+mod Pends
+mod Entering
+mod PlainTexts
+mod SpelledLines
+mod PlacedLines
+mod LineEnds
+mod LinesUnder
+mod TakenLines
+mod AnswerLines
+mod CountedLines
+mod NamedFiles
 pub mod SlotsStay
-pub mod EventKinds
-pub mod NamedRecordings
-pub mod Recorded
-pub mod NodeRecorded
-pub mod MadeOnce
-pub mod EndedEarly
+mod EventKinds
+mod NamedRecordings
+mod Recorded
+mod NodeRecorded
+mod MadeOnce
+mod EndedEarly

@@ -1,11 +1,11 @@
-pub mod Gather
-pub mod Steps
-pub mod TurnLines
-pub mod SpelledLines
-pub mod SignedWords
-pub mod SpelledMoves
-pub mod SpelledCommands
-pub mod SpelledEvents
-pub mod Ordered
-pub mod SpelledScripts
+mod Gather
+mod Steps
+mod TurnLines
+mod SpelledLines
+mod SignedWords
+mod SpelledMoves
+mod SpelledCommands
+mod SpelledEvents
+mod Ordered
+mod SpelledScripts
 pub mod InRange

@@ -1,11 +1,11 @@
-pub mod Fronts
-pub mod Rows
-pub mod Spelled
-pub mod Numbered
-pub mod NumberRead
-pub mod Nops
-pub mod Turns
-pub mod OperationTurns
-pub mod CommandRows
-pub mod RowSpelled
-pub mod RowRead
+mod Fronts
+mod Rows
+mod Spelled
+mod Numbered
+mod NumberRead
+mod Nops
+mod Turns
+mod OperationTurns
+mod CommandRows
+mod RowSpelled
+mod RowRead

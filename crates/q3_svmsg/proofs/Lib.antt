@@ -1,11 +1,11 @@
-pub mod Below
-pub mod Fields
-pub mod Held
-pub mod AreaSpelled
-pub mod SectionSpelled
-pub mod Games
-pub mod MessageSpelled
-pub mod MessageRead
-pub mod WrittenSpelled
-pub mod Skipped
-pub mod Faults
+mod Below
+mod Fields
+mod Held
+mod AreaSpelled
+mod SectionSpelled
+mod Games
+mod MessageSpelled
+mod MessageRead
+mod WrittenSpelled
+mod Skipped
+mod Faults

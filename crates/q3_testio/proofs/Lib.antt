@@ -1,7 +1,7 @@
-pub mod ToldPlaces
-pub mod ToldHeld
-pub mod TextPlaces
-pub mod Numbered
-pub mod Sent
-pub mod ParcelPlaces
-pub mod Readings
+mod ToldPlaces
+mod ToldHeld
+mod TextPlaces
+mod Numbered
+mod Sent
+mod ParcelPlaces
+mod Readings

@@ -1,7 +1,7 @@
 pub mod Decimals
 pub mod Places
 pub mod Translation
-pub mod Weights
+mod Weights
 pub mod Pairs
 pub mod Cuts
 pub mod Numerals

@@ -1,7 +1,7 @@
-pub mod Round
-pub mod Held
-pub mod Stands
-pub mod Runs
-pub mod Messages
-pub mod Flowing
-pub mod Staying
+mod Round
+mod Held
+mod Stands
+mod Runs
+mod Messages
+mod Flowing
+mod Staying

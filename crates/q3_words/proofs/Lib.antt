@@ -6,8 +6,8 @@ pub mod Digits
 pub mod FieldWords
 pub mod HexWords
 pub mod NameWords
-pub mod Fronts
+mod Fronts
 pub mod Unquoted
-pub mod Coming
-pub mod Rising
-pub mod PlayerParts
+mod Coming
+mod Rising
+mod PlayerParts

@@ -1,14 +1,14 @@
-pub mod Reading
-pub mod Loading
-pub mod Acting
-pub mod Looking
-pub mod Stepping
-pub mod Totals
-pub mod Ending
-pub mod Outside
-pub mod Replaying
-pub mod Trying
-pub mod Noding
+mod Reading
+mod Loading
+mod Acting
+mod Looking
+mod Stepping
+mod Totals
+mod Ending
+mod Outside
+mod Replaying
+mod Trying
+mod Noding
 mod Demoing
 mod Refusing
 mod Early

@@ -1,4 +1,4 @@
-use Rattle.std.proofs.Common.{◌+◌, ◌*◌, ◌<◌, arith}
+use Rattle.std.proofs.Common.{◌+◌, ◌*◌, ◌<◌, ◌≤◌, inl, inr, arith}
 use Rattle.std.proofs.lemmas.Nat.{one_shl}
 use Rattle.q3_bits.proofs.Gathered.{spelled-none, spelled-more, spelled-end, shifts}
 use Rattle.q3_bits.proofs.reader.field_in.Goals as goal
@@ -16,13 +16,13 @@ overflow_add-value-in-loop-k c =
 pub loop-k-preserved : goal.loop-k-preserved
 loop-k-preserved c =
     let so = c.loop-k.invariant in
+    let most : c.entry-entry.result.length ≤ 64 = elim c.entry-entry.ensures.short [ inl none ↦ omega arith | inr short ↦ omega arith ] in
     let small : c.from.result < 256 = omega (arith, c.from.ensures) in
-    let some : 0 < c.entry-entry.result.length = omega (arith, c.if-entry-eq0.false) in
     let s = shifts c.loop-k.value c.from.result (c.args.raw + 8 * c.loop-k.k) (omega (arith, c.requires.most, c.loop-k-test.true)) so.fits small in
     rw (s.whole, c.from.ensures, c.from-length.ensures)
     (spelled-more c.args.code.now c.args.raw c.args.bytes c.args.bits c.loop-k.k c.loop-k.value c.loop-k.left c.loop-k.length c.entry-entry.result.byte c.entry-entry.result.length so c.loop-k-test.true c.requires.most
-    (omega (arith, c.from.ensures, small)) c.entry-entry.ensures.short some (λ text spells enough. c.entry-entry.ensures.found text spells some enough))
+    (omega (arith, c.from.ensures, small)) most c.entry-entry.ensures.found)
 
 pub returns : goal.returns
-returns c = λ count fits enough.
-    spelled-end c.args.code.now c.args.raw c.args.bytes c.args.bits c.loop-k.k c.loop-k.value c.loop-k.left c.loop-k.length c.loop-k.invariant c.loop-k-test.false count fits enough
+returns c = λ count limit fits enough.
+    spelled-end c.args.code.now c.args.raw c.args.bytes c.args.bits c.loop-k.k c.loop-k.value c.loop-k.left c.loop-k.length c.loop-k.invariant c.loop-k-test.false count limit fits enough
