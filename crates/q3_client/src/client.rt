@@ -5,7 +5,7 @@
 //! - Ours: the last two.
 
 ghost use Rattle.std.specs.Prelude.{◌≡◌, ◌≤◌, [], length, None, IfOk, IfSome, option_map};
-ghost use Rattle.q3_window.specs.Outgoing.{issued_of};
+ghost use Rattle.q3_window.specs.Outgoing.{issued_of, new_outgoing};
 ghost use Rattle.q3_entity.specs.Entities.{Rises, run_of};
 ghost use Rattle.q3_chan.specs.Datagrams.{client_form, longest_message, server_form};
 ghost use Rattle.q3_chan.specs.Gathering.{new_gathering};
@@ -13,7 +13,7 @@ ghost use Rattle.q3_chan.specs.Sending.{HandsOut, new_sending};
 ghost use Rattle.q3_rings.specs.Loans.{snapshot_of};
 ghost use Rattle.q3_rings.specs.Rings.{view_at};
 ghost use Rattle.q3_client.specs.Client.{new_client, type_at, take_at, is_accepted, moves_after};
-ghost use Rattle.q3_client.specs.Moves.{add_move_at};
+ghost use Rattle.q3_client.specs.Moves.{add_move_at, most_moves};
 ghost use Rattle.q3_client.specs.Sending.{emit_at, emit_new, wants_delta, IsSaid};
 
 use crate::moves::{Issued, carry, is_issuable};
@@ -179,12 +179,11 @@ impl Client {
         requires most { profile.now.parse_ring ≤ 65536 }
         ensures { IfOk result (λ client. client ≡ new_client profile.now challenge qport dup) }
     {
-        let state = ClState::new(alloc, profile)?;
         let (message, whole, buffer) = buffers(alloc)?;
         let check = check_for(profile.protocol, challenge);
         let (gatherer, sender) = netchan(alloc, check, qport)?;
-        let outgoing = Outgoing::new(alloc)?;
-        let moves = HeapCircularBuffer::with_capacity(alloc, MOST_MOVES)?;
+        let (outgoing, moves) = nothing_issued(alloc)?;
+        let state = ClState::new(alloc, profile)?;
         Ok(Client {
             state,
             message,
@@ -432,6 +431,17 @@ fn netchan(alloc: Global, check: Option<u32>, qport: u16) -> Result<(Gatherer, S
     let mut sender = Sender::new(alloc, Side::Client, qport)?;
     sender.set_check(check);
     Ok((gatherer, sender))
+}
+
+/// No command and no move was issued.
+#[tactic(auto, using(crate::proofs::Begins::no_moves))]
+fn nothing_issued(alloc: Global) -> Result<(Outgoing, HeapCircularBuffer<Issued>), NoMemory>
+    ensures commands { IfOk result (λ issued. issued.0 ≡ new_outgoing) }
+    ensures moves { IfOk result (λ issued. (issued.1.items ≡ []) × (issued.1.capacity ≡ most_moves)) }
+{
+    let outgoing = Outgoing::new(alloc)?;
+    let moves = HeapCircularBuffer::with_capacity(alloc, MOST_MOVES)?;
+    Ok((outgoing, moves))
 }
 
 /// Room for the last message that was applied, for one that came whole and for one that is written.

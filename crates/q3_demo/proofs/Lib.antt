@@ -1,13 +1,15 @@
+-- what proofs above may cite
+pub mod Pieces
+pub mod Going
+pub mod Taking
+-- and what none can name but those of this crate
 mod Accepted
 mod Whole
-pub mod Pieces
 mod Finding
-pub mod Going
 mod Asking
 mod Refusals
 mod PlayingOn
 mod EndingAll
-pub mod Taking
 mod Printed
 mod Fronts
 mod Stepping

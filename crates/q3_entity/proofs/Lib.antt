@@ -1,6 +1,9 @@
+-- what proofs above may cite
+pub mod Risen
+pub mod SetBaselines
+-- and what none can name but those of this crate
 mod DeltaTexts
 mod Gone
-pub mod Risen
 mod Near
 mod Marks
 mod ListTexts
@@ -19,6 +22,5 @@ mod OneNumber
 mod ListSpelled
 mod ListRead
 mod ListSkipped
-pub mod SetBaselines
 mod SkippedSpelled
 mod Placed

@@ -101,8 +101,8 @@ pub(crate) fn count_below(part: &[EntityState], number: u16) -> usize
     ensures after { IsFrom number (drop result part.now) }
     ensures most { result ≤ length part.now }
 {
-    // often numbers follow each other, and then the last of so many is below it, too
-    let near = count_near(part, number);
+    // where numbers follow each other so many are below it, and the last of these tells
+    let near = most_below(part, number);
     if near == 0 || part[near - 1].number < number {
         return near;
     }
@@ -114,8 +114,8 @@ pub(crate) fn count_below(part: &[EntityState], number: u16) -> usize
     part.len()
 }
 
-/// At most how many of the first entities are below a number: just so many where their numbers follow each other.
-fn count_near(part: &[EntityState], number: u16) -> usize
+/// No more of the first entities are below a number: just so many where their numbers follow each other.
+fn most_below(part: &[EntityState], number: u16) -> usize
     requires { RiseFrom (2 ^ 16) 0 part.now }
     ensures after { IsFrom number (drop result part.now) }
     ensures most { result ≤ length part.now }

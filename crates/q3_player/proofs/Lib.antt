@@ -1,3 +1,7 @@
+-- what proofs above may cite
+pub mod Kept
+pub mod Maps
+-- and what none can name but those of this crate
 mod Arrays
 mod Changes
 mod Normal
@@ -5,8 +9,6 @@ mod Same
 mod PlacesRead
 mod Results
 mod ArraysRead
-pub mod Kept
-pub mod Maps
 mod BitsSpelled
 mod ArraySpelled
 mod PlayerSpelled

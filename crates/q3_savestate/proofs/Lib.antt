@@ -1,4 +1,8 @@
+-- what proofs above may cite
 pub mod Fields
+pub mod HeldInOrder
+pub mod HeldRules
+-- and what none can name but those of this crate
 mod Words
 mod EntitiesBack
 mod EntitiesWere
@@ -8,8 +12,6 @@ mod TextsBack
 mod Rows
 mod PartsRead
 mod Heads
-pub mod HeldInOrder
-pub mod HeldRules
 mod SnapshotsBack
 mod HeldSoFar
 mod SnapshotsWere

@@ -1,3 +1,6 @@
+-- what proofs above may cite
+pub mod SlotsStay
+-- and what none can name but those of this crate
 mod Stood
 mod EverySchedule
 mod GamesLaws
@@ -27,7 +30,6 @@ mod TakenLines
 mod AnswerLines
 mod CountedLines
 mod NamedFiles
-pub mod SlotsStay
 mod EventKinds
 mod NamedRecordings
 mod Recorded

@@ -1,3 +1,6 @@
+-- what proofs above may cite
+pub mod InRange
+-- and what none can name but those of this crate
 mod Gather
 mod Steps
 mod TurnLines
@@ -8,4 +11,3 @@ mod SpelledCommands
 mod SpelledEvents
 mod Ordered
 mod SpelledScripts
-pub mod InRange

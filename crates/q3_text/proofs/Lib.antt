@@ -1,7 +1,9 @@
+-- what proofs above may cite
 pub mod Decimals
 pub mod Places
 pub mod Translation
-mod Weights
 pub mod Pairs
 pub mod Cuts
 pub mod Numerals
+-- and what none can name but those of this crate
+mod Weights

@@ -1,3 +1,4 @@
+-- what proofs above may cite
 pub mod Prefixes
 pub mod Spaces
 pub mod NumberWords
@@ -6,8 +7,9 @@ pub mod Digits
 pub mod FieldWords
 pub mod HexWords
 pub mod NameWords
-mod Fronts
 pub mod Unquoted
+-- and what none can name but those of this crate
+mod Fronts
 mod Coming
 mod Rising
 mod PlayerParts

@@ -16,8 +16,8 @@ loop-k-preserved c =
 pub returns-then-near-eq0-clause-below : goal.returns-then-near-eq0-clause-below
 returns-then-near-eq0-clause-below c =
     let part = c.args.part.now in
-    let near = c.count_near-near.result in
-    let most = c.count_near-near.ensures.most in
+    let near = c.most_below-near.result in
+    let most = c.most_below-near.ensures.most in
     elim c.then-near-eq0.branch [
       | then-near-eq0-via-then-near-eq0 w ↦ λ k d there. absurd (omega (arith, there, length-take-le near part most, w.if-near-eq0.true))
       | then-near-eq0-via-else-near-eq0+then-part-near w ↦

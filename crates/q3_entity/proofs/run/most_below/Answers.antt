@@ -2,7 +2,7 @@ use Rattle.std.proofs.Common.{◌≡◌, ◌^◌, get_or, sym, ap, arith}
 use Rattle.std.proofs.lemmas.Option.{get_or_from_slice_get}
 use Rattle.q3_entity.specs.declared.state.EntityState.{EntityState}
 use Rattle.q3_entity.proofs.Near.{from-near}
-use Rattle.q3_entity.proofs.run.count_near.Goals as goal
+use Rattle.q3_entity.proofs.run.most_below.Goals as goal
 
 pub returns-clause-after : goal.returns-clause-after
 returns-clause-after c =
