@@ -1,6 +1,6 @@
 -- The normal form of a state's words, also as a loop makes it.
 use Rattle.std.proofs.Common.{◌≡◌, ℕ, zero, suc, ◌+◌, ◌^◌, ◌≤◌, ◌<◌, List, [], ◌∷◌, ◌++◌, length, take, drop, get_or, set, replicate, Some, None, slice_get, refl, sym, ap, ◌∙◌, append_assoc, add-one, arith}
-use Rattle.std.proofs.lemmas.List.{append-nil, drop_more, drop_all, length-replicate, drop-set-lt, take_all, take_more_set}
+use Rattle.std.proofs.lemmas.List.{append-nil, drop_more, drop_all, length-replicate, drop-set-lt, set-get_or, take_all, take_more_set}
 use Rattle.std.proofs.lemmas.List.Elements.{All-cons, All-drop, All-head, All-tail, All-replicate}
 use Rattle.std.specs.List.{All}
 use Rattle.q3_fields.specs.declared.kind.Kind.{Kind}
@@ -27,7 +27,7 @@ unfolding normal_words
 zero_alone [] all = refl
 zero_alone (kind ∷ kinds) all = rw (norm-zero kind (All-head IsKind kind kinds all)) refl
 
-pub normal_word_of_zero : (table : Layout) (k word : ℕ) → IsTable table → word ≡ 0 → normal_words (drop k table.kinds) (word ∷ []) ≡ 0 ∷ []
+normal_word_of_zero : (table : Layout) (k word : ℕ) → IsTable table → word ≡ 0 → normal_words (drop k table.kinds) (word ∷ []) ≡ 0 ∷ []
 normal_word_of_zero table k word is zeros = rw zeros (zero_alone (drop k table.kinds) (All-drop IsKind k table.kinds is.kinds.each))
 
 -- a word that has a field, and one that has none
@@ -62,6 +62,13 @@ normal_words-more table k y words whole within is next =
     let first : normal_words (drop k table) (get_or words k 0 ∷ drop (k + 1) words) ≡ y ∷ rest = normal_words-first (drop k table) (get_or words k 0) y (drop (k + 1) words) next ∙ ap (λ (kinds : List Kind). y ∷ normal_words kinds (drop (k + 1) words)) after in
     let left : normal_words (drop k table) (drop k words) ≡ y ∷ rest = rw (drop_more words k 0 within) first in
     rw (take_more_set words k y within, drop-set-lt (k + 1) words k y (omega arith)) (append_assoc (take k words) (y ∷ []) rest ∙ ap (λ (ys : List ℕ). take k words ++ ys) (sym left) ∙ is)
+
+-- and one that is 0 stays there
+pub normal_words-zero : (table : Layout) (k : ℕ) (words whole : List ℕ) → IsTable table → k < length words → get_or words k 0 ≡ 0
+    → take k words ++ normal_words (drop k table.kinds) (drop k words) ≡ whole → take (k + 1) words ++ normal_words (drop (k + 1) table.kinds) (drop (k + 1) words) ≡ whole
+normal_words-zero table k words whole is within zeros so =
+    let stays : set words k 0 ≡ words = ap (set words k) (sym zeros) ∙ set-get_or words k 0 in
+    rw stays at (normal_words-more table.kinds k 0 words whole within so (normal_word_of_zero table k (get_or words k 0) is zeros))
 
 -- all are
 pub normal_words-all : (table : List Kind) (k : ℕ) (words whole : List ℕ) → length words ≤ k → take k words ++ normal_words (drop k table) (drop k words) ≡ whole → words ≡ whole

@@ -50,21 +50,21 @@ impl From<ReadError> for DeltaError {
 pub fn normalize(table: &Table, words: &mut [u32; 64])
     ensures { words.new ≡ normal_words table.now.kinds words.old }
 {
+    prove!(table.count() <= 64);
     for k in 0..64 {
+        // most words are 0, which is normal in any field
+        if words[k] == 0 {
+            continue;
+        }
         words[k] = normal_word(table, k, words[k]);
     }
 }
 
 /// A word in the normal form of the table's field at its place, and 0 where the table has none.
-#[tactic(auto, using(crate::proofs::NormalWords::normal_word_of_zero, crate::proofs::NormalWords::normal_word_of_field, crate::proofs::NormalWords::normal_word_of_none))]
+#[tactic(auto, using(crate::proofs::NormalWords::normal_word_of_field, crate::proofs::NormalWords::normal_word_of_none))]
 fn normal_word(table: &Table, k: usize, word: u32) -> u32
     ensures { normal_words (drop k table.now.kinds) (word ∷ []) ≡ result ∷ [] }
 {
-    // most words are 0, which is normal in any field
-    prove!(table.count() <= 64);
-    if word == 0 {
-        return 0;
-    }
     match table.kind(k) {
         Some(kind) => norm(kind, word),
         None => 0,

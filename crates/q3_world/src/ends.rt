@@ -12,7 +12,7 @@ ghost use Rattle.q3_world.specs.Ends.{recording_at};
 
 use crate::counts::Counts;
 use crate::made::{Direction, Made, keep};
-use crate::places::{Place, no_places};
+use crate::places::{Place, no_places, put_place};
 use crate::told::{StepError, tell};
 use q3_bits::NoMemory;
 use q3_chan::{DATAGRAM_ROOM, Datagram};
@@ -55,7 +55,7 @@ impl Model for Ends {
 }
 
 impl Ends {
-    ghost use Rattle.q3_world.specs.Ends.{place_at, new_ends, join, set_port, game_step, type_text, add_move, record_to, stop, show, client_takes, server_takes, hand_server, step_in, line_of};
+    ghost use Rattle.q3_world.specs.Ends.{place_at, new_ends, join, joined_as, set_port, game_step, type_text, add_move, record_to, stop, show, client_takes, server_takes, hand_server, step_in, line_of};
     ghost use Rattle.q3_world.specs.Kept.{Kept, most_datagrams, deliver_at, kept_serve, kept_send};
     ghost use Rattle.q3_world.specs.Doing.{Tells, EndsDo};
     ghost use Rattle.q3_world.specs.Files.{AreNumbered, DoesFiles, without, ended, begin_acts, stop_acts, take_acts, deliver_acts, line_acts, ending_acts};
@@ -168,19 +168,26 @@ impl Ends {
             ≡ record { ends = self.new; answer = Given handed }) }
         ensures err { OnErr result (self.new ≡ self.old) }
     {
-        let client = Client::new(alloc, profile, challenge, qport, dup)?;
-        if let Err(error) = self.server.add_client(c, challenge, qport, address) {
-            return Ok(HandedIn::Client {
+        let place = Place::new(alloc, profile, challenge, qport, dup, address)?;
+        Ok(self.join_as(c, challenge, qport, place))
+    }
+
+    /// The client in a place joins, at both ends.
+    fn join_as(&mut self, c: u8, challenge: u32, qport: u16, place: Place) -> HandedIn
+        requires place { c < places }
+        ensures { joined_as self.old c challenge qport place ≡ record { ends = self.new; answer = Given result } }
+    {
+        if let Err(error) = self
+            .server
+            .add_client(c, challenge, qport, place.address)
+        {
+            return HandedIn::Client {
                 c,
                 outcome: Err(error),
-            });
+            };
         }
-        self.clients[c as usize] = Some(Place {
-            client,
-            address,
-            recording: None,
-        });
-        Ok(HandedIn::Client { c, outcome: Ok(()) })
+        put_place(&mut self.clients, c as usize, place);
+        HandedIn::Client { c, outcome: Ok(()) }
     }
 
     /// A client's later datagrams come from another port.

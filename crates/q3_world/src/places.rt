@@ -1,6 +1,6 @@
 //! Places for clients.
 
-ghost use Rattle.std.specs.Prelude.{◌≡◌, None, replicate, IfOk};
+ghost use Rattle.std.specs.Prelude.{◌≡◌, ◌<◌, Some, None, length, replicate, slice_set, IfOk};
 ghost use Rattle.q3_chan.specs.Sending.{HandsOut};
 ghost use Rattle.q3_client.specs.Sending.{emit_at};
 ghost use Rattle.q3_server.specs.Server.{places};
@@ -15,6 +15,7 @@ use q3_clstate::Log;
 use q3_ends::client::{add_move, type_text};
 use q3_ends::recording::{Recording, begin, emit, stop, take};
 use q3_io::{Address, Failed, Files, Sink};
+use q3_profile::Profile;
 use q3_report::{Answer, Front, HandedIn, RecordRefused, StopRefused, Taker};
 use q3_server::MOST_SLOTS;
 use q3_text::Text;
@@ -31,13 +32,37 @@ pub struct Place {
 }
 
 impl Place {
-    ghost use Rattle.q3_client.specs.Client.{take_at};
+    ghost use Rattle.q3_profile.specs.Profile.{IsProfile};
+    ghost use Rattle.q3_client.specs.Client.{new_client, take_at};
     ghost use Rattle.std.specs.Prelude.{OnOk, IfOk, IsErrOf};
     ghost use Rattle.q3_ends.specs.AtClient.{type_text, add_move, taken_by_client};
     ghost use Rattle.q3_ends.specs.Recording.{new_recording, begin_at, stop_at, note_taken, asking, HasFile, WritesFiles};
     ghost use Rattle.q3_demo.specs.Recorder.{done};
     ghost use Rattle.q3_world.specs.Doing.{Tells, TakesAt};
     ghost use Rattle.q3_world.specs.Files.{DoesFiles};
+
+    /// A new client, which sends from this address and records nothing. `Err` is want of memory.
+    pub(crate) fn new(
+        alloc: Global,
+        profile: &Profile,
+        challenge: u32,
+        qport: u16,
+        dup: u8,
+        address: Address,
+    ) -> Result<Place, NoMemory>
+        requires { IsProfile profile.now }
+        ensures { IfOk result (λ place. place ≡ record {
+          client = new_client profile.now challenge qport dup;
+          address = address;
+          recording = None;
+        }) }
+    {
+        Ok(Place {
+            client: Client::new(alloc, profile, challenge, qport, dup)?,
+            address,
+            recording: None,
+        })
+    }
 
     /// The client issues a command.
     pub(crate) fn type_text(&mut self, c: u8, text: &Text) -> HandedIn
@@ -147,6 +172,14 @@ impl Place {
         let sent = emit(&mut self.client, &self.recording, out);
         (sent, self.address)
     }
+}
+
+/// Puts a client into a place.
+pub(crate) fn put_place(clients: &mut Vec<Option<Place>>, c: usize, place: Place)
+    requires { c < length clients.old.items }
+    ensures { clients.new.items ≡ slice_set clients.old.items c (Some place) }
+{
+    clients[c] = Some(place);
 }
 
 /// A place for each client, with nobody in it. `Err` is want of memory.

@@ -92,12 +92,9 @@ impl World {
         ensures made { IfOk result (λ world. (world.kept ≡ opening_kept profile.now) × (world.counts ≡ no_counts)) }
         ensures codec { OnOk result (IsCodec profile.now) }
     {
+        let (log, heard) = places_to_hear(alloc)?;
         let copy = profile.copy()?;
         let ends = Ends::new(alloc, profile)?;
-        let commands = Commands::new(alloc)?;
-        let log = Box::new(alloc, Log { commands })?;
-        let heard = Heard::new(alloc)?;
-        let heard = Box::new(alloc, heard)?;
         Ok(World {
             alloc,
             profile: copy,
@@ -324,4 +321,13 @@ fn bytes_of(datagrams: &[Made], number: u32) -> Option<&[u8]>
 {
     let sent = datagrams.get(number as usize - 1)?;
     Some(&sent.bytes)
+}
+
+/// Places for what a client and the server execute.
+fn places_to_hear(alloc: Global) -> Result<(Box<Log>, Box<Heard>), NoMemory> {
+    let commands = Commands::new(alloc)?;
+    let log = Box::new(alloc, Log { commands })?;
+    let heard = Heard::new(alloc)?;
+    let heard = Box::new(alloc, heard)?;
+    Ok((log, heard))
 }
