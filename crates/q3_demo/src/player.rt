@@ -6,6 +6,7 @@ ghost use Rattle.q3_bits.specs.ResultBind.{fault_as};
 ghost use Rattle.q3_clstate.specs.State.{apply_at, state_after_message, answered, heard_in};
 ghost use Rattle.q3_demo.specs.Player.{PlaysOn, end_alone, step_of_all};
 ghost use Rattle.q3_demo.specs.Playing.{Stepped, unplayed, step};
+ghost use Rattle.q3_demo.specs.Records.{longest_record};
 ghost use Rattle.q3_demo.specs.Running.{HasFrom, OnlyAsks, AsksOf, asked_of, ReadCause};
 
 use crate::error::DemoError;
@@ -83,16 +84,15 @@ impl Player {
               heard = [];
             }) }
     {
+        let (log, message) = places(alloc)?;
         let last = state.number();
         Ok(Player {
             state,
             records,
             last,
             at,
-            log: Log {
-                commands: Commands::new(alloc)?,
-            },
-            message: vec![in alloc; 0; LONGEST_RECORD]?,
+            log,
+            message,
         })
     }
 
@@ -242,4 +242,15 @@ fn end_alone(at: u64, piece: Result<Piece, DemoError>) -> Result<Option<Applied>
         Err(DemoError::ReadFault) => Err(DemoError::ReadFault),
         Err(_) => Err(DemoError::Truncated(at)),
     }
+}
+
+/// Places for the commands that a record executes, and for its message. `Err` is want of memory.
+fn places(alloc: Global) -> Result<(Log, Vec<u8>), NoMemory>
+    ensures { IfOk result (λ places. (places.0.commands ≡ []) × (length places.1.items ≡ longest_record)) }
+{
+    let log = Log {
+        commands: Commands::new(alloc)?,
+    };
+    let message = vec![in alloc; 0; LONGEST_RECORD]?;
+    Ok((log, message))
 }

@@ -177,10 +177,7 @@ impl Ends {
         requires place { c < places }
         ensures { joined_as self.old c challenge qport place ≡ record { ends = self.new; answer = Given result } }
     {
-        if let Err(error) = self
-            .server
-            .add_client(c, challenge, qport, place.address)
-        {
+        if let Err(error) = self.server.add_client(c, challenge, qport, place.address) {
             return HandedIn::Client {
                 c,
                 outcome: Err(error),
