@@ -16,8 +16,12 @@ words_of words = map bits_of_word words
 abbrev pub no_word : Word
 no_word = record { bits = 0; length = 0 }
 
+-- the length in an entry that names no word: more bits than are gathered
+abbrev pub unindexed : ℕ
+unindexed = 64
+
 abbrev pub no_entry : Entry
-no_entry = record { byte = 0; length = 0 }
+no_entry = record { byte = 0; length = unindexed }
 
 -- a word has at most 24 bits, and its number has no others
 pub record IsWord (word : Word) : Type 0 where
@@ -30,14 +34,14 @@ pub record Leads (words : List Word) (entry : Entry) (bits : ℕ) : Type 0 where
   pub length : (slice_index_or words entry.byte no_word).length ≡ entry.length
   pub begins : bits % 2 ^ entry.length ≡ (slice_index_or words entry.byte no_word).bits
 
--- an entry of 12 bits says nothing, or which word begins them
-abbrev pub SaysOf : List Word → ℕ → Entry → Type 0
-SaysOf words bits entry = (entry.length ≡ 64) ⊎ ((entry.length ≤ 12) × Leads words entry bits)
+-- the entry for 12 bits names no word, or one of at most 12 bits that begins them
+abbrev pub IsEntry : List Word → ℕ → Entry → Type 0
+IsEntry words bits entry = (entry.length ≡ unindexed) ⊎ ((entry.length ≤ 12) × Leads words entry bits)
 
--- there is one for each 12 bits
+-- an index has an entry for each 12 bits
 pub record IsIndex (words : List Word) (entries : List Entry) : Type 0 where
   pub count : length entries ≡ 4096
-  pub each : (k : ℕ) → k < 4096 → SaysOf words k (slice_index_or entries k no_entry)
+  pub each : (k : ℕ) → k < 4096 → IsEntry words k (slice_index_or entries k no_entry)
 
 -- a word for each byte, of which none begins another
 pub record IsTable (code : Inside) : Type 0 where

@@ -5,7 +5,7 @@ ghost use Rattle.std.specs.Option.{is_some};
 ghost use Rattle.q3_bits.specs.declared.words.CodeError.TheVariants as errors;
 ghost use Rattle.q3_bits.specs.Bits.{number_of};
 ghost use Rattle.q3_bits.specs.CodeWords.{texts_of, bits_of_text, code_fault};
-ghost use Rattle.q3_bits.specs.Table.{bits_of_word, IsWord, IsIndex, SaysOf};
+ghost use Rattle.q3_bits.specs.Table.{bits_of_word, unindexed, IsWord, IsEntry, IsIndex};
 ghost use Rattle.q3_bits.specs.Found.{found_in};
 ghost use Rattle.q3_bits.specs.Words.{IsCode, plain_words, word_of, bits_after, byte_from, begins_word};
 
@@ -23,7 +23,7 @@ pub(crate) struct Word {
     pub(crate) length: u8,
 }
 
-/// A byte whose word begins some bits, and the word's length; `NO_WORD` where that isn't said.
+/// A byte whose word begins some bits, and the word's length; `UNINDEXED` where none is named.
 #[derive(Clone, Copy)]
 pub(crate) struct Entry {
     pub(crate) byte: u8,
@@ -33,8 +33,9 @@ pub(crate) struct Entry {
 /// Words up to this length are found by the next bits, so many.
 const INDEXED: u32 = 12;
 
-/// The length of a word that isn't there: more bits than a reader gathers, so that no test but that of the length is needed.
-pub(crate) const NO_WORD: u8 = 64;
+/// The length in an entry that names no word, since none of at most 12 bits begins its bits: more than the bits that a reader gathers,
+/// so the test whether a word was gathered refuses it too.
+pub(crate) const UNINDEXED: u8 = 64;
 
 /// How many entries an index has: one for each 12 bits.
 const ENTRIES: usize = 4_096;
@@ -146,12 +147,12 @@ impl Code {
     }
 
     /// The byte whose word, of at most 12 bits, begins the bits to be read, and the word's length, by the number that
-    /// the next 24 bits spell; `NO_WORD` where that isn't said.
+    /// the next 24 bits spell; `UNINDEXED` where none is named.
     pub(crate) fn entry(&self, window: u32) -> Entry
-        ensures found { (left : List Bool) → window ≡ number_of (take 24 left) → result.length < 64
+        ensures found { (left : List Bool) → window ≡ number_of (take 24 left) → result.length < unindexed
             → result.length ≤ length left
             → byte_from 0 self.now left ≡ Some (result.byte, drop result.length left) }
-        ensures short { (result.length ≡ 64) ⊎ (result.length ≤ 12) }
+        ensures short { (result.length ≡ unindexed) ⊎ (result.length ≤ 12) }
     {
         self.index[(window % (1 << INDEXED)) as usize]
     }
@@ -188,11 +189,11 @@ fn index_of(alloc: Global, words: &[Word]) -> Result<Vec<Entry>, NoMemory>
     Ok(entries)
 }
 
-/// The first short word that begins these 12 bits.
+/// The first word of at most 12 bits that begins these 12; `UNINDEXED` where none does.
 fn entry_of(words: &[Word], bits: u32) -> Entry
     requires few { length words.now ≡ 256 }
     requires words { All IsWord words.now }
-    ensures { SaysOf words.now bits result }
+    ensures { IsEntry words.now bits result }
 {
     for (byte, word) in words.iter().enumerate() {
         if u32::from(word.length) <= INDEXED && bits % (1 << word.length) == word.bits {
@@ -204,6 +205,6 @@ fn entry_of(words: &[Word], bits: u32) -> Entry
     }
     Entry {
         byte: 0,
-        length: NO_WORD,
+        length: UNINDEXED,
     }
 }

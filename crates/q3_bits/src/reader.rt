@@ -7,7 +7,7 @@ ghost use Rattle.q3_bits.specs.Streams.{Reads};
 ghost use Rattle.q3_bits.specs.Unread.{bits_ahead, found_ahead, IsFull};
 
 use crate::ahead::Ahead;
-use crate::code::{Code, NO_WORD};
+use crate::code::{Code, UNINDEXED};
 use crate::widths::BYTE;
 use std::marker::Model;
 
@@ -313,14 +313,14 @@ impl<'a> Reader<'a> {
     }
 }
 
-/// A field's value, and how many bits its text has: 64 or more where one of its words is longer than 12 bits or there is none.
+/// A field's value, and how many bits its text has: 64 or more where one of its words is longer than 12 bits, or where bits begin no word.
 #[derive(Clone, Copy)]
 struct Spelled {
     value: u32,
     length: u64,
 }
 
-/// The field that bits spell, fewer than 64, where it is no longer than these.
+/// The field that begins these bits, fewer than 64. Where its length is more than theirs nothing is said of its value.
 #[inline(always)]
 fn field_in(code: &Code, bits: u64, raw: u32, bytes: u32) -> Spelled
     requires raw { raw < 8 }
@@ -335,8 +335,8 @@ fn field_in(code: &Code, bits: u64, raw: u32, bytes: u32) -> Spelled
     for k in 0..bytes {
         let entry = code.entry((left % (1 << 24)) as u32);
         value += u32::from(entry.byte) << (raw + 8 * k);
-        // a word that isn't there has 64 bits, and what is left is of no account then
-        left >>= entry.length % NO_WORD;
+        // where no word is named the length is 64 at once, and what is left no longer matters
+        left >>= entry.length % UNINDEXED;
         length += u64::from(entry.length);
     }
     Spelled { value, length }
@@ -369,7 +369,7 @@ fn byte_from<'a>(code: &Code, ahead: Ahead<'a>) -> Result<(u8, Ahead<'a>), ReadE
     let window = ready.window();
     let entry = code.entry(window);
     let short = u64::from(entry.length);
-    if short <= 24 && ready.has(short) {
+    if entry.length < UNINDEXED && ready.has(short) {
         return Ok((entry.byte, ready.skip(short)));
     }
     let left = ready.left();

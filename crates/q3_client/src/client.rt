@@ -433,8 +433,7 @@ fn netchan(alloc: Global, check: Option<u32>, qport: u16) -> Result<(Gatherer, S
     Ok((gatherer, sender))
 }
 
-/// No command and no move was issued.
-#[tactic(auto, using(crate::proofs::Begins::no_moves))]
+/// A window and a ring in which nothing was issued. `Err` is want of memory.
 fn nothing_issued(alloc: Global) -> Result<(Outgoing, HeapCircularBuffer<Issued>), NoMemory>
     ensures commands { IfOk result (λ issued. issued.0 ≡ new_outgoing) }
     ensures moves { IfOk result (λ issued. (issued.1.items ≡ []) × (issued.1.capacity ≡ most_moves)) }

@@ -1,6 +1,6 @@
--- what proofs above may cite
+-- exported: proofs of crates above may cite these
 pub mod HeldStays
--- and what none can name but those of this crate
+-- for this crate alone
 mod Lines
 mod Accepting
 mod Commands

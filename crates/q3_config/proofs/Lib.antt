@@ -1,8 +1,8 @@
--- what proofs above may cite
+-- exported: proofs of crates above may cite these
 pub mod Sizes
 pub mod Faults
 pub mod Makes
--- and what none can name but those of this crate
+-- for this crate alone
 mod Places
 mod Kept
 mod Texts

@@ -1,8 +1,8 @@
--- what proofs above may cite
+-- exported: proofs of crates above may cite these
 pub mod Pieces
 pub mod Going
 pub mod Taking
--- and what none can name but those of this crate
+-- for this crate alone
 mod Accepted
 mod Whole
 mod Finding

@@ -84,7 +84,7 @@ impl Player {
               heard = [];
             }) }
     {
-        let (log, message) = places(alloc)?;
+        let (log, message) = buffers(alloc)?;
         let last = state.number();
         Ok(Player {
             state,
@@ -244,9 +244,9 @@ fn end_alone(at: u64, piece: Result<Piece, DemoError>) -> Result<Option<Applied>
     }
 }
 
-/// Places for the commands that a record executes, and for its message. `Err` is want of memory.
-fn places(alloc: Global) -> Result<(Log, Vec<u8>), NoMemory>
-    ensures { IfOk result (λ places. (places.0.commands ≡ []) × (length places.1.items ≡ longest_record)) }
+/// Room for the commands that a record executes, and for its message. `Err` is want of memory.
+fn buffers(alloc: Global) -> Result<(Log, Vec<u8>), NoMemory>
+    ensures { IfOk result (λ made. (made.0.commands ≡ []) × (length made.1.items ≡ longest_record)) }
 {
     let log = Log {
         commands: Commands::new(alloc)?,

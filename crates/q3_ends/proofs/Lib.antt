@@ -1,4 +1,4 @@
--- what proofs above may cite
+-- exported: proofs of crates above may cite these
 pub mod Files
--- and what none can name but those of this crate
+-- for this crate alone
 mod Taking

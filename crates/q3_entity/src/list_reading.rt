@@ -269,7 +269,7 @@ fn get_number(r: &mut Reader, bits: u32) -> Result<u32, ReadError>
     ensures fits { IfOk result (λ number. number < 2 ^ bits) }
     ensures code { IsCode r.old.words }
 {
-    // by a constant `get_fixed` has no loop
+    // with a constant width `get_fixed` has no loop
     if bits == 10 {
         return r.get_fixed(10);
     }

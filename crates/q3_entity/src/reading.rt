@@ -36,7 +36,7 @@ pub fn read_entity(
 {
     laws::marks_are_bits();
     into.words = from.words;
-    // two marks: the first removes the entity, and the second says that it changed
+    // how many of two marks are 0: the first removes the entity, the second says that it changed
     match r.get_run(2)? {
         0 => return Ok(Entry::Removed),
         1 => {}

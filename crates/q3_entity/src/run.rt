@@ -101,10 +101,10 @@ pub(crate) fn count_below(part: &[EntityState], number: u16) -> usize
     ensures after { IsFrom number (drop result part.now) }
     ensures most { result ≤ length part.now }
 {
-    // where numbers follow each other so many are below it, and the last of these tells
-    let near = most_below(part, number);
-    if near == 0 || part[near - 1].number < number {
-        return near;
+    // where numbers follow each other this is exact, and the last of these tells
+    let most = most_below(part, number);
+    if most == 0 || part[most - 1].number < number {
+        return most;
     }
     for k in 0..part.len() {
         if part[k].number >= number {
@@ -114,7 +114,7 @@ pub(crate) fn count_below(part: &[EntityState], number: u16) -> usize
     part.len()
 }
 
-/// No more of the first entities are below a number: just so many where their numbers follow each other.
+/// At most so many of the first entities are below a number, and exactly so many where their numbers follow each other.
 fn most_below(part: &[EntityState], number: u16) -> usize
     requires { RiseFrom (2 ^ 16) 0 part.now }
     ensures after { IsFrom number (drop result part.now) }

@@ -2,7 +2,7 @@
 //! "player delta" and "normal form" for the words, the engine's `MSG_WriteDeltaEntity` and `MSG_WriteDeltaPlayerstate`
 //! and their readers.
 
-ghost use Rattle.std.specs.Prelude.{◌≡◌, ◌≤◌, ◌<◌, ◌↔◌, [], ◌∷◌, ◌++◌, length, take, drop, slice_get, Some, IsTrue};
+ghost use Rattle.std.specs.Prelude.{◌≡◌, ◌≤◌, ◌<◌, ◌↔◌, [], ◌∷◌, ◌++◌, length, take, drop, IsTrue};
 ghost use Rattle.q3_bits.specs.Words.{field_bits};
 ghost use Rattle.q3_bits.specs.Streams.{Reads, Writes, holding};
 ghost use Rattle.q3_fields.specs.Kinds.{IsKind};
@@ -50,9 +50,10 @@ impl From<ReadError> for DeltaError {
 pub fn normalize(table: &Table, words: &mut [u32; 64])
     ensures { words.new ≡ normal_words table.now.kinds words.old }
 {
+    // its kinds are allowed ones, of which each has 0 as a normal word
     prove!(table.count() <= 64);
     for k in 0..64 {
-        // most words are 0, which is normal in any field
+        // as most words are
         if words[k] == 0 {
             continue;
         }
@@ -189,7 +190,7 @@ fn write_fields(
     // what stands there fits the room
     prove!(w.length() > 0);
     for k in 0..count {
-        write_field(w, state, kind_at(table, k), from[k], to[k])?;
+        write_field(w, state, table.kind_at(k), from[k], to[k])?;
     }
     Ok(())
 }
@@ -269,7 +270,7 @@ fn read_fields(
         if same == limit {
             continue;
         }
-        words[k] = read_changed(&mut own, state, kind_at(table, k))?;
+        words[k] = read_changed(&mut own, state, table.kind_at(k))?;
         k += 1;
     }
     *r = own;
@@ -286,13 +287,4 @@ fn read_changed(r: &mut Reader, state: StateKind, kind: Kind) -> Result<u32, Rea
         StateKind::Entity => read_entity_field(r, kind),
         StateKind::Player => read_player_field(r, kind),
     }
-}
-
-/// The kind of a field that the table has.
-fn kind_at(table: &Table, k: usize) -> Kind
-    requires { k < length table.now.kinds }
-    ensures kind { slice_get table.now.kinds k ≡ Some result }
-    ensures allowed { IsKind result }
-{
-    table.at(k)
 }

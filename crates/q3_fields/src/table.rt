@@ -105,12 +105,12 @@ impl Table {
     }
 
     /// The kind of a field that the table has.
-    pub(crate) fn at(&self, i: usize) -> Kind
+    pub(crate) fn kind_at(&self, i: usize) -> Kind
         requires { i < length self.now.kinds }
         ensures kind { slice_get self.now.kinds i ≡ Some result }
         ensures allowed { IsKind result }
     {
-        // each has a place
+        // it has no more fields than places
         prove!(self.count <= 64);
         self.kinds[i]
     }

@@ -1,8 +1,8 @@
--- what proofs above may cite
+-- exported: proofs of crates above may cite these
 pub mod Options
 pub mod BuiltText
 pub mod Survives
--- and what none can name but those of this crate
+-- for this crate alone
 mod BitFronts
 mod MessageKeys
 mod BuiltRead

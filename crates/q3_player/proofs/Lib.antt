@@ -1,7 +1,7 @@
--- what proofs above may cite
+-- exported: proofs of crates above may cite these
 pub mod Kept
 pub mod Maps
--- and what none can name but those of this crate
+-- for this crate alone
 mod Arrays
 mod Changes
 mod Normal

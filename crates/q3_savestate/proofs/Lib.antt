@@ -1,8 +1,8 @@
--- what proofs above may cite
+-- exported: proofs of crates above may cite these
 pub mod Fields
 pub mod HeldInOrder
 pub mod HeldRules
--- and what none can name but those of this crate
+-- for this crate alone
 mod Words
 mod EntitiesBack
 mod EntitiesWere

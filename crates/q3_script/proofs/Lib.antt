@@ -1,6 +1,6 @@
--- what proofs above may cite
+-- exported: proofs of crates above may cite these
 pub mod InRange
--- and what none can name but those of this crate
+-- for this crate alone
 mod Gather
 mod Steps
 mod TurnLines

@@ -286,7 +286,7 @@ fn deliver(left: &[u8]) -> Result<Event, LineCause>
     })
 }
 
-/// A `record` line, apart as a `config` line is. `Err` is want of memory.
+/// A `record` line, kept out of line as `config` is. `Err` is want of memory.
 #[tactic(auto, using(crate::proofs::Steps::record_steps))]
 #[inline(never)]
 fn record_to(alloc: Global, left: &[u8]) -> Result<Result<Event, LineCause>, NoMemory>
@@ -359,7 +359,7 @@ fn hand(alloc: Global, left: &[u8]) -> Result<Result<(u8, Bytes), LineCause>, No
     }
 }
 
-/// A `toclient` line, apart as a `config` line is. `Err` is want of memory.
+/// A `toclient` line, kept out of line as `config` is. `Err` is want of memory.
 #[tactic(auto, unfolding(crate::specs::Lines::toclient_line))]
 #[inline(never)]
 fn toclient(alloc: Global, left: &[u8]) -> Result<Result<Event, LineCause>, NoMemory>
@@ -371,7 +371,7 @@ fn toclient(alloc: Global, left: &[u8]) -> Result<Result<Event, LineCause>, NoMe
     }
 }
 
-/// A `toserver` line, apart as a `config` line is. `Err` is want of memory.
+/// A `toserver` line, kept out of line as `config` is. `Err` is want of memory.
 #[tactic(auto, unfolding(crate::specs::Lines::toserver_line))]
 #[inline(never)]
 fn toserver(alloc: Global, left: &[u8]) -> Result<Result<Event, LineCause>, NoMemory>

@@ -1,9 +1,9 @@
--- what proofs above may cite
+-- exported: proofs of crates above may cite these
 pub mod Decimals
 pub mod Places
 pub mod Translation
 pub mod Pairs
 pub mod Cuts
 pub mod Numerals
--- and what none can name but those of this crate
+-- for this crate alone
 mod Weights

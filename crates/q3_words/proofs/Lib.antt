@@ -1,4 +1,4 @@
--- what proofs above may cite
+-- exported: proofs of crates above may cite these
 pub mod Prefixes
 pub mod Spaces
 pub mod NumberWords
@@ -8,7 +8,7 @@ pub mod FieldWords
 pub mod HexWords
 pub mod NameWords
 pub mod Unquoted
--- and what none can name but those of this crate
+-- for this crate alone
 mod Fronts
 mod Coming
 mod Rising

@@ -6,7 +6,7 @@ use q3_bits::NoMemory;
 use std::alloc::Global;
 use std::marker::Model;
 
-/// A value in memory of its own: whatever holds one has a pointer alone. To a caller it is the value.
+/// A value in memory of its own: its holder has only a pointer. To a caller it is the value.
 #[derive(Debug, Drop)]
 pub struct Boxed<T> {
     value: Box<T>,

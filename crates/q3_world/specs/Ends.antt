@@ -74,16 +74,16 @@ abbrev pub joined : Ends → ℕ → Place → Result (Unit {0}) SlotError → E
 joined ends c place (Ok x) = given (with_place ends c place) (Client c (Ok tt))
 joined ends c place (Err e) = given ends (Client c (Err e))
 
--- the client in a place asks to join
-abbrev pub joined_as : Ends → ℕ → ℕ → ℕ → Place → EndsStep
-joined_as ends c challenge qport place =
+-- a client that was made asks to join
+abbrev pub join_with : Ends → ℕ → ℕ → ℕ → Place → EndsStep
+join_with ends c challenge qport place =
     let added = add_client_at ends.server c challenge qport place.address in
     joined (record ends { server = added.server }) c place added.answer
 
 -- a client asks to join
 abbrev pub join : Profile → Ends → ℕ → ℕ → ℕ → ℕ → Address → EndsStep
 join profile ends c challenge qport dup address =
-    joined_as ends c challenge qport (record { client = new_client profile challenge qport dup; address = address; recording = None })
+    join_with ends c challenge qport (record { client = new_client profile challenge qport dup; address = address; recording = None })
 
 -- a client's later datagrams come from another port, if it is there
 abbrev pub set_port_of : Ends → ℕ → ℕ → Option Place → EndsStep

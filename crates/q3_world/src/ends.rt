@@ -16,7 +16,6 @@ use crate::places::{Place, no_places, put_place};
 use crate::told::{StepError, tell};
 use q3_bits::NoMemory;
 use q3_chan::{DATAGRAM_ROOM, Datagram};
-use q3_client::Client;
 use q3_clmsg::Move;
 use q3_clstate::Log;
 use q3_ends::client::show;
@@ -55,7 +54,7 @@ impl Model for Ends {
 }
 
 impl Ends {
-    ghost use Rattle.q3_world.specs.Ends.{place_at, new_ends, join, joined_as, set_port, game_step, type_text, add_move, record_to, stop, show, client_takes, server_takes, hand_server, step_in, line_of};
+    ghost use Rattle.q3_world.specs.Ends.{place_at, new_ends, join, join_with, set_port, game_step, type_text, add_move, record_to, stop, show, client_takes, server_takes, hand_server, step_in, line_of};
     ghost use Rattle.q3_world.specs.Kept.{Kept, most_datagrams, deliver_at, kept_serve, kept_send};
     ghost use Rattle.q3_world.specs.Doing.{Tells, EndsDo};
     ghost use Rattle.q3_world.specs.Files.{AreNumbered, DoesFiles, without, ended, begin_acts, stop_acts, take_acts, deliver_acts, line_acts, ending_acts};
@@ -169,13 +168,13 @@ impl Ends {
         ensures err { OnErr result (self.new ≡ self.old) }
     {
         let place = Place::new(alloc, profile, challenge, qport, dup, address)?;
-        Ok(self.join_as(c, challenge, qport, place))
+        Ok(self.join_with(c, challenge, qport, place))
     }
 
-    /// The client in a place joins, at both ends.
-    fn join_as(&mut self, c: u8, challenge: u32, qport: u16, place: Place) -> HandedIn
+    /// A client that was made joins, at both ends.
+    fn join_with(&mut self, c: u8, challenge: u32, qport: u16, place: Place) -> HandedIn
         requires place { c < places }
-        ensures { joined_as self.old c challenge qport place ≡ record { ends = self.new; answer = Given result } }
+        ensures { join_with self.old c challenge qport place ≡ record { ends = self.new; answer = Given result } }
     {
         if let Err(error) = self.server.add_client(c, challenge, qport, place.address) {
             return HandedIn::Client {

@@ -21,7 +21,7 @@ use q3_server::MOST_SLOTS;
 use q3_text::Text;
 use std::alloc::Global;
 
-/// A client that was added.
+/// A client, at its own end.
 #[derive(Drop)]
 pub struct Place {
     pub client: Client,

@@ -92,7 +92,7 @@ impl World {
         ensures made { IfOk result (λ world. (world.kept ≡ opening_kept profile.now) × (world.counts ≡ no_counts)) }
         ensures codec { OnOk result (IsCodec profile.now) }
     {
-        let (log, heard) = places_to_hear(alloc)?;
+        let (log, heard) = room_to_hear(alloc)?;
         let copy = profile.copy()?;
         let ends = Ends::new(alloc, profile)?;
         Ok(World {
@@ -323,8 +323,8 @@ fn bytes_of(datagrams: &[Made], number: u32) -> Option<&[u8]>
     Some(&sent.bytes)
 }
 
-/// Places for what a client and the server execute.
-fn places_to_hear(alloc: Global) -> Result<(Box<Log>, Box<Heard>), NoMemory> {
+/// Room for what a client and the server execute. `Err` is want of memory.
+fn room_to_hear(alloc: Global) -> Result<(Box<Log>, Box<Heard>), NoMemory> {
     let commands = Commands::new(alloc)?;
     let log = Box::new(alloc, Log { commands })?;
     let heard = Heard::new(alloc)?;

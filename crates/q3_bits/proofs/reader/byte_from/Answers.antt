@@ -7,7 +7,7 @@ pub returns-then-has-clause-byte : goal.returns-then-has-clause-byte
 returns-then-has-clause-byte c =
     let left = bits_ahead c.ready-ready.result in
     let long = c.entry-entry.result.length in
-    let some : long < 64 = omega (arith, c.if-short-le24.true, c.from-short.ensures) in
+    let some : long < 64 = c.if-entry-lt-UNINDEXED.true in
     let enough : long ≤ length left = omega (arith, c.if-has.ensures.left.0 (c.if-has.ensures.gathered.0 refl), c.from-short.ensures) in
     let found = c.entry-entry.ensures.found left c.window-window.ensures.bits some enough in
     rw (← c.ready-ready.ensures.bits, byte_at-is, found, c.skip.ensures, c.from-short.ensures) refl

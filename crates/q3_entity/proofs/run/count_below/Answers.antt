@@ -3,7 +3,7 @@ use Rattle.std.proofs.lemmas.List.{take_more, length-take-le}
 use Rattle.std.proofs.lemmas.List.Elements.{All-push}
 use Rattle.q3_entity.proofs.Near.{below-before}
 use Rattle.q3_entity.proofs.run.count_below.Goals as goal
-use Rattle.q3_entity.proofs.run.count_below.Goals.{then-near-eq0-via-then-near-eq0, then-near-eq0-via-else-near-eq0+then-part-near}
+use Rattle.q3_entity.proofs.run.count_below.Goals.{then-most-eq0-via-then-most-eq0, then-most-eq0-via-else-most-eq0+then-part-most}
 
 pub loop-k-preserved : goal.loop-k-preserved
 loop-k-preserved c =
@@ -13,13 +13,13 @@ loop-k-preserved c =
     rw (take_more part k (record { number = 0; words = [] }) (omega arith))
     (All-push (λ entity. entity.number < number) (take k part) _ c.loop-k.invariant c.if-part-k.false)
 
-pub returns-then-near-eq0-clause-below : goal.returns-then-near-eq0-clause-below
-returns-then-near-eq0-clause-below c =
+pub returns-then-most-eq0-clause-below : goal.returns-then-most-eq0-clause-below
+returns-then-most-eq0-clause-below c =
     let part = c.args.part.now in
-    let near = c.most_below-near.result in
-    let most = c.most_below-near.ensures.most in
-    elim c.then-near-eq0.branch [
-      | then-near-eq0-via-then-near-eq0 w ↦ λ k d there. absurd (omega (arith, there, length-take-le near part most, w.if-near-eq0.true))
-      | then-near-eq0-via-else-near-eq0+then-part-near w ↦
-          below-before (2 ^ 16) 0 c.args.number near part _ c.requires most (omega (arith, w.if-near-eq0.false)) w.if-part-near.true
+    let most = c.most_below-most.result in
+    let within = c.most_below-most.ensures.most in
+    elim c.then-most-eq0.branch [
+      | then-most-eq0-via-then-most-eq0 w ↦ λ k d there. absurd (omega (arith, there, length-take-le most part within, w.if-most-eq0.true))
+      | then-most-eq0-via-else-most-eq0+then-part-most w ↦
+          below-before (2 ^ 16) 0 c.args.number most part _ c.requires within (omega (arith, w.if-most-eq0.false)) w.if-part-most.true
     ]

@@ -3,23 +3,23 @@ use Rattle.std.proofs.lemmas.List.{get_or_default}
 use Rattle.q3_bits.specs.declared.code.Word.{Word}
 use Rattle.q3_bits.specs.declared.code.Entry.{Entry}
 use Rattle.q3_bits.specs.Words.{byte_from}
-use Rattle.q3_bits.specs.Table.{Leads, SaysOf, IsIndex, no_entry}
+use Rattle.q3_bits.specs.Table.{Leads, IsEntry, IsIndex, no_entry}
 use Rattle.q3_bits.proofs.CodeText.{entry_found}
 use Rattle.q3_bits.proofs.code.Code.entry.Goals as goal
 
 -- what the index says of these bits
-said_of : (words : List Word) (entries : List Entry) (bits : ℕ) (entry : Entry) → IsIndex words entries → bits < 4096 → entry ≡ get_or entries bits entry → SaysOf words bits entry
+said_of : (words : List Word) (entries : List Entry) (bits : ℕ) (entry : Entry) → IsIndex words entries → bits < 4096 → entry ≡ get_or entries bits entry → IsEntry words bits entry
 said_of words entries bits entry index small is =
     let here : get_or entries bits no_entry ≡ entry = get_or_default entries bits no_entry entry (omega (arith, index.count)) ∙ sym is in
-    subst (λ (e : Entry). SaysOf words bits e) here (index.each bits small)
+    subst (λ (e : Entry). IsEntry words bits e) here (index.each bits small)
 
--- an entry with a length says which word begins the bits
-leads_of : (words : List Word) (entry : Entry) (bits : ℕ) → entry.length < 64 → SaysOf words bits entry → (entry.length ≤ 12) × Leads words entry bits
+-- an entry that names a word says which begins the bits
+leads_of : (words : List Word) (entry : Entry) (bits : ℕ) → entry.length < 64 → IsEntry words bits entry → (entry.length ≤ 12) × Leads words entry bits
 leads_of words entry bits some (inl none) = absurd (omega arith)
 leads_of words entry bits some (inr says) = says
 
 -- and how long it may be
-short_of : (words : List Word) (entry : Entry) (bits : ℕ) → SaysOf words bits entry → (entry.length ≡ 64) ⊎ (entry.length ≤ 12)
+short_of : (words : List Word) (entry : Entry) (bits : ℕ) → IsEntry words bits entry → (entry.length ≡ 64) ⊎ (entry.length ≤ 12)
 short_of words entry bits (inl none) = inl none
 short_of words entry bits (inr says) = inr says.0
 
