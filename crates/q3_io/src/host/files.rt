@@ -11,9 +11,10 @@ use crate::files::Files;
 use crate::sink::Failed;
 use std::alloc::Global;
 use std::fs;
-use std::fs::OpenFile;
+use std::fs::{Metadata, OpenFile, OpenOptions};
 use std::io::{Read, Seek, SeekFrom, Write};
 use std::marker::Model;
+use std::os::unix::fs::MetadataExt;
 
 /// How many files there may be at most: a lookup or a create beyond is a fault.
 const MOST_FILES: usize = 32;
@@ -35,7 +36,8 @@ struct OpenedFile<F> {
 }
 
 /// Files of the system by their paths, relative to the folder that the program was started in.
-/// A file that was created is written alone: to read it, look it up.
+/// A file that was created is written alone: to read it, look it up. One that is read isn't created anew, under whatever name: it would
+/// lose its bytes.
 #[derive(Drop)]
 pub struct HostFiles<R: std::rt::Files> {
     rt: R,
@@ -70,7 +72,7 @@ impl<R: std::rt::Files> HostFiles<R> {
 }
 
 /// Opens one more file for reading, or creates an empty one for writing, unless there are as many as there may be.
-/// A folder is refused.
+/// A folder is refused, and so is a file for writing that is read.
 fn keep<R: std::rt::Files>(
     rt: &R,
     files: &mut Vec<OpenedFile<R::File>>,
@@ -85,16 +87,10 @@ fn keep<R: std::rt::Files>(
     if number >= MOST_FILES {
         return Err(Failed);
     }
-    let opened = match purpose {
-        Purpose::Reading => fs::open(rt, name),
-        Purpose::Writing => fs::create(rt, name),
+    let file = match purpose {
+        Purpose::Reading => open(rt, name)?,
+        Purpose::Writing => empty(rt, files, name)?,
     };
-    let Ok(file) = opened else {
-        return Err(Failed);
-    };
-    if !is_no_folder(&file) {
-        return Err(Failed);
-    }
     let place = Some(0);
     match files.push(OpenedFile {
         file,
@@ -106,8 +102,50 @@ fn keep<R: std::rt::Files>(
     }
 }
 
-fn is_no_folder<F: OpenFile>(file: &F) -> bool {
-    file.metadata().is_ok_and(|metadata| !metadata.is_dir())
+/// Opens a file for reading. A folder is refused.
+fn open<R: std::rt::Files>(rt: &R, name: &str) -> Result<R::File, Failed> {
+    let Ok(file) = fs::open(rt, name) else {
+        return Err(Failed);
+    };
+    match file.metadata() {
+        Ok(metadata) if !metadata.is_dir() => Ok(file),
+        _ => Err(Failed),
+    }
+}
+
+/// Creates an empty file for writing, also where there was one. One that is read is refused, and keeps its bytes.
+fn empty<R: std::rt::Files>(
+    rt: &R,
+    files: &[OpenedFile<R::File>],
+    name: &str,
+) -> Result<R::File, Failed> {
+    let Ok(file) = OpenOptions::new().write(true).create(true).open(rt, name) else {
+        return Err(Failed);
+    };
+    let Ok(metadata) = file.metadata() else {
+        return Err(Failed);
+    };
+    if metadata.is_file() && (is_read(files, &metadata) || file.set_len(0).is_err()) {
+        return Err(Failed);
+    }
+    Ok(file)
+}
+
+/// Whether a file is one of those that are read: it has the same number on the same device.
+fn is_read<F: OpenFile>(files: &[OpenedFile<F>], metadata: &Metadata) -> bool {
+    for opened in files {
+        if opened.purpose == Purpose::Reading && is_same(&opened.file, metadata) {
+            return true;
+        }
+    }
+    false
+}
+
+fn is_same<F: OpenFile>(file: &F, metadata: &Metadata) -> bool {
+    match file.metadata() {
+        Ok(other) => other.dev() == metadata.dev() && other.ino() == metadata.ino(),
+        Err(_) => false,
+    }
 }
 
 /// Reads from a place on. It only seeks where the file doesn't stand there: so a pipe can be read in order.
