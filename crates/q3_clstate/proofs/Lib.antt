@@ -7,6 +7,5 @@ mod Commands
 mod Below
 mod Hearing
 mod Stays
-mod Saving
 mod Within
 mod Printing

@@ -19,7 +19,7 @@ use Rattle.q3_clstate.specs.declared.applied.SnapOutcome.{SnapOutcome}
 use Rattle.q3_clstate.specs.declared.applied.SnapOutcome.TheVariants.{NoSnap, Skipped as SkippedFor, Stale}
 use Rattle.q3_clstate.specs.State.{AppliedState, new_state, context_of, passes, accepts, applies_game, is_stale, skipped_for, apply_section, hearing, apply_read, apply_at, state_after_message}
 use Rattle.q3_clstate.specs.Standing.{IsApplied}
-use Rattle.q3_clstate.specs.Saving.{IsWithin}
+use Rattle.q3_clstate.specs.Within.{IsWithin}
 use Rattle.q3_clstate.proofs.HeldStays.{context_is}
 
 -- each of what is held is at most so old

@@ -1,9 +1,11 @@
 -- How a client's state is kept, and what is done with a snapshot.
 use Rattle.std.specs.Prelude.{◌≡◌, ℕ, None, if◌then◌else◌}
+use Rattle.q3_profile.specs.declared.profile.Profile.{Profile}
 use Rattle.q3_entity_ring.specs.Snapshot.{Snapshot}
 use Rattle.q3_rings.specs.Rings.{HeldSnapshots, accept_at, held_snapshot}
 use Rattle.q3_clstate.specs.declared.applied.SnapOutcome.{SnapOutcome}
 use Rattle.q3_clstate.specs.declared.applied.SnapOutcome.TheVariants.{Accepted, Skipped, Stale}
+use Rattle.q3_clstate.specs.declared.contents.Contents.{Contents}
 use Rattle.q3_clstate.specs.declared.state.ClState.TheInside.{Inside}
 use Rattle.q3_clstate.specs.State.{AppliedState, is_stale, skipped_for}
 use Rattle.q3_clstate.specs.Standing.{IsApplied}
@@ -20,6 +22,21 @@ state_in s = record {
   strings = s.settings.strings;
   baselines = s.holding.baselines;
   held = s.holding.rings.held;
+}
+
+-- a state of these contents, by a profile
+abbrev pub state_by : Profile → Contents → AppliedState
+state_by profile contents = record {
+  profile = profile;
+  number = contents.number;
+  executed = contents.incoming;
+  has_game = contents.has_game;
+  id = contents.id;
+  slot = contents.slot;
+  feed = contents.feed;
+  strings = contents.configs;
+  baselines = contents.baselines;
+  held = contents.rings.held;
 }
 
 -- what is kept is well formed and in range, and no snapshot is being put back

@@ -2,5 +2,5 @@ pub mod State
 pub mod Report
 pub mod Kept
 pub mod Standing
-pub mod Saving
+pub mod Within
 pub mod Laws

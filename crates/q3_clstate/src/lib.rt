@@ -3,6 +3,7 @@
 #![tactic(auto)]
 
 pub mod applied;
+pub mod contents;
 mod holding;
 pub mod laws;
 pub mod print;
@@ -10,5 +11,6 @@ mod settings;
 pub mod state;
 
 pub use applied::{Applied, Log, SnapOutcome};
+pub use contents::Contents;
 pub use print::{print_applied, print_snapshot};
 pub use state::ClState;

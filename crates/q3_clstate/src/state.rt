@@ -5,18 +5,16 @@
 //! - Ours: which bases are held; that a snapshot without its base changes nothing; that config commands change strings as
 //!   messages are applied; that the last text becomes empty where a gamestate's command number isn't the last executed.
 
-ghost use Rattle.std.specs.Prelude.{◌≡◌, ◌<◌, ◌≤◌, All, option_map, slice_index_or, None, IfOk, IfSome};
+ghost use Rattle.std.specs.Prelude.{◌≡◌, ◌<◌, ◌≤◌, option_map, slice_index_or, None, IfOk, IfSome};
 ghost use Rattle.q3_entity.specs.Entities.{Rises, run_of};
 ghost use Rattle.q3_rings.specs.Loans.{snapshot_of, head_of, head_from};
 ghost use Rattle.q3_rings.specs.Rings.{AreHeldSnapshots, view_at};
 ghost use Rattle.q3_clstate.specs.Standing.{IsApplied};
-ghost use Rattle.q3_clstate.specs.Saving.{saved_in, ReadsState};
-ghost use Rattle.q3_savestate.specs.Buffers.{Appends};
-ghost use Rattle.q3_savestate.specs.Lending.{HasAges};
-ghost use Rattle.q3_savestate.specs.State.{state_bytes, state_at};
+ghost use Rattle.q3_clstate.specs.Kept.{state_by};
 ghost use Rattle.q3_clstate.specs.State.{new_state, apply_at, state_after_message, answered, heard_in};
 
 use crate::applied::{Applied, Log, SnapOutcome};
+use crate::contents::Contents;
 use crate::holding::Holding;
 use crate::laws;
 use crate::settings::MapSettings;
@@ -26,14 +24,13 @@ use q3_entity::Baselines;
 use q3_entity::laws::list_rises;
 use q3_profile::Profile;
 use q3_rings::{Held, NoBase, Rings, SnapView};
-use q3_savestate::{Parts, Saved, StateError, append_state};
 use q3_svmsg::{Illegible, Section, ServerMessage, read_server_message};
 use q3_text::Text;
 use q3_window::Incoming;
 use std::alloc::Global;
 use std::marker::Model;
 
-/// What the messages that were applied left. After `new` no call takes memory.
+/// What the messages that were applied left. No call but `new` and `of` takes memory.
 #[derive(Drop)]
 pub struct ClState {
     /// A copy of the one by which messages are read.
@@ -89,6 +86,30 @@ impl ClState {
             settings: MapSettings::new(alloc)?,
             holding: Holding::new(alloc, profile.parse_ring)?,
             message: ServerMessage::new(alloc)?,
+        })
+    }
+
+    /// A state of these contents, by this profile. `Err` is want of memory.
+    pub fn of(alloc: Global, profile: &Profile, contents: Contents) -> Result<ClState, NoMemory>
+        requires applied { IsApplied (state_by profile.now contents) }
+        requires none { contents.rings.begun ≡ None }
+        ensures { IfOk result (λ state. state ≡ state_by profile.now contents) }
+    {
+        let own = profile.copy()?;
+        let message = ServerMessage::new(alloc)?;
+        Ok(ClState {
+            profile: own,
+            number: contents.number,
+            incoming: contents.incoming,
+            has_game: contents.has_game,
+            slot: contents.slot,
+            feed: contents.feed,
+            settings: MapSettings::of(contents.configs, contents.id),
+            holding: Holding {
+                rings: contents.rings,
+                baselines: contents.baselines,
+            },
+            message,
         })
     }
 
@@ -153,54 +174,6 @@ impl ClState {
         })
     }
 
-    /// Puts the state after bytes, as an index of a demo keeps it. The ages of all snapshots that are held are below 2^32, as
-    /// they are after 1,048,576 messages at most. `Err` is want of memory; the bytes are as they were then.
-    pub fn write_state(&self, into: &mut Vec<u8>) -> Result<(), NoMemory>
-        requires ages { HasAges self.now.held }
-        ensures { Appends into.old.items into.new.items (state_bytes self.now.profile (saved_in self.now)) result }
-    {
-        let parts = Parts {
-            number: self.number,
-            incoming: &self.incoming,
-            has_game: self.has_game,
-            id: self.settings.id(),
-            slot: self.slot,
-            feed: self.feed,
-            configs: self.settings.configs(),
-            baselines: &self.holding.baselines,
-            rings: &self.holding.rings,
-        };
-        append_state(&self.profile, parts, into)
-    }
-
-    /// The state that bytes are, by a profile whose ring for a client's entities has 512 to 65,536 places. `Err` is want of
-    /// memory, or `NotState` exactly where they are none, with the place of the first field that is cut short or breaks a rule,
-    /// or of the first byte after the state.
-    pub fn read_state(alloc: Global, profile: &Profile, bytes: &[u8]) -> Result<ClState, StateError>
-        requires least { 512 ≤ profile.now.parse_ring }
-        requires most { profile.now.parse_ring ≤ 65536 }
-        ensures { ReadsState profile.now (state_at profile.now bytes.now) result }
-    {
-        bytes_fit(bytes);
-        laws::read_is_written();
-        let own = profile.copy()?;
-        let saved = Saved::read(alloc, profile, bytes)?;
-        Ok(ClState {
-            profile: own,
-            number: saved.number,
-            incoming: saved.incoming,
-            has_game: saved.has_game,
-            slot: saved.slot,
-            feed: saved.feed,
-            settings: MapSettings::of(saved.configs, saved.id),
-            holding: Holding {
-                rings: saved.rings,
-                baselines: saved.baselines,
-            },
-            message: ServerMessage::new(alloc)?,
-        })
-    }
-
     /// The profile by which messages are read.
     pub fn profile(&self) -> &Profile
         ensures profile { result.now ≡ self.now.profile }
@@ -214,6 +187,13 @@ impl ClState {
         ensures { result ≡ self.now.number }
     {
         self.number
+    }
+
+    /// The server's commands that were executed.
+    pub fn incoming(&self) -> &Incoming
+        ensures { result.now ≡ self.now.executed }
+    {
+        &self.incoming
     }
 
     /// The number of the last server command executed, 0 for none.
@@ -305,8 +285,3 @@ impl ClState {
         self.holding.rings.newest()
     }
 }
-
-/// Bytes are below 256, as their type tells.
-fn bytes_fit(bytes: &[u8])
-    ensures { All (λ byte. byte < 256) bytes.now }
-{}

@@ -6,7 +6,7 @@ use Rattle.std.proofs.lemmas.Bool.{eq-eqb, ne_eqb}
 use Rattle.std.proofs.lemmas.List.{length-drop}
 use Rattle.q3_profile.specs.declared.profile.Profile.{Profile}
 use Rattle.q3_savestate.specs.State.{state_bytes}
-use Rattle.q3_clstate.specs.Saving.{saved_in}
+use Rattle.q3_savestate.specs.Applied.{saved_in}
 use Rattle.q3_clstate.specs.Laws.{ApplyStays, WithinStays}
 use Rattle.q3_demo.specs.Playing.{Played, Stepped, step, last_of, most_records}
 use Rattle.q3_demo.proofs.Going.{was_played}

@@ -28,7 +28,7 @@ use Rattle.q3_savestate.specs.State.{Saved, flag_bytes, start_bytes, state_bytes
 use Rattle.q3_savestate.proofs.HeldInOrder.{none_or_one, held_from, held_is_there}
 use Rattle.q3_savestate.proofs.HeldRules.{in_order, few_are_held, each_at}
 use Rattle.q3_clstate.specs.State.{AppliedState}
-use Rattle.q3_clstate.specs.Saving.{saved_in}
+use Rattle.q3_savestate.specs.Applied.{saved_in}
 use Rattle.q3_clstate.specs.Standing.{IsWellHeld, IsApplied}
 
 -- ---- items

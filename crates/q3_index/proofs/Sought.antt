@@ -8,8 +8,9 @@ use Rattle.q3_profile.specs.declared.profile.Profile.{Profile}
 use Rattle.q3_profile.specs.Profile.{IsCodec}
 use Rattle.q3_entity.specs.Entities.{most_entities}
 use Rattle.q3_savestate.specs.State.{state_bytes, state_at}
-use Rattle.q3_clstate.specs.Saving.{saved_in, applied_by}
-use Rattle.q3_clstate.specs.Laws.{ApplyStays, WithinStays, WrittenIsRead}
+use Rattle.q3_savestate.specs.Applied.{saved_in, applied_by}
+use Rattle.q3_clstate.specs.Laws.{ApplyStays, WithinStays}
+use Rattle.q3_savestate.specs.Laws.{WrittenStateIsRead}
 use Rattle.q3_demo.specs.Playing.{Played, Stepped, unplayed, most_records, play_of, records_of, last_of, play_first}
 use Rattle.q3_demo.specs.Laws.{FirstRecordsLeave}
 use Rattle.q3_index.specs.declared.index.Checkpoint.{Checkpoint}
@@ -98,7 +99,7 @@ same_played profile played records at by count number place =
     ∙ ap (λ n. again played.state.profile played.records n at) number ∙ ap (again played.state.profile played.records played.last) place
 
 -- so it is restored from the bytes that were written of it
-restores : WrittenIsRead → (profile : Profile) (demo index : List ℕ) (records : ℕ) (checkpoint : Checkpoint) (played : Played) → Stands profile demo played → records ≡ played.records
+restores : WrittenStateIsRead → (profile : Profile) (demo index : List ℕ) (records : ℕ) (checkpoint : Checkpoint) (played : Played) → Stands profile demo played → records ≡ played.records
     → most_entities * played.records < 2 ^ 32 → checkpoint.place ≡ played.at → take checkpoint.length (drop checkpoint.state index) ≡ state_of profile played
     → restored profile index records checkpoint ≡ Ok played
 restores written profile demo index records checkpoint played stands count few place there =
@@ -131,7 +132,7 @@ begins_new version profile demo index number few =
     }
 
 -- or after a checkpoint
-begins_after : FirstRecordsLeave → WrittenIsRead → ApplyStays → WithinStays → (version : Version) (profile : Profile) (demo index : List ℕ) (number : ℕ) → IsCodec profile → 512 ≤ profile.parse_ring
+begins_after : FirstRecordsLeave → WrittenStateIsRead → ApplyStays → WithinStays → (version : Version) (profile : Profile) (demo index : List ℕ) (number : ℕ) → IsCodec profile → 512 ≤ profile.parse_ring
     → index_by version profile demo ≡ Ok index → number ≤ length (records_of profile demo) → spacing ≤ number → Begins version profile demo index number
 begins_after first written stays within version profile demo index number codec room is some above =
     let records : List Stepped = records_of profile demo in
@@ -155,7 +156,7 @@ begins_after first written stays within version profile demo index number codec 
     }
 
 -- either way
-begins : FirstRecordsLeave → WrittenIsRead → ApplyStays → WithinStays → (version : Version) (profile : Profile) (demo index : List ℕ) (number : ℕ) → IsCodec profile → 512 ≤ profile.parse_ring
+begins : FirstRecordsLeave → WrittenStateIsRead → ApplyStays → WithinStays → (version : Version) (profile : Profile) (demo index : List ℕ) (number : ℕ) → IsCodec profile → 512 ≤ profile.parse_ring
     → index_by version profile demo ≡ Ok index → number ≤ length (records_of profile demo) → Begins version profile demo index number
 begins first written stays within version profile demo index number codec room is some = elim (cases_lt number spacing) [
   | inl few ↦ begins_new version profile demo index number few
@@ -163,7 +164,7 @@ begins first written stays within version profile demo index number codec room i
 ]
 
 -- what is sought
-sought : FirstRecordsLeave → WrittenIsRead → ApplyStays → WithinStays → (version : Version) (profile : Profile) (demo index : List ℕ) (number : ℕ) (played : Played) → IsCodec profile → 512 ≤ profile.parse_ring
+sought : FirstRecordsLeave → WrittenStateIsRead → ApplyStays → WithinStays → (version : Version) (profile : Profile) (demo index : List ℕ) (number : ℕ) (played : Played) → IsCodec profile → 512 ≤ profile.parse_ring
     → index_by version profile demo ≡ Ok index → number ≤ length (records_of profile demo) → play_first number demo (unplayed profile) ≡ Ok played
     → seek_at profile demo index (heads_of version profile demo).records (heads_of version profile demo).checkpoints number ≡ Ok played
 unfolding seek_at
@@ -173,7 +174,7 @@ sought first written stays within version profile demo index number played codec
     (bind_is _ _ from.start _ from.begins (ap (fault_as seeking.Demo) (sym from.goes_on ∙ plays)))
 
 -- the law on seeking
-pub seeking_is_playing : FirstRecordsLeave → WrittenIsRead → ApplyStays → WithinStays → SeekingIsPlaying
+pub seeking_is_playing : FirstRecordsLeave → WrittenStateIsRead → ApplyStays → WithinStays → SeekingIsPlaying
 seeking_is_playing first written stays within version profile demo index heads number tells codec room mark long is opens some =
     let played : Played = last_of (unplayed profile) (take number (records_of profile demo)) in
     let plays = first.first profile demo number some in
@@ -185,7 +186,7 @@ seeking_is_playing first written stays within version profile demo index heads n
     )
 
 -- the law on where it begins
-pub seeking_goes_on : FirstRecordsLeave → WrittenIsRead → ApplyStays → WithinStays → SeekingGoesOn
+pub seeking_goes_on : FirstRecordsLeave → WrittenStateIsRead → ApplyStays → WithinStays → SeekingGoesOn
 seeking_goes_on first written stays within version profile demo index heads number tells codec room mark long is opens some =
     let start : Played = played_after profile demo (spacing * (number / spacing)) in
     let last : Played = played_after profile demo number in

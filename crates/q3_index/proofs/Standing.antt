@@ -16,7 +16,7 @@ use Rattle.q3_rings.specs.Rings.{held_snapshot}
 use Rattle.q3_clstate.specs.declared.applied.SnapOutcome.TheVariants.{Stale, Skipped as SkippedFor}
 use Rattle.q3_clstate.specs.State.{AppliedState, Application, context_of, passes, accepts, is_stale, skipped_for, apply_section, hearing, apply_read, apply_at, state_after_message}
 use Rattle.q3_clstate.specs.Standing.{IsApplied}
-use Rattle.q3_clstate.specs.Saving.{IsWithin}
+use Rattle.q3_clstate.specs.Within.{IsWithin}
 use Rattle.q3_clstate.specs.Laws.{ApplyStays, WithinStays}
 use Rattle.q3_demo.specs.declared.error.DemoError.{DemoError}
 use Rattle.q3_demo.specs.declared.error.DemoError.TheVariants.{Message as NoMessage}

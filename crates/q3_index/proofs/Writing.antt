@@ -15,7 +15,7 @@ use Rattle.q3_savestate.specs.Lending.{HasAges}
 use Rattle.q3_clstate.specs.declared.applied.Applied.{Applied}
 use Rattle.q3_clstate.specs.State.{Application, apply_at, state_after_message}
 use Rattle.q3_clstate.specs.Standing.{IsApplied}
-use Rattle.q3_clstate.specs.Saving.{IsWithin}
+use Rattle.q3_clstate.specs.Within.{IsWithin}
 use Rattle.q3_clstate.specs.Laws.{WithinStays}
 use Rattle.q3_demo.specs.declared.error.DemoError.{DemoError}
 use Rattle.q3_demo.specs.declared.error.DemoError.TheVariants.{ReadFault, Truncated, BadLength, BadNumber, Message as NoMessage, NoMemory, WriteFault}

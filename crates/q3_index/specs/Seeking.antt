@@ -3,7 +3,7 @@ use Rattle.std.specs.Prelude.{ℕ, ◌+◌, ◌*◌, ◌-◌, ◌/◌, nat_lt, i
 use Rattle.q3_bits.specs.ResultBind.{◌>>=◌, fault_as}
 use Rattle.q3_profile.specs.declared.profile.Profile.{Profile}
 use Rattle.q3_savestate.specs.State.{state_at}
-use Rattle.q3_clstate.specs.Saving.{applied_by}
+use Rattle.q3_savestate.specs.Applied.{applied_by}
 use Rattle.q3_demo.specs.Playing.{Played, unplayed, records_of, last_of, play_first}
 use Rattle.q3_index.specs.declared.index.Checkpoint.{Checkpoint}
 use Rattle.q3_index.specs.declared.error.SeekError.{SeekError}

@@ -8,7 +8,7 @@ use Rattle.q3_entity.specs.Entities.{most_entities}
 use Rattle.q3_profile.specs.declared.profile.Profile.{Profile}
 use Rattle.q3_savestate.specs.Cursor.{Cursor, Field, field_at, number_at}
 use Rattle.q3_savestate.specs.State.{Saved, state_at}
-use Rattle.q3_clstate.specs.Saving.{IsWithin}
+use Rattle.q3_clstate.specs.Within.{IsWithin}
 use Rattle.q3_demo.specs.Player.{PlayerState}
 use Rattle.q3_demo.specs.Steps.{Leads}
 use Rattle.q3_demo.specs.Playing.{Played, Stepped, step, go_on}

@@ -7,7 +7,7 @@ use Rattle.q3_bits.specs.ResultBind.{◌>>=◌}
 use Rattle.q3_fields.specs.Kinds.{least_number_bits}
 use Rattle.q3_profile.specs.declared.profile.Profile.{Profile}
 use Rattle.q3_savestate.specs.State.{state_bytes}
-use Rattle.q3_clstate.specs.Saving.{saved_in}
+use Rattle.q3_savestate.specs.Applied.{saved_in}
 use Rattle.q3_demo.specs.declared.error.DemoError.{DemoError}
 use Rattle.q3_demo.specs.Playing.{Played, Stepped, records_of, play_of}
 use Rattle.q3_index.specs.declared.opening.Version.{Version}

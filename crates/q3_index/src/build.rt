@@ -19,6 +19,7 @@ use q3_clstate::laws::within_stays;
 use q3_demo::{DemoError, Player};
 use q3_io::Files;
 use q3_profile::Profile;
+use q3_savestate::append_state;
 use std::alloc::Global;
 
 /// How many records and how many checkpoints an index has.
@@ -250,7 +251,7 @@ fn write_checkpoint<F: Files>(
     ensures others { F.faults files.new ≡ F.faults files.old }
 {
     bytes.clear();
-    player.state().write_state(bytes)?;
+    append_state(player.state(), bytes)?;
     write_numbers(player.records(), player.place(), bytes.len(), files, index)?;
     append(files, index, bytes)
 }

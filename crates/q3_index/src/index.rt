@@ -2,7 +2,7 @@
 
 ghost use Rattle.std.specs.Prelude.{◌≡◌, ◌≢◌, ◌+◌, ◌*◌, ◌-◌, ◌/◌, ◌<◌, ◌≤◌, IsTrue, length, Some, Ok, Err, IfOk, IfErr, IfSome, OnOk};
 ghost use Rattle.q3_io.specs.Told.{Told, contents_at};
-ghost use Rattle.q3_clstate.specs.Saving.{saved_in};
+ghost use Rattle.q3_savestate.specs.Applied.{saved_in};
 ghost use Rattle.q3_demo.specs.Playing.{Played, Stepped, records_of, step, play_first};
 ghost use Rattle.q3_demo.specs.Running.{OnlyAsks, AsksOf, asked_of};
 ghost use Rattle.q3_bits.specs.ResultBind.{fault_as};
@@ -18,7 +18,7 @@ use q3_demo::laws::refused_for_its_bytes;
 use q3_demo::{DemoError, Player, read_whole};
 use q3_io::Files;
 use q3_profile::Profile;
-use q3_savestate::StateError;
+use q3_savestate::{StateError, read_state};
 use std::alloc::Global;
 use std::marker::Model;
 
@@ -197,13 +197,13 @@ fn restore<F: Files>(
     ensures cause { SeekCause (F.faults files.old) (F.faults files.new) result }
     ensures others { F.write_faults files.new ≡ F.write_faults files.old }
 {
-    let state = read_state(alloc, profile, files, index, checkpoint)?;
+    let state = checkpoint_state(alloc, profile, files, index, checkpoint)?;
     Ok(Player::from_state(alloc, state, records, checkpoint.place)?)
 }
 
 /// The state of a checkpoint.
 #[tactic(auto, using(crate::proofs::Asking::asks_same))]
-fn read_state<F: Files>(
+fn checkpoint_state<F: Files>(
     alloc: Global,
     profile: &Profile,
     files: &mut F,
@@ -229,7 +229,7 @@ fn read_state<F: Files>(
         Ok(count) => count,
         Err(_) => return Err(SeekError::ReadFault),
     };
-    match ClState::read_state(alloc, profile, &bytes[..count]) {
+    match read_state(alloc, profile, &bytes[..count]) {
         Ok(state) => Ok(state),
         Err(StateError::NoMemory) => Err(SeekError::NoMemory),
         Err(StateError::NotState(place)) => Err(SeekError::NotIndex(

@@ -4,6 +4,7 @@ ghost use Rattle.q3_index.specs.Laws.{IndexOpens, SeekingGoesOn, SeekingIsPlayin
 
 use q3_clstate::laws as states;
 use q3_demo::laws as demos;
+use q3_savestate::laws as saving;
 
 /// The index of a demo opens with it.
 pub fn index_opens()
@@ -18,7 +19,7 @@ pub fn seeking_is_playing()
     ensures { SeekingIsPlaying }
 {
     demos::first_records_leave();
-    states::written_is_read();
+    saving::written_state_is_read();
     states::apply_stays();
     states::within_stays();
 }
@@ -28,7 +29,7 @@ pub fn seeking_goes_on()
     ensures { SeekingGoesOn }
 {
     demos::first_records_leave();
-    states::written_is_read();
+    saving::written_state_is_read();
     states::apply_stays();
     states::within_stays();
 }

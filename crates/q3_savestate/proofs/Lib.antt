@@ -29,3 +29,4 @@ mod SnapshotsRead
 mod SetStrings
 mod StringsRead
 mod Starts
+mod Saving

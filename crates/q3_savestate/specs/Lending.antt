@@ -1,39 +1,26 @@
--- What the program lends of a state that is written, and what it makes of one that is read.
+-- What the program asks of a state that is written, and what it makes of one that is read.
 use Rattle.std.specs.Prelude.{◌≡◌, ℕ, ◌^◌, ◌<◌, Bool, ⊤, All, None, IfSome, Result, Ok, Err}
 use Rattle.q3_config.specs.Strings.{Strings}
 use Rattle.q3_entity.specs.Baselines.{Baselines}
 use Rattle.q3_rings.specs.Rings.{HeldSnapshots}
+use Rattle.q3_clstate.specs.declared.contents.Contents.{Contents}
 use Rattle.q3_savestate.specs.declared.error.StateError.{StateError}
 use Rattle.q3_savestate.specs.declared.error.StateError.TheVariants.{NoMemory, NotState}
-use Rattle.q3_savestate.specs.declared.state.Parts.{Parts}
-use Rattle.q3_savestate.specs.declared.state.Saved as read
 use Rattle.q3_savestate.specs.declared.state.Start as started
 use Rattle.q3_savestate.specs.State.{Saved, Start}
 
-abbrev pub parts_of : Parts → Saved
-parts_of parts = record {
-  number = parts.number;
-  executed = parts.incoming.now;
-  has_game = parts.has_game;
-  id = parts.id;
-  slot = parts.slot;
-  feed = parts.feed;
-  strings = parts.configs.now;
-  baselines = parts.baselines.now;
-  held = parts.rings.now.held;
-}
-
-abbrev pub saved_of : read.Saved → Saved
-saved_of saved = record {
-  number = saved.number;
-  executed = saved.incoming;
-  has_game = saved.has_game;
-  id = saved.id;
-  slot = saved.slot;
-  feed = saved.feed;
-  strings = saved.configs;
-  baselines = saved.baselines;
-  held = saved.rings.held;
+-- what was read of a state
+abbrev pub saved_of : Contents → Saved
+saved_of contents = record {
+  number = contents.number;
+  executed = contents.incoming;
+  has_game = contents.has_game;
+  id = contents.id;
+  slot = contents.slot;
+  feed = contents.feed;
+  strings = contents.configs;
+  baselines = contents.baselines;
+  held = contents.rings.held;
 }
 
 abbrev pub start_of : started.Start → Start
@@ -57,8 +44,8 @@ saved_from start has_game strings baselines held = record {
 abbrev pub HasAges : HeldSnapshots → Type 0
 HasAges snapshots = All (λ place. IfSome place (λ held. held.age < 2 ^ 32)) snapshots.places
 
--- a state was read, or the bytes are none, or memory was wanted
-abbrev pub ReadsState : Result Saved ℕ → Result read.Saved StateError → Type 0
-ReadsState whole (Ok saved) = (whole ≡ Ok (saved_of saved)) × (saved.rings.begun ≡ None)
-ReadsState whole (Err NoMemory) = ⊤
-ReadsState whole (Err (NotState place)) = whole ≡ Err place
+-- the contents of a state were read, or the bytes are none, or memory was wanted
+abbrev pub ReadsContents : Result Saved ℕ → Result Contents StateError → Type 0
+ReadsContents whole (Ok contents) = (whole ≡ Ok (saved_of contents)) × (contents.rings.begun ≡ None)
+ReadsContents whole (Err NoMemory) = ⊤
+ReadsContents whole (Err (NotState place)) = whole ≡ Err place

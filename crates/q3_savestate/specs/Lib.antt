@@ -4,6 +4,7 @@ pub mod Entities
 pub mod Texts
 pub mod Snapshots
 pub mod State
+pub mod Applied
 pub mod Lending
 pub mod Reading
 pub mod Standing

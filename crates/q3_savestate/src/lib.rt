@@ -17,4 +17,4 @@ pub use append::append_state;
 pub use buffer::Buffer;
 pub use cursor::Cursor;
 pub use error::StateError;
-pub use state::{Parts, Saved};
+pub use state::read_state;

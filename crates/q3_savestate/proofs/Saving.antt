@@ -5,13 +5,13 @@ use Rattle.std.proofs.lemmas.List.Elements.{All-get_or, All-from_get_or, All-wea
 use Rattle.q3_profile.specs.declared.profile.Profile.{Profile}
 use Rattle.q3_profile.specs.Profile.{IsCodec}
 use Rattle.q3_rings.specs.Rings.{HeldSnapshot, IsHeldIn}
-use Rattle.q3_savestate.specs.Standing.{IsHeldWell, IsSaved}
-use Rattle.q3_savestate.specs.State.{Saved, state_bytes, state_at}
-use Rattle.q3_savestate.specs.Laws as saving
 use Rattle.q3_clstate.specs.State.{AppliedState}
 use Rattle.q3_clstate.specs.Standing.{IsWellHeld, IsApplied}
-use Rattle.q3_clstate.specs.Saving.{saved_in, applied_by, IsWithin}
-use Rattle.q3_clstate.specs.Laws.{SavedIsApplied}
+use Rattle.q3_clstate.specs.Within.{IsWithin}
+use Rattle.q3_savestate.specs.Standing.{IsHeldWell, IsSaved}
+use Rattle.q3_savestate.specs.State.{Saved, state_bytes, state_at}
+use Rattle.q3_savestate.specs.Applied.{saved_in, applied_by}
+use Rattle.q3_savestate.specs.Laws.{WrittenIsRead, ReadIsWritten, SavedIsApplied}
 
 -- what is held in a place: in its number's range by the newest, and of an age within the limit
 saved_place : (profile : Profile) (ring newest most at : ℕ) (place : Option HeldSnapshot) → newest < 2 ^ 31 → most < 2 ^ 32
@@ -92,14 +92,14 @@ saved_is_state profile saved codec is =
 
 -- ---- the laws
 
-pub written_is_read : SavedIsApplied → saving.WrittenIsRead → (state : AppliedState) (most : ℕ) → most < 2 ^ 32 → IsApplied state → IsWithin most state
+pub written_state_is_read : SavedIsApplied → WrittenIsRead → (state : AppliedState) (most : ℕ) → most < 2 ^ 32 → IsApplied state → IsWithin most state
     → state_at state.profile (state_bytes state.profile (saved_in state)) ≡ Ok (saved_in state)
-written_is_read law below state most limit is within =
+written_state_is_read law below state most limit is within =
     let room : 512 ≤ state.profile.parse_ring = (let here = is.room in let least = is.held.ring in omega arith) in
     below state.profile (saved_in state) is.profile room (law.saved state most limit is within)
 
-pub read_is_written : SavedIsApplied → saving.ReadIsWritten → (profile : Profile) (bytes : List ℕ) (saved : Saved) → IsCodec profile → 512 ≤ profile.parse_ring
+pub read_state_is_written : SavedIsApplied → ReadIsWritten → (profile : Profile) (bytes : List ℕ) (saved : Saved) → IsCodec profile → 512 ≤ profile.parse_ring
     → All (λ byte. byte < 256) bytes → state_at profile bytes ≡ Ok saved → IsApplied (applied_by profile saved) × (bytes ≡ state_bytes profile saved)
-read_is_written law below profile bytes saved codec room each read =
+read_state_is_written law below profile bytes saved codec room each read =
     let was = below profile bytes saved codec room each read in
     (law.applied profile saved codec was.0, was.1)

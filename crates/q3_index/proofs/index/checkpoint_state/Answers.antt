@@ -1,7 +1,7 @@
 use Rattle.std.proofs.Common.{ℕ, List, take, arith}
 use Rattle.std.proofs.lemmas.List.{length-take}
 use Rattle.q3_index.proofs.Places.{refused_within}
-use Rattle.q3_index.proofs.index.read_state.Goals as goal
+use Rattle.q3_index.proofs.index.checkpoint_state.Goals as goal
 
 pub overflow_add-result : goal.overflow_add-result
 overflow_add-result g c =

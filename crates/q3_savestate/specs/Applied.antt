@@ -1,10 +1,10 @@
--- A state as it is saved, and how far what it counts may go.
-use Rattle.std.specs.Prelude.{◌≡◌, ℕ, ◌^◌, ◌<◌, ◌≤◌, ⊤, All, IfSome, Result, Ok, Err}
+-- A client's state as it is saved.
+use Rattle.std.specs.Prelude.{◌≡◌, ℕ, ⊤, Result, Ok, Err}
 use Rattle.q3_profile.specs.declared.profile.Profile.{Profile}
-use Rattle.q3_savestate.specs.State.{Saved}
+use Rattle.q3_clstate.specs.State.{AppliedState}
 use Rattle.q3_savestate.specs.declared.error.StateError.{StateError}
 use Rattle.q3_savestate.specs.declared.error.StateError.TheVariants.{NoMemory, NotState}
-use Rattle.q3_clstate.specs.State.{AppliedState}
+use Rattle.q3_savestate.specs.State.{Saved}
 
 -- all but the profile
 abbrev pub saved_in : AppliedState → Saved
@@ -40,9 +40,3 @@ abbrev pub ReadsState : Profile → Result Saved ℕ → Result AppliedState Sta
 ReadsState profile whole (Ok state) = (whole ≡ Ok (saved_in state)) × (state.profile ≡ profile)
 ReadsState profile whole (Err NoMemory) = ⊤
 ReadsState profile whole (Err (NotState place)) = whole ≡ Err place
-
--- messages have numbers below 2^31, and what is held is at most so old
-pub record IsWithin (most : ℕ) (state : AppliedState) : Type 0 where
-  pub number : state.number < 2 ^ 31
-  pub newest : state.held.newest < 2 ^ 31
-  pub ages : All (λ place. IfSome place (λ held. held.age ≤ most)) state.held.places
