@@ -13,3 +13,4 @@ pub mod Outcome
 pub mod Doing
 pub mod Answering
 pub mod ByTags
+pub mod Forgetting

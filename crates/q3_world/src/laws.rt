@@ -2,6 +2,7 @@
 
 ghost use Rattle.q3_world.specs.Apart.{SlotsApart};
 ghost use Rattle.q3_world.specs.ByTags.{BytesFollowTags, StepFollows};
+ghost use Rattle.q3_world.specs.Forgetting.{ForgettingIsAlike};
 ghost use Rattle.q3_world.specs.Layers.{Layers};
 
 use q3_bits::laws as bits;
@@ -80,3 +81,8 @@ pub fn slots_apart()
 {
     layers();
 }
+
+/// Lines answer alike, and do alike to files, whatever datagrams were forgotten that none of them names.
+pub fn forgetting_is_alike()
+    ensures { ForgettingIsAlike }
+{}

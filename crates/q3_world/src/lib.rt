@@ -3,6 +3,7 @@
 
 pub mod counts;
 mod ends;
+pub mod later;
 pub mod laws;
 mod made;
 mod places;
@@ -10,5 +11,6 @@ pub mod told;
 pub mod world;
 
 pub use counts::Counts;
+pub use later::Later;
 pub use told::StepError;
 pub use world::World;

@@ -3,12 +3,13 @@
 ghost use Rattle.std.specs.Prelude.{◌≡◌, ◌<◌, ◌≤◌, ◌+◌, [], length, vec_capacity, Option, OnOk, IfOk};
 ghost use Rattle.q3_chan.specs.Sending.{Piece, HandsOut};
 ghost use Rattle.q3_server.specs.Server.{places};
+ghost use Rattle.q3_world.specs.Forgetting.{forgotten};
 ghost use Rattle.q3_world.specs.Kept.{datagrams_after};
 
 use q3_bits::NoMemory;
 use q3_chan::{DATAGRAM_ROOM, Datagram};
 use q3_io::Address;
-use std::alloc::Global;
+use std::alloc::{AllocError, Global};
 use std::marker::Model;
 
 /// Which end a datagram goes to.
@@ -42,15 +43,48 @@ impl Model for Made {
     ghost invariant = { λ s. s.client < places };
 }
 
-/// Room among the datagrams for one more, and for its bytes. `Err` is want of memory.
-pub(crate) fn room_for_one(alloc: Global, datagrams: &mut Vec<Made>) -> Result<Vec<u8>, NoMemory>
+impl Made {
+    /// Its bytes are let go.
+    pub fn forget(&mut self)
+        ensures { self.new ≡ record self.old { bytes = [] } }
+    {
+        self.bytes = Vec::new(*self.bytes.allocator());
+    }
+}
+
+/// Room among the datagrams for one more, and for its bytes, where they may take so many more. `Err` is want of memory.
+pub(crate) fn room_for_one(
+    alloc: Global,
+    room: usize,
+    datagrams: &mut Vec<Made>,
+) -> Result<Vec<u8>, NoMemory>
     ensures same { datagrams.new.items ≡ datagrams.old.items }
     ensures room { OnOk result (length datagrams.new.items + 1 ≤ vec_capacity datagrams.new) }
     ensures bytes { IfOk result (λ bytes. (bytes.items ≡ []) × (DATAGRAM_ROOM ≤ vec_capacity bytes)) }
 {
+    if room < DATAGRAM_ROOM {
+        return Err(AllocError);
+    }
     let bytes = Vec::with_capacity(alloc, DATAGRAM_ROOM)?;
     datagrams.reserve(1)?;
     Ok(bytes)
+}
+
+/// The bytes of the datagram at a place are let go, if there is one.
+pub(crate) fn forget_at(datagrams: &mut Vec<Made>, at: usize)
+    ensures { datagrams.new.items ≡ forgotten datagrams.old.items at }
+{
+    if let Some(sent) = datagrams.get_mut(at) {
+        sent.forget();
+    }
+}
+
+/// How many bytes the datagram at a place has, 0 where there is none.
+pub(crate) fn bytes_at(datagrams: &[Made], at: usize) -> usize {
+    match datagrams.get(at) {
+        Some(sent) => sent.bytes.len(),
+        None => 0,
+    }
 }
 
 /// Keeps what was handed out for a client, or by it, if anything was: there is room for it.

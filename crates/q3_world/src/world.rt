@@ -1,6 +1,6 @@
 //! Both ends over a schedule of events: the world of a replay.
 
-ghost use Rattle.std.specs.Prelude.{◌≡◌, ◌+◌, ◌-◌, ◌<◌, ◌≤◌, ℕ, Option, length, slice_get, option_map, IfOk, IfSome, IsSome, OnOk, IsErrOf};
+ghost use Rattle.std.specs.Prelude.{◌≡◌, ◌+◌, ◌-◌, ◌<◌, ◌≤◌, ℕ, List, Option, drop, length, slice_get, option_map, IfOk, IfSome, IsSome, OnOk, IsErrOf};
 ghost use Rattle.q3_profile.specs.declared.profile.Profile.{Profile as ProfileValue};
 ghost use Rattle.q3_profile.specs.Profile.{IsProfile, IsCodec};
 ghost use Rattle.q3_script.specs.Grammar.{IsReplayEvent};
@@ -9,16 +9,19 @@ ghost use Rattle.q3_server.specs.Server.{places, emit_at};
 ghost use Rattle.q3_report.specs.AnswerLines.{lines_of};
 ghost use Rattle.q3_report.specs.Answers.{Bytes};
 ghost use Rattle.q3_world.specs.Counts.{no_counts, counted};
+ghost use Rattle.q3_world.specs.Forgetting.{AreAlike, TellsLast};
+ghost use Rattle.q3_script.specs.declared.event.Event.{Event as EventValue};
 ghost use Rattle.q3_world.specs.Ends.{place_at, step_in, line_of};
-ghost use Rattle.q3_world.specs.Kept.{most_datagrams, opening_kept, deliver_at, kept_bytes, kept_ends, kept_serve, kept_send, kept_step};
+ghost use Rattle.q3_world.specs.Kept.{Kept as KeptValue, most_datagrams, opening_kept, deliver_at, kept_bytes, kept_ends, kept_serve, kept_send, kept_step};
 ghost use Rattle.q3_world.specs.World.{Whole, opening, step as step_of};
 ghost use Rattle.q3_world.specs.StandsFor.{StandsFor};
 ghost use Rattle.q3_world.specs.Outcome.{TakesMemory, Prints, HasStepCause};
 
 use crate::counts::Counts;
 use crate::ends::Ends;
+use crate::later::{Later, named};
 use crate::laws;
-use crate::made::{Made, room_for_one};
+use crate::made::{Made, bytes_at, forget_at, room_for_one};
 use crate::told::{StepError, tell};
 use q3_bits::NoMemory;
 use q3_clstate::Log;
@@ -40,8 +43,10 @@ pub struct World {
     profile: Profile,
     /// The server, and each client that was added.
     ends: Ends,
-    /// Every datagram that was made, that of the number 1 first.
+    /// Every datagram that was made, that of the number 1 first. Those that were forgotten have no bytes any more.
     datagrams: Vec<Made>,
+    /// How many more bytes the datagrams may take together.
+    room: usize,
     /// Of the lines that were printed.
     counts: Counts,
     /// What a client executed last, in a box.
@@ -73,8 +78,9 @@ impl World {
     ghost use Rattle.q3_ends.specs.Recording.{WritesFiles};
     ghost use Rattle.q3_io.specs.Told.{Told};
 
-    /// A world by this profile, with no client, nothing sent, and the time 0. `Err` is want of memory.
-    pub fn new(alloc: Global, profile: &Profile) -> Result<World, NoMemory>
+    /// A world by this profile, with no client, nothing sent, and the time 0. The datagrams that are made and not forgotten may take so
+    /// many bytes together: beyond that `serve` and `send` want memory. `Err` is want of memory.
+    pub fn new(alloc: Global, profile: &Profile, room: usize) -> Result<World, NoMemory>
         requires { IsProfile profile.now }
         ensures stands { IfOk result (λ world. StandsFor profile.now world.kept (opening profile.now)) }
         ensures counts { IfOk result (λ world. world.counts ≡ no_counts) }
@@ -82,12 +88,12 @@ impl World {
             → AreNumbered told given world.numbers world.kept.ends) }
     {
         laws::layers();
-        let world = World::empty(alloc, profile)?;
+        let world = World::empty(alloc, profile, room)?;
         Ok(world)
     }
 
     /// What a world begins as.
-    fn empty(alloc: Global, profile: &Profile) -> Result<World, NoMemory>
+    fn empty(alloc: Global, profile: &Profile, room: usize) -> Result<World, NoMemory>
         requires { IsProfile profile.now }
         ensures made { IfOk result (λ world. (world.kept ≡ opening_kept profile.now) × (world.counts ≡ no_counts)) }
         ensures codec { OnOk result (IsCodec profile.now) }
@@ -100,6 +106,7 @@ impl World {
             profile: copy,
             ends,
             datagrams: Vec::new(alloc),
+            room,
             counts: Counts::none(),
             log,
             heard,
@@ -219,11 +226,15 @@ impl World {
             (kept_serve self.old.kept c (emit_at self.old.kept.ends.server c)) result }
         ensures leaves { LeavesRecordings self.old self.new result }
     {
-        let Ok(bytes) = room_for_one(self.alloc, &mut self.datagrams) else {
+        let Ok(bytes) = room_for_one(self.alloc, self.room, &mut self.datagrams) else {
             return Err(StepError::NoMemory);
         };
-        self.ends
-            .serve(c, &mut self.datagrams, bytes, &mut self.counts, out)
+        let at = self.datagrams.len();
+        let served = self
+            .ends
+            .serve(c, &mut self.datagrams, bytes, &mut self.counts, out);
+        self.room = self.room.saturating_sub(bytes_at(&self.datagrams, at));
+        served
     }
 
     /// A client makes a datagram, whose memory is taken first.
@@ -235,11 +246,15 @@ impl World {
             (kept_send self.old.kept c (place_at self.old.kept.ends c)) result }
         ensures leaves { LeavesRecordings self.old self.new result }
     {
-        let Ok(bytes) = room_for_one(self.alloc, &mut self.datagrams) else {
+        let Ok(bytes) = room_for_one(self.alloc, self.room, &mut self.datagrams) else {
             return Err(StepError::NoMemory);
         };
-        self.ends
-            .send(c, &mut self.datagrams, bytes, &mut self.counts, out)
+        let at = self.datagrams.len();
+        let sent = self
+            .ends
+            .send(c, &mut self.datagrams, bytes, &mut self.counts, out);
+        self.room = self.room.saturating_sub(bytes_at(&self.datagrams, at));
+        sent
     }
 
     /// A datagram arrives: the end that it goes to takes the stored bytes.
@@ -304,6 +319,39 @@ impl World {
         ensures numbered { AreNumbered (F.told files.new) (F.given files.new) self.new.numbers self.new.kept.ends }
     {
         self.ends.finish(&self.numbers, files)
+    }
+
+    /// After a line of a script, with which so many of its lines are done: the datagram that it named, and the newest one, are let go, each if
+    /// none of the others names it. Those do then as they would have done.
+    pub fn forget_unnamed(&mut self, later: &Later, event: &Event, done: usize)
+        ensures alike { (all : List EventValue) (other : KeptValue) → TellsLast later.now all
+            → AreAlike (drop done all) self.old.kept other → AreAlike (drop done all) self.new.kept other }
+        ensures many { length self.new.kept.datagrams ≡ length self.old.kept.datagrams }
+        ensures others { self.new ≡ record self.old
+            { kept = record self.old.kept { datagrams = self.new.kept.datagrams } } }
+    {
+        if let Some(at) = named(event) {
+            self.forget(later, at, done);
+        }
+        let made = self.datagrams.len();
+        if made > 0 {
+            self.forget(later, made - 1, done);
+        }
+    }
+
+    /// The bytes of the datagram at a place are let go, if no line after so many names it.
+    fn forget(&mut self, later: &Later, at: usize, done: usize)
+        ensures alike { (all : List EventValue) (other : KeptValue) → TellsLast later.now all
+            → AreAlike (drop done all) self.old.kept other → AreAlike (drop done all) self.new.kept other }
+        ensures many { length self.new.kept.datagrams ≡ length self.old.kept.datagrams }
+        ensures others { self.new ≡ record self.old
+            { kept = record self.old.kept { datagrams = self.new.kept.datagrams } } }
+    {
+        laws::forgetting_is_alike();
+        if later.is_silent(at, done) {
+            self.room = self.room.saturating_add(bytes_at(&self.datagrams, at));
+            forget_at(&mut self.datagrams, at);
+        }
     }
 
     /// What was counted of the lines of all events so far.

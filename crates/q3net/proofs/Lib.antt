@@ -3,6 +3,7 @@ mod Loading
 mod Acting
 mod Looking
 mod Stepping
+mod Thinning
 mod Totals
 mod Ending
 mod Outside

@@ -18,8 +18,14 @@ use crate::fault::Fault;
 use crate::input::{load_events, load_profile};
 use q3_io::{Files, Sink};
 use q3_script::{Event, ScriptKind};
-use q3_world::{StepError, World};
+use q3_world::{Later, StepError, World, laws};
 use std::alloc::Global;
+
+/// How many bytes datagrams that later lines name may take at once: so many, and so many for each line of the script. So a replay takes
+/// at most twenty times the bytes of its script, beside what its profile's rings need and a megabyte.
+const ROOM: usize = 1_048_576;
+
+const ROOM_OF_A_LINE: usize = 128;
 
 /// Replays the script of this name by the profile of that name, prints its report, and writes what clients record.
 pub fn replay<F: Files, O: Sink>(
@@ -40,16 +46,18 @@ pub fn replay<F: Files, O: Sink>(
     q3_io::laws::texts_follow();
     let profile = load_profile(alloc, profile, files)?;
     let events = load_events(alloc, ScriptKind::Replay, script, files)?;
-    let mut world = World::new(alloc, &profile)?;
-    step_all(&mut world, &events, files, out)?;
+    let room = ROOM + ROOM_OF_A_LINE * events.len();
+    let mut world = World::new(alloc, &profile, room)?;
+    step_all(alloc, &mut world, &events, files, out)?;
     let Ok(()) = world.finish(files) else {
         return Err(Fault::FileWrite);
     };
     Ok(())
 }
 
-/// Steps over the events: prints their lines, and writes what clients record.
+/// Steps over the events: prints their lines, and writes what clients record. Datagrams that no later line names are forgotten.
 fn step_all<F: Files, O: Sink>(
+    alloc: Global,
     world: &mut World,
     events: &[Event],
     files: &mut F,
@@ -68,8 +76,17 @@ fn step_all<F: Files, O: Sink>(
     ensures numbered { AreNumbered (F.told files.new) (F.given files.new) world.new.numbers world.new.kept.ends }
 {
     q3_io::laws::texts_follow();
+    laws::step_follows();
+    laws::forgetting_is_alike();
+    let later = match Later::of(alloc, events) {
+        Ok(later) => later,
+        Err(_) => return Err(StepError::NoMemory),
+    };
+    let mut done = 0;
     for event in events {
         world.step(event, files, out)?;
+        done += 1;
+        world.forget_unnamed(&later, event, done);
     }
     Ok(())
 }
