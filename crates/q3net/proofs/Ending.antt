@@ -8,107 +8,20 @@ use Rattle.q3_io.specs.Written.{Written, Wrote}
 use Rattle.q3_node.specs.declared.error.NodeError.{NodeError}
 use Rattle.q3_node.specs.declared.error.NodeError.TheVariants as node
 use Rattle.q3_node.specs.Node.{Turn, text_of}
-use Rattle.q3net.specs.declared.fault.Fault.{Fault}
-use Rattle.q3net.specs.declared.fault.Fault.TheVariants as faults
+use Rattle.q3_runs.specs.declared.fault.Fault.{Fault}
+use Rattle.q3_runs.specs.declared.fault.Fault.TheVariants as faults
 use Rattle.q3_command.specs.Command.{Command}
-use Rattle.q3net.specs.Lines.{fault_status, ending_status, ending_line}
-use Rattle.q3net.specs.Faults.{Gets, node_fault, FileCause}
-use Rattle.q3net.specs.Verdict.{Place, Nowhere, First, Anywhere, Stops, Verdict, Outside, IsVerdict, stops_nowhere, settled}
-use Rattle.q3net.specs.Run.{Comes, ComesAfter, Executes, PrintsAll, HandsOn, Took, Prints, Reports, wire_by, Left, WiredBy, FailsBy, ExecutesWired}
-
--- ---- where something may stop a command
-
--- before its text
-comes_first : (place : Place) (text : List ℕ) → Comes place → ComesAfter place [] text
-comes_first Nowhere text comes = comes
-comes_first First text comes = refl
-comes_first Anywhere text comes = (text, refl)
-
--- and anywhere at all
-pub comes_after : (place : Place) (printed text : List ℕ) → ComesAfter place printed text → Comes place
-comes_after Nowhere printed text behind = behind
-comes_after First printed text behind = tt
-comes_after Anywhere printed text behind = tt
-
--- what is settled stops where it is said to
-pub settled_memory : (stops : Stops) (names : List (List ℕ)) (answer : Result (List ℕ) Fault) → Comes stops.memory → Comes (settled stops names answer).stops.memory
-settled_memory stops names (Ok text) comes = comes
-settled_memory stops names (Err e) comes = comes
-
-pub settled_reads : (stops : Stops) (names : List (List ℕ)) (answer : Result (List ℕ) Fault) → Comes stops.reads → Comes (settled stops names answer).stops.reads
-settled_reads stops names (Ok text) comes = comes
-settled_reads stops names (Err e) comes = comes
-
-pub settled_writes : (stops : Stops) (names : List (List ℕ)) (answer : Result (List ℕ) Fault) → Comes (settled stops names answer).stops.writes → Comes stops.writes
-settled_writes stops names (Ok text) comes = comes
-settled_writes stops names (Err e) comes = comes
-
-pub settled_wire : (stops : Stops) (names : List (List ℕ)) (answer : Result (List ℕ) Fault) → Comes (settled stops names answer).stops.wire → Comes stops.wire
-settled_wire stops names (Ok text) comes = comes
-settled_wire stops names (Err e) comes = comes
+use Rattle.q3_runs.specs.Lines.{fault_status, ending_status, ending_line}
+use Rattle.q3_runs.specs.Faults.{node_fault, FileCause}
+use Rattle.q3_runs.specs.Verdict.{Verdict, Outside, stops_nowhere, settled}
+use Rattle.q3_runs.specs.Run.{Executes, wire_by, Left, WiredBy, FailsBy, ExecutesWired}
+use Rattle.q3net.specs.Verdict.{IsVerdict}
+use Rattle.q3net.specs.Run.{HandsOn, Took, Prints, Reports}
 
 -- ---- a command that reads nothing
 
-pub none_executes : (follow : TextsFollow) (told : Outside) (old : Option Written) → Executes None told old old (Err faults.Usage)
+pub none_executes : (follow : TextsFollow) (told : Outside) (old : Option Written) → Executes (IsVerdict told None) old old (Err faults.Usage)
 none_executes follow told old = (settled stops_nowhere [] (Err faults.Usage), refl, inl ([], inl (refl, refl), follow.none))
-
--- a text of one write
-pub text_executes : (command : Option Command) (told : Outside) (old now : Option Written) (stops : Stops) (names : List (List ℕ)) (text : List ℕ) (ended : Result (Unit {0}) Fault)
-    → IsVerdict told command (settled stops names (Ok text)) → PrintsAll text old now ended → Executes command told old now ended
-text_executes command told old now stops names text ended is prints =
-    elim prints [
-      | inl all ↦ (settled stops names (Ok text), is, inl (text, inl (all.0, refl), all.1))
-      | inr front ↦ (settled stops names (Ok text), is, inr front)
-    ]
-
--- ---- a command that ends before it has printed anything
-
--- by its verdict
-pub refused_so : (follow : TextsFollow) (command : Option Command) (told : Outside) (old : Option Written) (verdict : Verdict) (e : Fault)
-    → IsVerdict told command verdict → verdict.ending ≡ Err e → verdict.text ≡ [] → Executes command told old old (Err e)
-refused_so follow command told old verdict e is ends nothing = (verdict, is, inl ([], inl (sym ends, sym nothing), follow.none))
-
--- its input ended it
-pub refused : (follow : TextsFollow) (command : Option Command) (told : Outside) (old : Option Written) (stops : Stops) (names : List (List ℕ)) (e : Fault)
-    → IsVerdict told command (settled stops names (Err e)) → Executes command told old old (Err e)
-refused follow command told old stops names e is = (settled stops names (Err e), is, inl ([], inl (refl, refl), follow.none))
-
--- memory ran out
-pub wants_memory : (follow : TextsFollow) (command : Option Command) (told : Outside) (old : Option Written) (verdict : Verdict)
-    → IsVerdict told command verdict → Comes verdict.stops.memory → Executes command told old old (Err faults.NoMemory)
-wants_memory follow command told old verdict is may =
-    (verdict, is, inl ([], inr (faults.NoMemory, refl, comes_first verdict.stops.memory verdict.text may), follow.none))
-
--- a read failed
-pub fails_reading : (follow : TextsFollow) (command : Option Command) (told : Outside) (old : Option Written) (verdict : Verdict)
-    → IsVerdict told command verdict → Comes verdict.stops.reads → Executes command told old old (Err faults.Read)
-fails_reading follow command told old verdict is may =
-    (verdict, is, inl ([], inr (faults.Read, refl, comes_first verdict.stops.reads verdict.text may), follow.none))
-
--- a file that it makes can't be written
-pub fails_writing : (follow : TextsFollow) (command : Option Command) (told : Outside) (old : Option Written) (verdict : Verdict)
-    → IsVerdict told command verdict → Comes verdict.stops.writes → Executes command told old old (Err faults.FileWrite)
-fails_writing follow command told old verdict is may =
-    (verdict, is, inl ([], inr (faults.FileWrite, refl, comes_first verdict.stops.writes verdict.text may), follow.none))
-
--- a part that reads a file ended it
-pub part_ended : {A : Type 0} (follow : TextsFollow) (command : Option Command) (told : Outside) (old : Option Written) (stops : Stops) (names : List (List ℕ)) (answer : Result (List ℕ) Fault)
-    (said : Result A Fault) (e : Fault) → IsVerdict told command (settled stops names answer) → Comes stops.memory → Comes stops.reads
-    → (said ≡ Err e → answer ≡ Err e) → Gets said (Err e) → Executes command told old old (Err e)
-part_ended follow command told old stops names answer said e is may reads so gets =
-    elim gets [
-      | inl by_input ↦ refused follow command told old stops names e (subst (λ (a : Result (List ℕ) Fault). IsVerdict told command (settled stops names a)) (so (sym by_input)) is)
-      | inr outside ↦ elim outside [
-        | inl memory ↦ (
-            let so : e ≡ faults.NoMemory = cc in
-            subst (λ (d : Fault). Executes command told old old (Err d)) (sym so) (wants_memory follow command told old (settled stops names answer) is (settled_memory stops names answer may))
-            )
-        | inr read ↦ (
-            let so : e ≡ faults.Read = cc in
-            subst (λ (d : Fault). Executes command told old old (Err d)) (sym so) (fails_reading follow command told old (settled stops names answer) is (settled_reads stops names answer reads))
-            )
-      ]
-    ]
 
 -- ---- after a sink has failed
 
@@ -177,7 +90,7 @@ still_fails (Some at) turns told old mid now left all nothing fails = record {
 }
 
 pub prints : (follow : TextsFollow) (command : Option Command) (told : Outside) (before after : ℕ) (old mid now : Option Written) (left : Left) (ended : Result (Unit {0}) Fault) (status : ℕ)
-    → ExecutesWired command told old mid left ended → FileCause before after ended → Took ended (ending_line ended) mid now status → Prints command told before after old now left status
+    → ExecutesWired (IsVerdict told command) told old mid left ended → FileCause before after ended → Took ended (ending_line ended) mid now status → Prints command told before after old now left status
 prints follow command told before after old mid now left ended status executes cause took =
     let verdict = executes.0 in
     elim executes.2 [
@@ -232,7 +145,7 @@ all_wired (Some at) verdict printed told old now left by =
     ]
 
 done_reports : (follow : TextsFollow) (command : Option Command) (told : Outside) (old mid now : Option Written) (left : Left)
-    → ExecutesWired command told old mid left (Ok tt) → HandsOn mid now [] → Reports command told old now left.wire
+    → ExecutesWired (IsVerdict told command) told old mid left (Ok tt) → HandsOn mid now [] → Reports command told old now left.wire
 done_reports follow command told old mid now left executes hands =
     let verdict = executes.0 in
     elim executes.2 [
@@ -250,12 +163,12 @@ done_reports follow command told old mid now left executes hands =
     ]
 
 pub reports : (follow : TextsFollow) (command : Option Command) (told : Outside) (old mid now : Option Written) (left : Left) (ended : Result (Unit {0}) Fault) (status : ℕ)
-    → ExecutesWired command told old mid left ended → Took ended (ending_line ended) mid now status → status ≡ 0 → Reports command told old now left.wire
+    → ExecutesWired (IsVerdict told command) told old mid left ended → Took ended (ending_line ended) mid now status → status ≡ 0 → Reports command told old now left.wire
 reports follow command told old mid now left ended status executes took none =
     elim took [
       | inl all ↦ (
           let done = none_is_done ended (sym all.0 ∙ none) in
-          done_reports follow command told old mid now left (subst (λ (e : Result (Unit {0}) Fault). ExecutesWired command told old mid left e) done executes)
+          done_reports follow command told old mid now left (subst (λ (e : Result (Unit {0}) Fault). ExecutesWired (IsVerdict told command) told old mid left e) done executes)
           (subst (λ (e : Result (Unit {0}) Fault). HandsOn mid now (ending_line e)) done all.1)
           )
       | inr front ↦ absurd (omega (arith, front.0, none))

@@ -1,5 +1,3 @@
-mod Reading
-mod Loading
 mod Acting
 mod Looking
 mod Stepping
@@ -9,11 +7,4 @@ mod Ending
 mod Outside
 mod Replaying
 mod Trying
-mod Noding
-mod Demoing
-mod Refusing
-mod Early
-mod Numbered
-mod Indexing
-mod Sought
 mod SoughtPlays

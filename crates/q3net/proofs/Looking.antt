@@ -1,105 +1,35 @@
 -- Which names a run gives to the files.
-use Rattle.std.proofs.Common.{◌≡◌, ℕ, List, [], ◌∷◌, ◌++◌, map, Option, Some, None, Result, Ok, Err, refl, sym, ap, subst, ◌∙◌, append_assoc, inl, inr}
+use Rattle.std.proofs.Common.{◌≡◌, ℕ, List, [], ◌∷◌, ◌++◌, map, Option, Some, None, Result, Ok, Err, refl, sym, ap, subst, ◌∙◌, inl, inr}
 use Rattle.std.specs.Prelude.{◌⊎◌}
 use Rattle.std.proofs.lemmas.List.{append-nil}
 use Rattle.q3_profile.specs.declared.profile.Profile.{Profile}
 use Rattle.q3_io.specs.declared.address.Address.{Address}
-use Rattle.q3_io.specs.Acts.{FileAct, Extends, after_acts}
 use Rattle.q3_io.specs.Told.{Told, Named}
 use Rattle.q3_node.specs.Node.{Turn, most_turns, new_node, turns_of, acts_of}
 use Rattle.q3_node.specs.AtServer.{server_rules}
 use Rattle.q3_node.specs.AtClient.{client_of}
 use Rattle.q3_server.specs.Server.{places, new_server}
-use Rattle.q3net.specs.declared.fault.Fault.{Fault}
-use Rattle.q3net.specs.declared.fault.Fault.TheVariants as faults
+use Rattle.q3_runs.specs.declared.fault.Fault.{Fault}
+use Rattle.q3_runs.specs.declared.fault.Fault.TheVariants as faults
 use Rattle.q3_command.specs.declared.command.Draws.{Draws}
 use Rattle.q3_command.specs.Command.{Command, Help, Version, Replay, Make, Trial, Serve, Join, Play, Index, Seek, files_of}
-use Rattle.q3net.specs.Faults.{Gets, IsOutside, IsEarly}
-use Rattle.q3net.specs.Input.{IsFront, looked_up, created, Leaves, LeavesTold, AreBegun, LeavesFirst, Touches, LooksUpTold, LooksUpFirst, Gives}
+use Rattle.q3_runs.specs.Faults.{IsOutside, IsEarly}
+use Rattle.q3_runs.specs.Input.{looked_up, created, LeavesFirst, LooksUpFirst, Gives}
+use Rattle.q3_runs.specs.Lines.{fault_status, ending_status}
+use Rattle.q3_runs.specs.Verdict.{Stops, Verdict, Outside, stops_nowhere, takes_memory, reads_first, all_first, settled, names_by, noded, client_turns, played, demo_played, IsIndexedBy, IsSoughtBy, profile_in, events_in}
+use Rattle.q3_runs.specs.Run.{LeavesFiles}
+use Rattle.q3net.specs.Lines.{help_text, version_text}
+use Rattle.q3net.specs.Verdict.{IsVerdict, Schedule, replay_done, tried, IsTried}
+use Rattle.q3net.specs.Run.{HasLeft, Touched}
+use Rattle.q3_runs.proofs.Acting.{first_more}
+use Rattle.q3_runs.proofs.Loading.{held}
 use Rattle.q3_demo.specs.Playing as demos
 use Rattle.q3_make.specs.Printed.{script_text}
 use Rattle.q3_make.specs.Generated.{generated}
-use Rattle.q3net.specs.Lines.{help_text, version_text, fault_status, ending_status}
-use Rattle.q3net.specs.Verdict.{Stops, Verdict, Outside, of_files, IsVerdict, stops_nowhere, takes_memory, reads_first, all_first, Schedule, settled, replay_done, names_by, tried, noded, client_turns, played, demo_played, IsIndexed, IsSoughtBy, profile_in, events_in}
-use Rattle.q3net.specs.Run.{LeavesFiles, HasLeft, Touched}
 use Rattle.q3_bits.specs.ResultBind.{◌>>=◌}
 use Rattle.q3_script.specs.declared.event.Event.{Event}
 use Rattle.q3_script.specs.declared.cause.ScriptKind.TheVariants as kinds
-use Rattle.q3net.proofs.Acting.{first_more}
-use Rattle.q3net.proofs.Loading.{held}
-
--- no name was given
-pub looks_none : (told : Option Told) → LooksUpTold told told []
-unfolding after_acts
-looks_none None = refl
-looks_none (Some told) = (told, refl, record { files = refl; named = sym (append-nil told.named) })
-
--- one name, and then others
-leaves_two : (told mid now : Told) (one : Named) (others : List Named) → Leaves told mid (one ∷ []) [] → Leaves mid now others [] → Leaves told now (one ∷ others) []
-unfolding after_acts
-leaves_two told mid now one others first second =
-    record {
-      files = second.files ∙ first.files;
-      named = second.named ∙ (ap (λ (given : List Named). given ++ others) first.named ∙ append_assoc told.named (one ∷ []) others);
-    }
-
-pub leaves_then : (told mid now : Option Told) (one : Named) (others : List Named) → LeavesTold told mid (one ∷ []) [] → LeavesTold mid now others [] → LeavesTold told now (one ∷ others) []
-leaves_then None mid now one others first second = subst (λ (m : Option Told). LeavesTold m now others []) first second
-leaves_then (Some told) mid now one others first second =
-    let then = subst (λ (m : Option Told). LeavesTold m now others []) first.1 second in
-    (then.0, then.1, leaves_two told first.0 then.0 one others first.2 then.2)
-
--- of no acts none are begun
-no_front : (act : FileAct) (begun : List FileAct) → IsFront (act ∷ begun) [] → ⊥
-no_front act begun front = let no : act ∷ (begun ++ front.0) ≡ [] = front.1 in absurd cc
-
-no_act : (first : List FileAct) (name bytes : List ℕ) → IsFront (first ++ Extends name bytes ∷ []) [] → ⊥
-no_act [] name bytes front = no_front (Extends name bytes) [] front
-no_act (act ∷ first) name bytes front = no_front act (first ++ Extends name bytes ∷ []) front
-
-none_begun : (begun : List FileAct) → AreBegun begun [] → begun ≡ []
-none_begun [] is = refl
-none_begun (act ∷ begun) is = absurd (elim is [ inl front ↦ no_front act begun front | inr broken ↦ no_act broken.0 broken.1 broken.3 broken.6 ])
-
-pub first_then : (told mid now : Option Told) (one : Named) (others : List Named) → LeavesTold told mid (one ∷ []) [] → LeavesFirst mid now others [] → LeavesFirst told now (one ∷ others) []
-first_then told mid now one others first second =
-    let left = subst (λ (begun : List FileAct). LeavesTold mid now second.0 begun) (none_begun second.1 second.3) second.4 in (
-      one ∷ second.0,
-      [],
-      (second.2.0, ap (λ (names : List Named). one ∷ names) second.2.1),
-      inl ([], refl),
-      leaves_then told mid now one second.0 first left,
-    )
-
--- ---- the parts of a replay
-
--- a part that ended well gave its name
-pub gave : {A : Type 0} (x : A) (names : List (List ℕ)) (told now : Option Told) → Gives {A = A} (Ok x) names told now → LooksUpTold told now names
-gave x names told now gives =
-    elim gives [
-      | inl all ↦ all
-      | inr early ↦ absurd early.0
-    ]
-
--- of a part that ended early, at most its first names
-left_first : {A : Type 0} (ended : Result A Fault) (named : List Named) (acts : List FileAct) (told now : Option Told) → Touches ended named acts told now → LeavesFirst told now named acts
-left_first ended named acts told now touched =
-    elim touched [ inl all ↦ (named, acts, ([], append-nil named), inl ([], append-nil acts), all) | inr early ↦ early.1 ]
-
-pub gave_first : {A : Type 0} (ended : Result A Fault) (names : List (List ℕ)) (told now : Option Told) → Gives ended names told now → LooksUpFirst told now names
-gave_first ended names told now gives = left_first ended (map looked_up names) [] told now gives
-
--- a part that answered well answered what its input says
-pub got_ok : {A : Type 0} (said : Result A Fault) (x : A) → Gets said (Ok x) → said ≡ Ok x
-got_ok said x gets = elim gets [ inl is ↦ sym is | inr outside ↦ absurd (elim outside [ inl e ↦ (cc) | inr e ↦ (cc) ]) ]
-
--- ---- what a verdict says of files
-
--- one that is settled looks its names up, and does nothing to files
-pub settled_touches : {A : Type 0} (ended : Result A Fault) (stops : Stops) (names : List (List ℕ)) (answer : Result (List ℕ) Fault) (told now : Option Told) → Gives ended names told now
-    → Touches ended (settled stops names answer).named (settled stops names answer).acts told now
-settled_touches ended stops names (Ok text) told now gives = gives
-settled_touches ended stops names (Err cause) told now gives = gives
+use Rattle.q3_runs.proofs.Looking.{looks_none, gave, left_first, settled_touches}
 
 names_more : (says : Result Profile Fault) (profile script : List ℕ) (told now : Option Told) → LooksUpFirst told now (names_by says profile script)
     → LooksUpFirst told now (profile ∷ script ∷ [])
@@ -157,7 +87,7 @@ replay_named told now profile script (Ok by) then first = done_named told now pr
 replay_named told now profile script (Err cause) then first = names_more (Err cause) profile script told now first
 
 -- of an index, and of a seek in it, by what the profile's file says
-indexed_named : (told now : Option Told) (profile demo index : List ℕ) (says : Result Profile Fault) (verdict : Verdict) → IsIndexed told says profile demo index verdict
+indexed_named : (told now : Option Told) (profile demo index : List ℕ) (says : Result Profile Fault) (verdict : Verdict) → IsIndexedBy told says profile demo index verdict
     → IsNamed told now (Some (Index profile demo index)) verdict
 indexed_named told now profile demo index (Ok by) verdict is = subst (IsNamed told now (Some (Index profile demo index))) (sym is.2) (λ first. first)
 indexed_named told now profile demo index (Err cause) verdict is =
@@ -203,7 +133,7 @@ verdict_named told now (Some (Index profile demo index)) verdict is = indexed_na
 verdict_named told now (Some (Seek profile demo index number)) verdict is = sought_named told.files now profile demo index number (profile_in is.0) verdict is.2
 
 -- the names that are given are the first of those that the command names, and of the files that its verdict makes
-pub touches : (command : Option Command) (told : Outside) (now : Option Told) (ended : Result (Unit {0}) Fault) → LeavesFiles command told now ended → Touched command told now
+pub touches : (command : Option Command) (told : Outside) (now : Option Told) (ended : Result (Unit {0}) Fault) → LeavesFiles (IsVerdict told command) told.files now ended → Touched command told now
 touches command told now ended given =
     (given.0, given.1, verdict_named told now command given.0 given.1 (left_first ended given.0.named given.0.acts told.files now given.2))
 
@@ -219,7 +149,7 @@ early_status ended status early is =
     let so = early_is ended early in
     elim is [ inl same ↦ (so.0, so.1, same ∙ ap ending_status so.2) | inr four ↦ (faults.Write, tt, four) ]
 
-pub has_left : (command : Option Command) (told : Outside) (now : Option Told) (ended : Result (Unit {0}) Fault) (status : ℕ) → LeavesFiles command told now ended
+pub has_left : (command : Option Command) (told : Outside) (now : Option Told) (ended : Result (Unit {0}) Fault) (status : ℕ) → LeavesFiles (IsVerdict told command) told.files now ended
     → (status ≡ ending_status ended) ⊎ (status ≡ 4) → HasLeft command told now status
 has_left command told now ended status given is = (
   given.0,
@@ -234,16 +164,16 @@ has_left command told now ended status given is = (
 
 -- ---- of each command
 
-pub none_given : (told : Outside) → LeavesFiles None told told.files (Err faults.Usage)
+pub none_given : (told : Outside) → LeavesFiles (IsVerdict told None) told.files told.files (Err faults.Usage)
 none_given told = (settled stops_nowhere [] (Err faults.Usage), refl, inl (looks_none told.files))
 
 pub text_given : (command : Option Command) (told : Outside) (stops : Stops) (text : List ℕ) (ended : Result (Unit {0}) Fault)
-    → IsVerdict told command (settled stops [] (Ok text)) → LeavesFiles command told told.files ended
+    → IsVerdict told command (settled stops [] (Ok text)) → LeavesFiles (IsVerdict told command) told.files told.files ended
 text_given command told stops text ended is = (settled stops [] (Ok text), is, inl (looks_none told.files))
 
 -- a profile was looked up, and nothing else
 pub trial_given : {A : Type 0} (told now : Option Told) (profile : List ℕ) (draws : Draws) (ended : Result (Unit {0}) Fault) (got : Result A Fault)
-    → (Gives got (profile ∷ []) told now → Gives ended (profile ∷ []) told now) → Gives got (profile ∷ []) told now → LeavesFiles (Some (Trial profile draws)) (of_files told) now ended
+    → (Gives got (profile ∷ []) told now → Gives ended (profile ∷ []) told now) → Gives got (profile ∷ []) told now → LeavesFiles (IsTried told profile draws) told now ended
 trial_given told now profile draws ended got so gives =
     let file = held told profile in (
       settled reads_first (profile ∷ []) (tried file.0 draws),
@@ -253,34 +183,10 @@ trial_given told now profile draws ended got so gives =
 
 -- none passed
 pub trial_gives : (told now : Option Told) (profile : List ℕ) (draws : Draws) (e : Fault) → Gives {A = Unit {0}} (Err e) (profile ∷ []) told now
-    → LeavesFiles (Some (Trial profile draws)) (of_files told) now (Err e)
+    → LeavesFiles (IsTried told profile draws) told now (Err e)
 trial_gives told now profile draws e gives = trial_given {A = Unit {0}} told now profile draws (Err e) (Err e) (λ all. all) gives
 
 -- one did
 pub trial_gave : {A : Type 0} (told now : Option Told) (profile : List ℕ) (draws : Draws) (by : A) (ended : Result (Unit {0}) Fault) → Gives (Ok by) (profile ∷ []) told now
-    → LeavesFiles (Some (Trial profile draws)) (of_files told) now ended
+    → LeavesFiles (IsTried told profile draws) told now ended
 trial_gave told now profile draws by ended gives = trial_given told now profile draws ended (Ok by) (λ all. inl (gave by (profile ∷ []) told now all)) gives
-
--- a part that its input didn't end
-pub came_outside : {A : Type 0} (e : Fault) (got : Result A Fault) → got ≡ Err e → (got ≡ Err faults.NoMemory) ⊎ (got ≡ Err faults.Read) → IsOutside e
-came_outside e got is outside =
-    elim outside [
-      | inl memory ↦ (let so : e ≡ faults.NoMemory = cc in subst IsOutside (sym so) tt)
-      | inr read ↦ (let so : e ≡ faults.Read = cc in subst IsOutside (sym so) tt)
-    ]
-
--- no profile was read
-first_names : (says : Result Profile Fault) (profile script : List ℕ) (told now : Option Told) → LooksUpFirst told now (profile ∷ []) → LooksUpFirst told now (names_by says profile script)
-first_names (Ok by) profile script told now first = first_more told now (looked_up profile ∷ []) (looked_up script ∷ []) [] [] first
-first_names (Err cause) profile script told now first = first
-
-pub profile_names : (file : Option (List ℕ)) (e : Fault) (profile script : List ℕ) (told now : Option Told) → Gets (profile_in file) (Err e)
-    → Gives {A = Profile} (Err e) (profile ∷ []) told now → Gives {A = Unit {0}} (Err e) (names_by (profile_in file) profile script) told now
-profile_names file e profile script told now gets gives =
-    elim gets [
-      | inl said ↦ subst (λ (says : Result Profile Fault). Gives {A = Unit {0}} (Err e) (names_by says profile script) told now) said gives
-      | inr outside ↦ inr (
-        came_outside {A = Profile} e (Err e) refl outside,
-        first_names (profile_in file) profile script told now (gave_first {A = Profile} (Err e) (profile ∷ []) told now gives),
-      )
-    ]

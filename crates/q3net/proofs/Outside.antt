@@ -26,46 +26,24 @@ use Rattle.q3_index.specs.Seeking.{seek_at}
 use Rattle.q3_make.specs.Generated.{generated}
 use Rattle.q3_make.specs.Printed.{script_text}
 use Rattle.q3_profile.specs.declared.profile.Profile.{Profile as ProfileValue}
-use Rattle.q3_profile.specs.declared.error.ProfileError.{ProfileError}
-use Rattle.q3_profile.specs.Profile.{checked}
-use Rattle.q3_script.specs.declared.event.Event.{Event}
-use Rattle.q3_script.specs.declared.cause.ScriptKind.{ScriptKind}
 use Rattle.q3_script.specs.declared.cause.ScriptKind.TheVariants as kinds
-use Rattle.q3_script.specs.Script.{BadLine, script_at}
 use Rattle.q3_command.specs.declared.command.Draws.{Draws}
-use Rattle.q3net.specs.declared.fault.Fault.{Fault}
-use Rattle.q3net.specs.declared.fault.Fault.TheVariants as faults
+use Rattle.q3_runs.specs.declared.fault.Fault.{Fault}
+use Rattle.q3_runs.specs.declared.fault.Fault.TheVariants as faults
 use Rattle.q3_command.specs.Command.{Command, Help, Version, Replay, Make, Trial, Serve, Join, Play, Index, Seek}
-use Rattle.q3net.specs.Faults.{demo_fault, build_fault, index_fault, seek_fault, ReadCause, WriteCause, FileCause, WireCause}
-use Rattle.q3net.specs.Lines.{help_text, version_text, fault_status, ending_status}
-use Rattle.q3net.specs.Verdict.{Stops, Verdict, Outside, IsVerdict, stops_nowhere, takes_memory, reads_first, all_first, Schedule, settled, profile_in, events_in, replayed, replay_done, names_by, summary, tried, ending_of, noded, served, client_turns, joined, played, demo_played, Indexing, demo_indexed, IsIndexed, sought, sought_in, IsSeekFault, Sought, IsSoughtBy}
-use Rattle.q3net.specs.Run.{Left, left_so, Comes, ComesAfter, place_of, Executes, FilesFail, IsEarlyStatus, IsDecided, IsComplete, WiredBy, HandedOn, FailsBy, ExecutesWired}
-use Rattle.q3net.proofs.Ending.{comes_after, settled_writes, settled_wire}
+use Rattle.q3_runs.specs.Faults.{demo_fault, build_fault, index_fault, seek_fault, ReadCause, WriteCause, FileCause, WireCause}
+use Rattle.q3_runs.specs.Lines.{fault_status, ending_status}
+use Rattle.q3_runs.specs.Verdict.{Stops, Verdict, Outside, stops_nowhere, takes_memory, reads_first, all_first, settled, profile_in, events_in, names_by, ending_of, noded, served, client_turns, joined, played, demo_played, Indexing, demo_indexed, IsIndexedBy, sought, sought_in, IsSeekFault, Sought, IsSoughtBy}
+use Rattle.q3_runs.specs.Run.{Left, left_so, Comes, ComesAfter, place_of, Executes, WiredBy, HandedOn, FailsBy, ExecutesWired}
+use Rattle.q3net.specs.Lines.{help_text, version_text}
+use Rattle.q3net.specs.Verdict.{IsVerdict, Schedule, replayed, replay_done, summary, tried}
+use Rattle.q3net.specs.Run.{FilesFail, IsEarlyStatus, IsDecided, IsComplete}
+use Rattle.q3_runs.proofs.Ending.{comes_after, settled_writes, settled_wire}
+use Rattle.q3_runs.proofs.Indexing.{indexed_writes}
+use Rattle.q3_runs.proofs.Refusing.{OfFault, OfInput, play_refuses, bind_of_input, profile_of_input, events_of_input}
 use Rattle.q3net.proofs.Looking.{schedules}
-use Rattle.q3net.proofs.Indexing.{indexed_writes}
-use Rattle.q3net.proofs.Refusing.{OfFault, OfInput, play_refuses}
 
 -- ---- what an input decides
-
-bind_of_input : {A B : Type 0} (first : Result A Fault) (then : A → Result B Fault) → OfInput first → ((x : A) → OfInput (then x)) → OfInput (first >>= then)
-bind_of_input (Ok x) then so goes = goes x
-bind_of_input (Err e) then so goes = so
-
-checked_of_input : (says : Result ProfileValue ProfileError) → OfInput (result_map_both (λ profile. profile) faults.Profile says)
-checked_of_input (Ok by) = tt
-checked_of_input (Err e) = tt
-
-pub profile_of_input : (file : Option (List ℕ)) → OfInput (profile_in file)
-profile_of_input None = tt
-profile_of_input (Some bytes) = checked_of_input (checked bytes)
-
-script_of_input : (says : Result (List Event) BadLine) → OfInput (result_map_both (λ events. events) (λ (bad : BadLine). faults.Script bad.line bad.cause) says)
-script_of_input (Ok events) = tt
-script_of_input (Err bad) = tt
-
-pub events_of_input : (kind : ScriptKind) (file : Option (List ℕ)) → OfInput (events_in kind file)
-events_of_input kind None = tt
-events_of_input kind (Some bytes) = script_of_input (script_at kind bytes)
 
 replayed_of_input : (profile script : Option (List ℕ)) → OfInput (replayed profile script)
 replayed_of_input profile script =
@@ -239,7 +217,7 @@ indexed_of_input : (names : List (List ℕ)) (index : List ℕ) (answer : Result
 indexed_of_input names index (Ok made) = tt
 indexed_of_input names index (Err e) = build_of_fault e
 
-index_of_input : (told : Option Told) (says : Result ProfileValue Fault) (profile demo index : List ℕ) (verdict : Verdict) → OfInput says → IsIndexed told says profile demo index verdict
+index_of_input : (told : Option Told) (says : Result ProfileValue Fault) (profile demo index : List ℕ) (verdict : Verdict) → OfInput says → IsIndexedBy told says profile demo index verdict
     → OfBuilt verdict.ending
 index_of_input told (Ok by) profile demo index verdict so is = subst (λ (v : Verdict). OfBuilt v.ending) (sym is.2) (indexed_of_input (profile ∷ demo ∷ []) index is.0)
 index_of_input told (Err cause) profile demo index verdict so is = subst (λ (v : Verdict). OfBuilt v.ending) (sym is) (weaker cause so)
@@ -266,7 +244,7 @@ same_fault ended a b first second = cc
 
 -- it didn't end the command
 never_ended : (command : Option Command) (told : Outside) (old now : Option Written) (ended : Result (Unit {0}) Fault) (fault : Fault)
-    → (fault ≡ faults.Write → ⊥) → Never command told fault → Executes command told old now ended → ended ≡ Err fault → ⊥
+    → (fault ≡ faults.Write → ⊥) → Never command told fault → Executes (IsVerdict told command) old now ended → ended ≡ Err fault → ⊥
 never_ended command told old now ended fault other never executes is =
     elim executes.2 [
       | inl ends ↦ elim ends.1 [
@@ -279,19 +257,19 @@ never_ended command told old now ended fault other never executes is =
     ]
 
 pub no_file_fails : (command : Option Command) (told : Outside) (old now : Option Written) (ended : Result (Unit {0}) Fault) (before after : ℕ)
-    → Never command told faults.FileWrite → Executes command told old now ended → after ≡ before → FileCause before after ended
+    → Never command told faults.FileWrite → Executes (IsVerdict told command) old now ended → after ≡ before → FileCause before after ended
 no_file_fails command told old now (Err faults.FileWrite) before after never executes same =
     absurd (never_ended command told old now (Err faults.FileWrite) faults.FileWrite (λ is. cc) never executes refl)
 no_file_fails command told old now other before after never executes same = same
 
 pub no_read_fails : (command : Option Command) (told : Outside) (old now : Option Written) (ended : Result (Unit {0}) Fault) (before after : ℕ)
-    → Never command told faults.Read → Executes command told old now ended → after ≡ before → ReadCause before after ended
+    → Never command told faults.Read → Executes (IsVerdict told command) old now ended → after ≡ before → ReadCause before after ended
 no_read_fails command told old now (Err faults.Read) before after never executes same =
     absurd (never_ended command told old now (Err faults.Read) faults.Read (λ is. cc) never executes refl)
 no_read_fails command told old now other before after never executes same = same
 
 pub no_wire_fails : (command : Option Command) (told : Outside) (old now : Option Written) (ended : Result (Unit {0}) Fault) (before after : ℕ)
-    → Never command told faults.Wire → Executes command told old now ended → after ≡ before → WireCause before after ended
+    → Never command told faults.Wire → Executes (IsVerdict told command) old now ended → after ≡ before → WireCause before after ended
 no_wire_fails command told old now (Err faults.Wire) before after never executes same =
     absurd (never_ended command told old now (Err faults.Wire) faults.Wire (λ is. cc) never executes refl)
 no_wire_fails command told old now other before after never executes same = same
@@ -345,7 +323,7 @@ index_wire : (names : List (List ℕ)) (index : List ℕ) (answer : Result Index
 index_wire names index (Ok made) comes = comes
 index_wire names index (Err e) comes = comes
 
-by_index_wire : (told : Option Told) (says : Result ProfileValue Fault) (profile demo index : List ℕ) (verdict : Verdict) → IsIndexed told says profile demo index verdict → Comes verdict.stops.wire → ⊥
+by_index_wire : (told : Option Told) (says : Result ProfileValue Fault) (profile demo index : List ℕ) (verdict : Verdict) → IsIndexedBy told says profile demo index verdict → Comes verdict.stops.wire → ⊥
 by_index_wire told (Ok by) profile demo index verdict is comes = index_wire (profile ∷ demo ∷ []) index is.0 (subst (λ (v : Verdict). Comes v.stops.wire) is.2 comes)
 by_index_wire told (Err cause) profile demo index verdict is comes = subst (λ (v : Verdict). Comes v.stops.wire) is comes
 
@@ -406,7 +384,7 @@ make_reads_nothing told draws verdict is = (
 usage_alone : (ending : Result (Unit {0}) Fault) → ending ≡ Err faults.Usage → ending ≡ Err faults.FileWrite → ⊥
 usage_alone ending usage ends = cc
 
-index_may_fail : (told : Option Told) (says : Result ProfileValue Fault) (profile demo index : List ℕ) (verdict : Verdict) → OfInput says → IsIndexed told says profile demo index verdict
+index_may_fail : (told : Option Told) (says : Result ProfileValue Fault) (profile demo index : List ℕ) (verdict : Verdict) → OfInput says → IsIndexedBy told says profile demo index verdict
     → verdict.ending ≡ Err faults.FileWrite → Comes verdict.stops.writes
 index_may_fail told (Ok by) profile demo index verdict so is ends = subst (λ (v : Verdict). Comes v.stops.writes) (sym is.2) (indexed_writes (profile ∷ demo ∷ []) index is.0)
 index_may_fail told (Err cause) profile demo index verdict so is ends =
@@ -418,7 +396,7 @@ verdict_fails told (Some (Index profile demo index)) verdict is ends = index_may
 verdict_fails told (Some other) verdict is ends = absurd (not_decided told other verdict faults.FileWrite tt is (λ none. none) ends)
 
 -- a write of a file may fail
-files_come : (command : Option Command) (told : Outside) (old now : Option Written) → Executes command told old now (Err faults.FileWrite)
+files_come : (command : Option Command) (told : Outside) (old now : Option Written) → Executes (IsVerdict told command) old now (Err faults.FileWrite)
     → (verdict : Verdict) × IsVerdict told command verdict × Comes verdict.stops.writes
 files_come command told old now executes = (
   executes.0,
@@ -434,7 +412,7 @@ files_come command told old now executes = (
 )
 
 pub files_failed : (command : Option Command) (told : Outside) (old now : Option Written) (ended : Result (Unit {0}) Fault) (before after : ℕ)
-    → Executes command told old now ended → FileCause before after ended → (after ≡ before) ⊎ FilesFail command told before after
+    → Executes (IsVerdict told command) old now ended → FileCause before after ended → (after ≡ before) ⊎ FilesFail command told before after
 files_failed command told old now (Err faults.FileWrite) before after executes cause =
     let may = files_come command told old now executes in inr (may.0, may.1, may.2, cause.0, cause.1)
 files_failed command told old now other before after executes cause = inl cause
@@ -455,7 +433,7 @@ rose_since first mid last le later rose = elim rose [ inl lt ↦ inl (omega (ari
 
 -- a run ended with 4, and the end itself did not fail
 four_ended : (command : Option Command) (told : Outside) (old now : Option Written) (ended : Result (Unit {0}) Fault) (before after first mid : ℕ)
-    → Executes command told old now ended → FileCause before after ended → WriteCause first mid ended → ending_status ended ≡ 4
+    → Executes (IsVerdict told command) old now ended → FileCause before after ended → WriteCause first mid ended → ending_status ended ≡ 4
     → Rose first mid ⊎ FilesFail command told before after
 four_ended command told old now (Err faults.Write) before after first mid executes files writes four = inl writes.1
 four_ended command told old now (Err faults.FileWrite) before after first mid executes files writes four =
@@ -464,7 +442,7 @@ four_ended command told old now other before after first mid executes files writ
 
 -- 4 comes of the sink or of the files
 pub four_fails : (command : Option Command) (told : Outside) (old now : Option Written) (ended : Result (Unit {0}) Fault) (status before after first mid last : ℕ)
-    → Executes command told old now ended → FileCause before after ended → WriteCause first mid ended → EndsSo mid last ended status
+    → Executes (IsVerdict told command) old now ended → FileCause before after ended → WriteCause first mid ended → EndsSo mid last ended status
     → status ≡ 4 → Rose first last ⊎ FilesFail command told before after
 four_fails command told old now ended status before after first mid last executes files writes ends four =
     elim ends [
@@ -485,7 +463,7 @@ stopped_by stops faults.Wire printed text reads read before after wires wired be
 stopped_by stops other printed text reads read before after wires wired behind causes files wire none_read none_wired none_made = absurd behind
 
 pub completes : (command : Option Command) (told : Outside) (old now : Option Written) (ended : Result (Unit {0}) Fault) (status reads read before after first mid last wires wired : ℕ)
-    → Executes command told old now ended → ReadCause reads read ended → FileCause before after ended → WriteCause first mid ended → WireCause wires wired ended → EndsSo mid last ended status
+    → Executes (IsVerdict told command) old now ended → ReadCause reads read ended → FileCause before after ended → WriteCause first mid ended → WireCause wires wired ended → EndsSo mid last ended status
     → (Rose reads read → ⊥) → (Rose first last → ⊥) → (Rose wires wired → ⊥) → (FilesFail command told before after → ⊥) → IsComplete command told status
 completes command told old now ended status reads read before after first mid last wires wired executes causes files writes wire ends none_read none_written none_wired none_made = (
   executes.0,
@@ -515,7 +493,7 @@ two_is_usage (Err faults.Usage) two = refl
 two_is_usage other two = absurd (omega (arith, two))
 
 pub usage_of_none : (command : Option Command) (told : Outside) (old now : Option Written) (ended : Result (Unit {0}) Fault) (status mid last : ℕ)
-    → Executes command told old now ended → EndsSo mid last ended status → status ≡ 2 → IsNone command
+    → Executes (IsVerdict told command) old now ended → EndsSo mid last ended status → status ≡ 2 → IsNone command
 usage_of_none None told old now ended status mid last executes ends two = refl
 usage_of_none (Some command) told old now ended status mid last executes ends two =
     absurd (elim ends [
@@ -548,7 +526,7 @@ index_nowhere : (names : List (List ℕ)) (index : List ℕ) (answer : Result In
 index_nowhere names index (Ok made) = refl
 index_nowhere names index (Err e) = refl
 
-by_index_nowhere : (told : Option Told) (says : Result ProfileValue Fault) (profile demo index : List ℕ) (verdict : Verdict) → IsIndexed told says profile demo index verdict → verdict.at ≡ None
+by_index_nowhere : (told : Option Told) (says : Result ProfileValue Fault) (profile demo index : List ℕ) (verdict : Verdict) → IsIndexedBy told says profile demo index verdict → verdict.at ≡ None
 by_index_nowhere told (Ok by) profile demo index verdict is = ap (λ (v : Verdict). v.at) is.2 ∙ index_nowhere (profile ∷ demo ∷ []) index is.0
 by_index_nowhere told (Err cause) profile demo index verdict is = ap (λ (v : Verdict). v.at) is
 
@@ -571,8 +549,8 @@ binds_nothing told (Some (Serve profile script at)) verdict nodeless is = absurd
 binds_nothing told (Some (Join profile script at server)) verdict nodeless is = absurd nodeless
 
 -- leaves the wire as it was
-pub wire_stays : {files : Option Told} (command : Option Command) (told : Outside) (old now : Option Written) (ended : Result (Unit {0}) Fault) → IsNodeless command → Executes command told old now ended
-    → ExecutesWired command told old now (left_so told.wire files) ended
+pub wire_stays : {files : Option Told} (command : Option Command) (told : Outside) (old now : Option Written) (ended : Result (Unit {0}) Fault) → IsNodeless command → Executes (IsVerdict told command) old now ended
+    → ExecutesWired (IsVerdict told command) told old now (left_so told.wire files) ended
 wire_stays {files} command told old now ended nodeless executes =
     let none = binds_nothing told command executes.0 nodeless executes.1 in (
       executes.0,
@@ -584,8 +562,8 @@ wire_stays {files} command told old now ended nodeless executes =
     )
 
 -- what was printed, whatever was left of the wire
-pub executes_of : (command : Option Command) (told : Outside) (old now : Option Written) (left : Left) (ended : Result (Unit {0}) Fault) → ExecutesWired command told old now left ended
-    → Executes command told old now ended
+pub executes_of : (command : Option Command) (told : Outside) (old now : Option Written) (left : Left) (ended : Result (Unit {0}) Fault) → ExecutesWired (IsVerdict told command) told old now left ended
+    → Executes (IsVerdict told command) old now ended
 executes_of command told old now left ended executes =
     (executes.0, executes.1, elim executes.2 [ inl done ↦ inl (done.0, done.1, done.3) | inr failed ↦ inr (failed.0, failed.1) ])
 
@@ -615,7 +593,7 @@ statuses_in ended status mid last ends = elim ends [ inl same ↦ status_in ende
 -- ---- what decides the status
 
 pub decides : (command : Option Command) (told : Outside) (old now : Option Written) (ended : Result (Unit {0}) Fault) (status mid last : ℕ)
-    → Executes command told old now ended → EndsSo mid last ended status → IsDecided command told status
+    → Executes (IsVerdict told command) old now ended → EndsSo mid last ended status → IsDecided command told status
 decides command told old now ended status mid last executes ends = (
   executes.0,
   executes.1,

@@ -1,16 +1,16 @@
 -- How a replay ends.
-use Rattle.std.proofs.Common.{◌≡◌, ◌≢◌, ℕ, List, [], ◌∷◌, ◌++◌, map, length, take, drop, Option, Some, None, Result, Ok, Err, IsErr, refl, sym, ap, subst, ◌∙◌, inl, inr}
+use Rattle.std.proofs.Common.{◌≡◌, ◌≢◌, ℕ, List, [], ◌∷◌, ◌++◌, map, length, take, drop, Option, Result, Ok, Err, IsErr, refl, sym, ap, subst, ◌∙◌, inl, inr}
 use Rattle.std.proofs.lemmas.List.{append-nil}
 use Rattle.q3_profile.specs.declared.profile.Profile.{Profile}
 use Rattle.q3_bits.specs.ResultBind.{◌>>=◌}
 use Rattle.q3_script.specs.declared.event.Event.{Event}
 use Rattle.q3_script.specs.declared.cause.ScriptKind.TheVariants as kinds
 use Rattle.q3_io.specs.declared.sink.Failed.{Failed}
-use Rattle.q3_io.specs.Acts.{FileAct, after_acts, ActsOn}
+use Rattle.q3_io.specs.Acts.{FileAct, ActsOn}
 use Rattle.q3_io.specs.Faults.{HasCause}
 use Rattle.q3_io.specs.Laws.{TextsFollow}
 use Rattle.q3_io.specs.Written.{Written}
-use Rattle.q3_io.specs.Told.{File, Told, contents_of}
+use Rattle.q3_io.specs.Told.{Told}
 use Rattle.q3_report.specs.Answers.{Answered}
 use Rattle.q3_world.specs.declared.told.StepError.{StepError}
 use Rattle.q3_world.specs.declared.told.StepError.TheVariants as step
@@ -21,18 +21,23 @@ use Rattle.q3_world.specs.World.{opening, answers}
 use Rattle.q3_world.specs.StandsFor.{StandsFor}
 use Rattle.q3_world.specs.Report.{report}
 use Rattle.q3_world.specs.Outcome.{HasStepCause}
-use Rattle.q3net.specs.declared.fault.Fault.{Fault}
-use Rattle.q3net.specs.declared.fault.Fault.TheVariants as faults
-use Rattle.q3_command.specs.Command.{Command, Replay}
-use Rattle.q3net.specs.Faults.{Gets, IsOutside, step_fault, ReadCause, WriteCause, FileCause}
-use Rattle.q3net.specs.Input.{IsFront, Holds, looked_up, created, LeavesFirst, Touches, LooksUpTold, LooksUpFirst, Gives}
-use Rattle.q3net.specs.Verdict.{Verdict, Outside, of_files, IsVerdict, Schedule, profile_in, events_in, replayed, recorded, writes_by, replay_done, names_by, GetsFrom}
-use Rattle.q3net.specs.Run.{Comes, ComesAfter, AddsLines, DoesFirst, Executes, LeavesFiles}
-use Rattle.q3net.proofs.Acting.{none_on, first_more, all_left, first_left, acted_all}
-use Rattle.q3net.proofs.Loading.{held}
-use Rattle.q3net.proofs.Looking.{schedules, got_ok, gave, gave_first, leaves_then, first_then, came_outside, profile_names}
+use Rattle.q3_runs.specs.declared.fault.Fault.{Fault}
+use Rattle.q3_runs.specs.declared.fault.Fault.TheVariants as faults
+use Rattle.q3_command.specs.Command.{Replay}
+use Rattle.q3_runs.specs.Faults.{Gets, IsOutside, ReadCause, WriteCause, FileCause}
+use Rattle.q3_runs.specs.Input.{IsFront, Holds, looked_up, created, LeavesFirst, Touches, LooksUpTold, LooksUpFirst, Gives}
+use Rattle.q3_runs.specs.Verdict.{Verdict, profile_in, events_in, names_by, GetsFrom}
+use Rattle.q3_runs.specs.Run.{Comes, Executes, LeavesFiles}
+use Rattle.q3net.specs.Faults.{step_fault}
+use Rattle.q3net.specs.Verdict.{Schedule, replayed, recorded, replay_done, IsReplayed}
+use Rattle.q3net.specs.Run.{AddsLines, DoesFirst}
+use Rattle.q3_runs.proofs.Acting.{none_on, first_more, all_left, first_left}
+use Rattle.q3_runs.proofs.Loading.{held, same_held}
+use Rattle.q3_runs.proofs.Looking.{got_ok, gave, gave_first, came_outside, profile_names, script_names}
+use Rattle.q3_runs.proofs.Ending.{refused_so, wants_memory, fails_reading, writes_some}
+use Rattle.q3net.proofs.Acting.{acted_all}
+use Rattle.q3net.proofs.Looking.{schedules}
 use Rattle.q3net.proofs.Stepping.{all_lines, lines-all}
-use Rattle.q3net.proofs.Ending.{refused_so, wants_memory, fails_reading}
 
 -- ---- the verdict
 
@@ -65,45 +70,37 @@ done_reads names (Err e) = tt
 -- ---- before its first event
 
 -- a part that reads a file ended it
-part_replayed : {A : Type 0} (follow : TextsFollow) (command : Option Command) (told : Outside) (old : Option Written) (names : List (List ℕ)) (answer : Result Schedule Fault) (said : Result A Fault) (e : Fault)
-    → IsVerdict told command (replay_done names answer) → (said ≡ Err e → answer ≡ Err e) → Gets said (Err e) → Executes command told old old (Err e)
-part_replayed follow command told old names answer said e is so gets =
+part_replayed : {A : Type 0} (follow : TextsFollow) (Rule : Verdict → Type 0) (old : Option Written) (names : List (List ℕ)) (answer : Result Schedule Fault) (said : Result A Fault) (e : Fault)
+    → Rule (replay_done names answer) → (said ≡ Err e → answer ≡ Err e) → Gets said (Err e) → Executes Rule old old (Err e)
+part_replayed follow Rule old names answer said e is so gets =
     elim gets [
       | inl by_input ↦
           let no = done_refused names answer e (so (sym by_input)) in
-          refused_so follow command told old (replay_done names answer) e is no.0 no.1
+          refused_so follow Rule old (replay_done names answer) e is no.0 no.1
       | inr outside ↦ elim outside [
         | inl memory ↦ (
             let so : e ≡ faults.NoMemory = cc in
-            subst (λ (d : Fault). Executes command told old old (Err d)) (sym so) (wants_memory follow command told old (replay_done names answer) is (done_memory names answer))
+            subst (λ (d : Fault). Executes Rule old old (Err d)) (sym so) (wants_memory follow Rule old (replay_done names answer) is (done_memory names answer))
             )
         | inr read ↦ (
             let so : e ≡ faults.Read = cc in
-            subst (λ (d : Fault). Executes command told old old (Err d)) (sym so) (fails_reading follow command told old (replay_done names answer) is (done_reads names answer))
+            subst (λ (d : Fault). Executes Rule old old (Err d)) (sym so) (fails_reading follow Rule old (replay_done names answer) is (done_reads names answer))
             )
       ]
     ]
 
 pub profile_ended : (follow : TextsFollow) (told : Option Told) (profile script : List ℕ) (old : Option Written) (e : Fault) → GetsFrom profile_in told profile (Err e)
-    → Executes (Some (Replay profile script)) (of_files told) old old (Err e)
+    → Executes (IsReplayed told profile script) old old (Err e)
 profile_ended follow told profile script old e gets =
     let s = held told script in
-    part_replayed follow (Some (Replay profile script)) (of_files told) old (names_by (profile_in gets.0) profile script) (replayed gets.0 s.0) (profile_in gets.0) e
+    part_replayed follow (IsReplayed told profile script) old (names_by (profile_in gets.0) profile script) (replayed gets.0 s.0) (profile_in gets.0) e
     (gets.0, s.0, gets.1, s.1, refl) (no_profile gets.0 s.0 e) gets.2
 
--- what the files hold isn't changed by a look
-pub same_held : (told mid : Option Told) (names : List (List ℕ)) (name : List ℕ) (file : Option (List ℕ)) → LooksUpTold told mid names → Holds mid name file → Holds told name file
-unfolding after_acts
-same_held None mid names name file looks holds = tt
-same_held (Some told) mid names name file looks holds =
-    let there = subst (λ (m : Option Told). Holds m name file) looks.1 holds in
-    ap (λ (files : List File). contents_of files name) (sym looks.2.files) ∙ there
-
 pub events_ended : (follow : TextsFollow) (told mid : Option Told) (profile script : List ℕ) (by : Profile) (old : Option Written) (e : Fault) → GetsFrom profile_in told profile (Ok by)
-    → Gives (Ok by) (profile ∷ []) told mid → GetsFrom (events_in kinds.Replay) mid script (Err e) → Executes (Some (Replay profile script)) (of_files told) old old (Err e)
+    → Gives (Ok by) (profile ∷ []) told mid → GetsFrom (events_in kinds.Replay) mid script (Err e) → Executes (IsReplayed told profile script) old old (Err e)
 events_ended follow told mid profile script by old e passes gives gets =
     let of_script = same_held told mid (profile ∷ []) script gets.0 (gave by (profile ∷ []) told mid gives) gets.1 in
-    part_replayed follow (Some (Replay profile script)) (of_files told) old (names_by (profile_in passes.0) profile script) (replayed passes.0 gets.0) (events_in kinds.Replay gets.0) e
+    part_replayed follow (IsReplayed told profile script) old (names_by (profile_in passes.0) profile script) (replayed passes.0 gets.0) (events_in kinds.Replay gets.0) e
     (passes.0, gets.0, passes.1, of_script, refl) (no_events passes.0 gets.0 by e (got_ok (profile_in passes.0) by passes.2)) gets.2
 
 -- both files were read
@@ -131,7 +128,7 @@ abbrev pub verdict_by : List ℕ → List ℕ → Profile → List Event → Ver
 verdict_by profile script by events = replay_done (profile ∷ script ∷ []) (schedules by events)
 
 verdict_of : (told : Option Told) (profile script : List ℕ) (by : Profile) (events : List Event) → BothRead told profile script by events
-    → IsVerdict (of_files told) (Some (Replay profile script)) (verdict_by profile script by events)
+    → IsReplayed told profile script (verdict_by profile script by events)
 verdict_of told profile script by events read = (
   read.of_profile,
   read.of_script,
@@ -142,16 +139,11 @@ verdict_of told profile script by events read = (
 )
 
 pub memory_ended : (follow : TextsFollow) (told : Option Told) (profile script : List ℕ) (by : Profile) (events : List Event) (old : Option Written) → BothRead told profile script by events
-    → Executes (Some (Replay profile script)) (of_files told) old old (Err faults.NoMemory)
+    → Executes (IsReplayed told profile script) old old (Err faults.NoMemory)
 memory_ended follow told profile script by events old read =
-    wants_memory follow (Some (Replay profile script)) (of_files told) old (verdict_by profile script by events) (verdict_of told profile script by events read) tt
+    wants_memory follow (IsReplayed told profile script) old (verdict_by profile script by events) (verdict_of told profile script by events read) tt
 
 -- ---- its events
-
--- a file fails only where something is done to files
-pub writes_some : (acts : List FileAct) (printed text : List ℕ) → acts ≢ [] → IsFront printed text → ComesAfter (writes_by acts) printed text
-writes_some [] printed text some front = absurd (some refl)
-writes_some (act ∷ acts) printed text some front = front
 
 -- so many answers are a front of all
 first_lines : (all : List Answered) (k : ℕ) → IsFront (all_lines (take k all)) (all_lines all)
@@ -159,7 +151,7 @@ first_lines all k = (all_lines (drop k all), sym (lines-all all k))
 
 pub steps_ended : (told : Option Told) (profile script : List ℕ) (by : Profile) (events : List Event) (old now : Option Written) (e : StepError)
     → BothRead told profile script by events → AddsLines (answers by (opening by) events) old now (Err e) → (IsErr (by_files (Err e)) → acts_from (opening_kept by) events ≢ [])
-    → Executes (Some (Replay profile script)) (of_files told) old now (Err (step_fault e))
+    → Executes (IsReplayed told profile script) old now (Err (step_fault e))
 unfolding report
 steps_ended told profile script by events old now step.NoMemory read adds some =
     let all = answers by (opening by) events in
@@ -172,7 +164,7 @@ steps_ended told profile script by events old now step.WriteFault read adds some
 
 pub steps_done : (told : Option Told) (profile script : List ℕ) (by : Profile) (events : List Event) (old now : Option Written)
     → BothRead told profile script by events → AddsLines (answers by (opening by) events) old now (Ok tt)
-    → Executes (Some (Replay profile script)) (of_files told) old now (Ok tt)
+    → Executes (IsReplayed told profile script) old now (Ok tt)
 unfolding report
 steps_done told profile script by events old now read adds =
     (verdict_by profile script by events, verdict_of told profile script by events read, inl (report by events, inl (refl, refl), adds))
@@ -180,7 +172,7 @@ steps_done told profile script by events old now read adds =
 -- what comes after them couldn't be written
 pub finish_failed : (told : Option Told) (profile script : List ℕ) (by : Profile) (events : List Event) (old now : Option Written)
     → BothRead told profile script by events → AddsLines (answers by (opening by) events) old now (Ok tt) → acts_from (opening_kept by) events ≢ []
-    → Executes (Some (Replay profile script)) (of_files told) old now (Err faults.FileWrite)
+    → Executes (IsReplayed told profile script) old now (Err faults.FileWrite)
 unfolding report
 finish_failed told profile script by events old now read adds some =
     (verdict_by profile script by events, verdict_of told profile script by events read, inl (report by events, inr (faults.FileWrite, refl, writes_some (acts_from (opening_kept by) events) (report by events) (report by events) some ([], append-nil (report by events))), adds))
@@ -201,7 +193,7 @@ part_left {A} said e names answer told now gets so gives =
     early_left names (Err cause) told now first = first
 
 pub profile_gives : (told now : Option Told) (profile script : List ℕ) (e : Fault) → GetsFrom profile_in told profile (Err e)
-    → Gives {A = Profile} (Err e) (profile ∷ []) told now → LeavesFiles (Some (Replay profile script)) (of_files told) now (Err e)
+    → Gives {A = Profile} (Err e) (profile ∷ []) told now → LeavesFiles (IsReplayed told profile script) told now (Err e)
 profile_gives told now profile script e gets gives =
     let s = held told script in
     let names = names_by (profile_in gets.0) profile script in (
@@ -210,18 +202,9 @@ profile_gives told now profile script e gets gives =
       part_left (profile_in gets.0) e names (replayed gets.0 s.0) told now gets.2 (no_profile gets.0 s.0 e) (profile_names gets.0 e profile script told now gets.2 gives),
     )
 
--- a profile was read, and no script
-pub script_names : (told mid now : Option Told) (profile script : List ℕ) (by : Profile) (e : Fault) → LooksUpTold told mid (profile ∷ []) → Gives {A = Unit {0}} (Err e) (script ∷ []) mid now
-    → Gives {A = Unit {0}} (Err e) (profile ∷ script ∷ []) told now
-script_names told mid now profile script by e first second =
-    elim second [
-      | inl all ↦ inl (leaves_then told mid now (looked_up profile) (looked_up script ∷ []) first all)
-      | inr early ↦ inr (early.0, first_then told mid now (looked_up profile) (looked_up script ∷ []) first early.1)
-    ]
-
 pub script_gives : (told mid now : Option Told) (profile script : List ℕ) (by : Profile) (e : Fault) → GetsFrom profile_in told profile (Ok by)
     → Gives (Ok by) (profile ∷ []) told mid → GetsFrom (events_in kinds.Replay) mid script (Err e) → Gives {A = Unit {0}} (Err e) (script ∷ []) mid now
-    → LeavesFiles (Some (Replay profile script)) (of_files told) now (Err e)
+    → LeavesFiles (IsReplayed told profile script) told now (Err e)
 script_gives told mid now profile script by e passes first gets second =
     let looked = gave by (profile ∷ []) told mid first in
     let is = got_ok (profile_in passes.0) by passes.2 in
@@ -232,16 +215,10 @@ script_gives told mid now profile script by e passes first gets second =
       part_left (events_in kinds.Replay gets.0) e names (replayed passes.0 gets.0) told now gets.2 (no_events passes.0 gets.0 by e is) given,
     )
 
--- both were looked up
-pub both_looked : {B : Type 0} (told mid now : Option Told) (profile script : List ℕ) (by : Profile) (events : B) → Gives (Ok by) (profile ∷ []) told mid → Gives (Ok events) (script ∷ []) mid now
-    → LooksUpTold told now (profile ∷ script ∷ [])
-both_looked told mid now profile script by events first second =
-    leaves_then told mid now (looked_up profile) (looked_up script ∷ []) (gave by (profile ∷ []) told mid first) (gave events (script ∷ []) mid now second)
-
 -- some of the acts were done
 acts_left : (told looked now : Option Told) (profile script : List ℕ) (by : Profile) (events : List Event) (done rest : List FileAct) (result : Result (Unit {0}) Failed) (e : Fault)
     → BothRead told profile script by events → LooksUpTold told looked (profile ∷ script ∷ []) → ActsOn looked now done result → acts_from (opening_kept by) events ≡ done ++ rest → IsOutside e
-    → LeavesFiles (Some (Replay profile script)) (of_files told) now (Err e)
+    → LeavesFiles (IsReplayed told profile script) told now (Err e)
 acts_left told looked now profile script by events done rest result e read names acts whole outside = (
   verdict_by profile script by events,
   verdict_of told profile script by events read,
@@ -250,7 +227,7 @@ acts_left told looked now profile script by events done rest result e read names
 
 -- none of them
 pub memory_left : (told looked : Option Told) (profile script : List ℕ) (by : Profile) (events : List Event)
-    → BothRead told profile script by events → LooksUpTold told looked (profile ∷ script ∷ []) → LeavesFiles (Some (Replay profile script)) (of_files told) looked (Err faults.NoMemory)
+    → BothRead told profile script by events → LooksUpTold told looked (profile ∷ script ∷ []) → LeavesFiles (IsReplayed told profile script) told looked (Err faults.NoMemory)
 memory_left told looked profile script by events read names =
     acts_left told looked looked profile script by events [] (acts_from (opening_kept by) events) (Ok tt) faults.NoMemory read names (none_on looked) refl tt
 
@@ -292,7 +269,7 @@ step_outside step.FileFault = tt
 -- a step failed
 pub steps_left : (told looked now : Option Told) (profile script : List ℕ) (by : Profile) (events : List Event) (kept : Kept) (last : List FileAct) (e : StepError)
     → BothRead told profile script by events → LooksUpTold told looked (profile ∷ script ∷ []) → StandsFor by kept (opening by) → DoesFirst looked now (acts_from kept events) last (Err e)
-    → LeavesFiles (Some (Replay profile script)) (of_files told) now (Err (step_fault e))
+    → LeavesFiles (IsReplayed told profile script) told now (Err (step_fault e))
 steps_left told looked now profile script by events kept last e read names stands does =
     acts_left told looked now profile script by events does.0 does.1 (by_files (Err e)) (step_fault e) read names does.3
     (ap (λ (k : Kept). acts_from k events) (sym (opens by kept stands)) ∙ does.2) (step_outside e)
@@ -305,14 +282,14 @@ finished_on looked mid now by events kept last result stands does ends =
 
 pub finish_left : (told looked mid now : Option Told) (profile script : List ℕ) (by : Profile) (events : List Event) (kept : Kept) (last : List FileAct) (e : Failed)
     → BothRead told profile script by events → LooksUpTold told looked (profile ∷ script ∷ []) → StandsFor by kept (opening by) → DoesFirst looked mid (acts_from kept events) last (Ok tt)
-    → ActsOn mid now last (Err e) → LeavesFiles (Some (Replay profile script)) (of_files told) now (Err faults.FileWrite)
+    → ActsOn mid now last (Err e) → LeavesFiles (IsReplayed told profile script) told now (Err faults.FileWrite)
 finish_left told looked mid now profile script by events kept last e read names stands does ends =
     let acts = acts_from (opening_kept by) events in
     acts_left told looked now profile script by events acts [] (Err e) faults.FileWrite read names (finished_on looked mid now by events kept last (Err e) stands does ends) (sym (append-nil acts)) tt
 
 pub all_done : (told looked mid now : Option Told) (profile script : List ℕ) (by : Profile) (events : List Event) (kept : Kept) (last : List FileAct)
     → BothRead told profile script by events → LooksUpTold told looked (profile ∷ script ∷ []) → StandsFor by kept (opening by) → DoesFirst looked mid (acts_from kept events) last (Ok tt)
-    → ActsOn mid now last (Ok tt) → LeavesFiles (Some (Replay profile script)) (of_files told) now (Ok tt)
+    → ActsOn mid now last (Ok tt) → LeavesFiles (IsReplayed told profile script) told now (Ok tt)
 all_done told looked mid now profile script by events kept last read names stands does ends = (
   verdict_by profile script by events,
   verdict_of told profile script by events read,

@@ -1,7 +1,6 @@
 pub mod Faults
 pub mod Lines
 pub mod Summary
-pub mod Input
 pub mod Verdict
 pub mod Run
 pub mod Trying

@@ -1,15 +1,10 @@
--- How a run goes: as its verdict says, or something from outside ends it early.
-use Rattle.std.specs.Prelude.{◌≡◌, ◌≢◌, ◌⊎◌, ℕ, ◌^◌, ◌<◌, ◌≤◌, ⊤, true, false, List, [], ◌++◌, length, map, take, Option, Some, None, OnOk, Result, Ok, Err, IsErr}
+-- How a run goes: as the verdict of its command says, or something from outside ends it early.
+use Rattle.std.specs.Prelude.{◌≡◌, ◌≢◌, ◌⊎◌, ℕ, ◌≤◌, ⊤, true, false, List, [], ◌++◌, map, take, Option, Some, OnOk, Result, Ok, Err, IsErr}
 use Rattle.std.specs.List.{flat_map}
 use Rattle.q3_io.specs.Faults.{Rose}
-use Rattle.q3_io.specs.declared.address.Address.{Address}
 use Rattle.q3_io.specs.Acts.{FileAct, ActsOn}
-use Rattle.q3_io.specs.Told.{Told, Named, contents_of}
+use Rattle.q3_io.specs.Told.{Told}
 use Rattle.q3_io.specs.Traffic.{Traffic}
-use Rattle.q3_node.specs.declared.error.NodeError.{NodeError}
-use Rattle.q3_node.specs.declared.error.NodeError.TheVariants as node
-use Rattle.q3_node.specs.Node.{Turn, text_of}
-use Rattle.q3_node.specs.Running.{effects, wire_after, at_bound, EndsIn}
 use Rattle.q3_io.specs.Written.{Written, Wrote, NothingWaits}
 use Rattle.q3_report.specs.Answers.{Answered}
 use Rattle.q3_report.specs.AnswerLines.{lines_of}
@@ -17,120 +12,21 @@ use Rattle.q3_world.specs.Files.{by_files}
 use Rattle.q3_world.specs.declared.told.StepError.{StepError}
 use Rattle.q3_world.specs.declared.told.StepError.TheVariants as step
 use Rattle.q3_profile.specs.declared.profile.Profile.{Profile as ProfileValue}
-use Rattle.q3_demo.specs.Playing.{Played, records_of, play_state}
+use Rattle.q3_demo.specs.Playing.{Played, play_state}
 use Rattle.q3_demo.specs.Report.{state_text}
-use Rattle.q3_index.specs.declared.opening.Version.{Version}
-use Rattle.q3_index.specs.Text.{Tells, index_by}
 use Rattle.q3_command.specs.Command.{Command, Seek, files_of}
-use Rattle.q3net.specs.Faults.{IsOutside, node_fault, FileCause}
-use Rattle.q3net.specs.Input.{IsFront, looked_up, created, LeavesTold, LeavesFirst, Touches}
-use Rattle.q3net.specs.Lines.{fault_status, ending_line, ending_status}
-use Rattle.q3net.specs.Verdict.{Place, Nowhere, First, Anywhere, Stops, Verdict, Outside, IsVerdict, profile_in}
-use Rattle.q3net.specs.declared.fault.Fault.{Fault}
-use Rattle.q3net.specs.declared.fault.Fault.TheVariants.{NoMemory, Read, Write, FileWrite, Wire}
+use Rattle.q3_runs.specs.Faults.{IsOutside, FileCause}
+use Rattle.q3_runs.specs.Input.{looked_up, created, LeavesTold, LeavesFirst}
+use Rattle.q3_runs.specs.Lines.{fault_status, ending_line, ending_status}
+use Rattle.q3_runs.specs.Run.{Comes, place_of, Ends, wire_by, Left, WiredBy, HandedOn, FailsBy, OfMadeIndex, EndsSought}
+use Rattle.q3_runs.specs.Verdict.{Stops, Verdict, Outside}
+use Rattle.q3net.specs.Verdict.{IsVerdict}
+use Rattle.q3_runs.specs.declared.fault.Fault.{Fault}
+use Rattle.q3_runs.specs.declared.fault.Fault.TheVariants.{Write}
 
 -- all that waited in the sink was handed on, and the text after it
 abbrev pub HandsOn : Option Written → Option Written → List ℕ → Type 0
 HandsOn old now text = Wrote old now text true × NothingWaits now
-
--- ---- how a command ends
-
--- something may come at such a place
-abbrev pub Comes : Place → Type 0
-Comes Nowhere = ⊥
-Comes place = Unit {0}
-
--- and so much of a text is printed by then
-abbrev pub ComesAfter : Place → List ℕ → List ℕ → Type 0
-ComesAfter Nowhere printed text = ⊥
-ComesAfter First printed text = printed ≡ []
-ComesAfter Anywhere printed text = IsFront printed text
-
--- where a fault from outside may stop a command; the sink is told of apart
-abbrev pub place_of : Stops → Fault → Place
-place_of stops NoMemory = stops.memory
-place_of stops Read = stops.reads
-place_of stops FileWrite = stops.writes
-place_of stops Wire = stops.wire
-place_of stops other = Nowhere
-
--- how a command ends, and what it printed before any fault line: as its verdict says, or stopped early
-abbrev pub Ends : Verdict → Result (Unit {0}) Fault → List ℕ → Type 0
-Ends verdict ended printed =
-    ((ended ≡ verdict.ending) × (printed ≡ verdict.text))
-    ⊎ ((fault : Fault) × (ended ≡ Err fault) × ComesAfter (place_of verdict.stops fault) printed verdict.text)
-
--- what the sink took of a command by then; where it failed, a front of the verdict's text
-abbrev pub Executes : Option Command → Outside → Option Written → Option Written → Result (Unit {0}) Fault → Type 0
-Executes command told old now ended =
-    (verdict : Verdict) × IsVerdict told command verdict
-    × (((printed : List ℕ) × Ends verdict ended printed × Wrote old now printed true)
-    ⊎ ((ended ≡ Err Write) × Wrote old now verdict.text false))
-
--- what a command has done with the files by then: as its verdict says, or the first of it
-abbrev pub LeavesFiles : Option Command → Outside → Option Told → Result (Unit {0}) Fault → Type 0
-LeavesFiles command told now ended = (verdict : Verdict) × IsVerdict told command verdict × Touches ended verdict.named verdict.acts told.files now
-
--- a text of the program's own
-abbrev pub PrintsAll : List ℕ → Option Written → Option Written → Result (Unit {0}) Fault → Type 0
-PrintsAll text old now ended = ((ended ≡ Ok tt) × Wrote old now text true) ⊎ ((ended ≡ Err Write) × Wrote old now text false)
-
--- ---- the wire
-
--- what is told of the wire where a verdict's turns were had at its address, or these of them; without an address it stays
-abbrev pub wire_by : Option Traffic → Option Address → List Turn → Option Traffic
-wire_by told None turns = told
-wire_by told (Some at) turns = wire_after (at_bound told at) turns
-
--- what is told of the wire, and of the files, as a run leaves them
-pub record Left : Type 0 where
-  pub wire : Option Traffic
-  pub files : Option Told
-
-abbrev pub left_so : Option Traffic → Option Told → Left
-left_so wire files = record { wire = wire; files = files }
-
--- a node ended early in one of these turns, of files that only names were given to: what it printed by then, and what is left
-pub record EndsEarly (turns : List Turn) (at : Address) (told : Outside) (old now : Option Written) (left : Left) (e : NodeError) : Type 0 where
-  pub looked : Option Told
-  pub given : List Named
-  pub looks : LeavesTold told.files looked given []
-  pub clock : Option (List ℕ)
-  pub ends : EndsIn turns e told.clock clock (effects old (at_bound told.wire at) looked) (effects now left.wire left.files)
-
--- what may end a node before its address is bound
-abbrev pub IsBeforehand : Result (Unit {0}) Fault → Type 0
-IsBeforehand (Err NoMemory) = Unit {0}
-IsBeforehand (Err Read) = Unit {0}
-IsBeforehand (Err Wire) = Unit {0}
-IsBeforehand other = ⊥
-
--- of a node all turns were had, or it ended early before an address was bound, or in one of them, and the text of those before was printed;
--- of any other command the wire stays
-abbrev pub WiredBy : Option Address → Verdict → Result (Unit {0}) Fault → List ℕ → Outside → Option Written → Option Written → Left → Type 0
-WiredBy None verdict ended printed told old now left = left.wire ≡ told.wire
-WiredBy (Some at) verdict ended printed told old now left =
-    ((ended ≡ verdict.ending) × (left.wire ≡ wire_by told.wire (Some at) verdict.turns))
-    ⊎ ((IsBeforehand ended × (printed ≡ []) × (left.wire ≡ told.wire))
-    ⊎ ((e : NodeError) × (ended ≡ Err (node_fault e)) × (early : EndsEarly verdict.turns at told old now left e) × (printed ≡ text_of early.ends.first)))
-
--- the lines of its turns were handed on, where nothing waited before
-abbrev pub HandedOn : Option Address → Option Written → Option Written → Type 0
-HandedOn None old now = Unit {0}
-HandedOn (Some at) old now = NothingWaits old → NothingWaits now
-
--- where the sink failed: in one of its turns
-abbrev pub FailsBy : Option Address → List Turn → Outside → Option Written → Option Written → Left → Type 0
-FailsBy None turns told old now left = left.wire ≡ told.wire
-FailsBy (Some at) turns told old now left = EndsEarly turns at told old now left node.WriteFault
-
--- what the sink took of a command by then, and what it left of the wire and, where a node ended early, of the files
-abbrev pub ExecutesWired : Option Command → Outside → Option Written → Option Written → Left → Result (Unit {0}) Fault → Type 0
-ExecutesWired command told old now left ended =
-    (verdict : Verdict) × IsVerdict told command verdict
-    × (((printed : List ℕ) × Ends verdict ended printed × WiredBy verdict.at verdict ended printed told old now left × Wrote old now printed true
-    × HandedOn verdict.at old now)
-    ⊎ ((ended ≡ Err Write) × Wrote old now verdict.text false × FailsBy verdict.at verdict.turns told old now left))
 
 -- ---- how a run ends
 
@@ -186,40 +82,28 @@ HasLeft command told now status =
 
 -- what so many of a demo's records leave is what playing them leaves, and is printed; only want of memory, a read that fails and a write that
 -- does come before that
-abbrev pub IsSought : ProfileValue → List ℕ → ℕ → Option Written → Option Written → ℕ → Type 0
-IsSought by demo records old now status =
+abbrev pub ReportsSought : ProfileValue → List ℕ → ℕ → Option Written → Option Written → ℕ → Type 0
+ReportsSought by demo records old now status =
     ((status ≡ 0) × (played : Played) × (play_state by demo records ≡ Ok played) × HandsOn old now (state_text played.state records))
     ⊎ ((status ≡ 1) ⊎ ((status ≡ 3) ⊎ (status ≡ 4)))
 
--- where a command seeks by an index of either version that was made of a demo, by the same profile
-abbrev pub OfMadeIndex : Option Command → Outside → (ProfileValue → List ℕ → ℕ → Type 0) → Type 0
-OfMadeIndex (Some (Seek profile demo index records)) told So =
-    (files : Told) (by : ProfileValue) (version : Version) (bytes made : List ℕ) → told.files ≡ Some files → profile_in (contents_of files.files profile) ≡ Ok by
-    → contents_of files.files demo ≡ Some bytes → contents_of files.files index ≡ Some made → length bytes < 2 ^ 64 → Tells version by.entity.number_bits → index_by version by bytes ≡ Ok made
-    → records ≤ length (records_of by bytes) → So by bytes records
-OfMadeIndex command told So = ⊤
+-- where a command seeks by an index that was made of its demo
+abbrev pub OfMadeSeek : Option Command → Outside → (ProfileValue → List ℕ → ℕ → Type 0) → Type 0
+OfMadeSeek (Some (Seek profile demo index records)) told So = OfMadeIndex told.files profile demo index records So
+OfMadeSeek command told So = ⊤
 
 abbrev pub SeeksAsPlays : Option Command → Outside → Option Written → Option Written → ℕ → Type 0
-SeeksAsPlays command told old now status = OfMadeIndex command told (λ by bytes records. IsSought by bytes records old now status)
+SeeksAsPlays command told old now status = OfMadeSeek command told (λ by bytes records. ReportsSought by bytes records old now status)
 
--- so the command prints that text, or ends before it
-abbrev pub EndsSought : ProfileValue → List ℕ → ℕ → Option Written → Option Written → Result (Unit {0}) Fault → Type 0
-EndsSought by demo records old now ended =
-    ((played : Played) × (play_state by demo records ≡ Ok played) × PrintsAll (state_text played.state records) old now ended)
-    ⊎ ((ended ≡ Err NoMemory) ⊎ (ended ≡ Err Read))
-
-abbrev pub EndsAsPlays : Option Command → Outside → Option Written → Option Written → Result (Unit {0}) Fault → Type 0
-EndsAsPlays command told old now ended = OfMadeIndex command told (λ by bytes records. EndsSought by bytes records old now ended)
+-- and how the command itself ends then
+abbrev pub SoughtAsPlayed : Option Command → Outside → Option Written → Option Written → Result (Unit {0}) Fault → Type 0
+SoughtAsPlayed command told old now ended = OfMadeSeek command told (λ by bytes records. EndsSought by bytes records old now ended)
 
 -- the names of the command's words are looked up, once each and in this order, and then the files that the verdict makes are created, or
 -- the first of these; its acts are done, or the first of them, and every other file stays
 abbrev pub Touched : Option Command → Outside → Option Told → Type 0
 Touched command told now =
     (verdict : Verdict) × IsVerdict told command verdict × LeavesFirst told.files now (map looked_up (files_of command) ++ created verdict.acts) verdict.acts
-
--- an address is bound only by a command that binds one
-abbrev pub MayBind : Option Command → Outside → Type 0
-MayBind command told = (verdict : Verdict) × IsVerdict told command verdict × (at : Address) × (verdict.at ≡ Some at)
 
 -- ---- of the steps
 

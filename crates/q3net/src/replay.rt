@@ -1,6 +1,6 @@
 //! Replays the schedule of a script by a profile.
 
-ghost use Rattle.std.specs.Prelude.{◌≡◌, ◌+◌, ◌<◌, All, length, Some};
+ghost use Rattle.std.specs.Prelude.{◌≡◌, ◌+◌, ◌<◌, All, length};
 ghost use Rattle.q3_profile.specs.declared.profile.Profile.{Profile as ProfileValue};
 ghost use Rattle.q3_script.specs.Grammar.{IsReplayEvent};
 ghost use Rattle.q3_io.specs.Faults.{HasCause};
@@ -9,22 +9,23 @@ ghost use Rattle.q3_world.specs.Outcome.{HasStepCause};
 ghost use Rattle.q3_world.specs.Kept.{most_datagrams};
 ghost use Rattle.q3_world.specs.World.{Whole, answers};
 ghost use Rattle.q3_world.specs.StandsFor.{StandsFor};
-ghost use Rattle.q3_command.specs.Command.{Replay};
-ghost use Rattle.q3net.specs.Faults.{ReadCause, WriteCause, FileCause};
-ghost use Rattle.q3net.specs.Verdict.{of_files};
-ghost use Rattle.q3net.specs.Run.{Executes, LeavesFiles, AddsLines, DoesFirst};
+ghost use Rattle.q3_runs.specs.Faults.{ReadCause, WriteCause, FileCause};
+ghost use Rattle.q3_runs.specs.Run.{Executes, LeavesFiles};
+ghost use Rattle.q3net.specs.Faults.{step_fault};
+ghost use Rattle.q3net.specs.Verdict.{IsReplayed};
+ghost use Rattle.q3net.specs.Run.{AddsLines, DoesFirst};
 
-use crate::fault::Fault;
-use crate::input::{load_events, load_profile};
 use q3_io::{Files, Sink};
+use q3_runs::{Fault, load_events, load_profile};
 use q3_script::{Event, ScriptKind};
 use q3_world::{Later, StepError, World, laws};
 use std::alloc::Global;
 
-/// How many bytes datagrams that later lines name may take at once: so many, and so many for each line of the script. So a replay takes
-/// at most twenty times the bytes of its script, beside what its profile's rings need and a megabyte.
+/// How many bytes the datagrams that later lines name may take at once, in any replay.
 const ROOM: usize = 1_048_576;
 
+/// And how many more for each line of the script. So all that a replay keeps of a script is at most twenty times as long, beside that megabyte
+/// and what the profile's rings need.
 const ROOM_OF_A_LINE: usize = 128;
 
 /// Replays the script of this name by the profile of that name, prints its report, and writes what clients record.
@@ -35,9 +36,9 @@ pub fn replay<F: Files, O: Sink>(
     files: &mut F,
     out: &mut O,
 ) -> Result<(), Fault>
-    ensures executes { Executes (Some (Replay profile.now script.now)) (of_files (F.told files.old))
-        (O.written out.old) (O.written out.new) result }
-    ensures gives { LeavesFiles (Some (Replay profile.now script.now)) (of_files (F.told files.old))
+    ensures executes { Executes (IsReplayed (F.told files.old) profile.now script.now) (O.written out.old)
+        (O.written out.new) result }
+    ensures gives { LeavesFiles (IsReplayed (F.told files.old) profile.now script.now) (F.told files.old)
         (F.told files.new) result }
     ensures file_cause { FileCause (F.write_faults files.old) (F.write_faults files.new) result }
     ensures read_cause { ReadCause (F.faults files.old) (F.faults files.new) result }
@@ -48,11 +49,24 @@ pub fn replay<F: Files, O: Sink>(
     let events = load_events(alloc, ScriptKind::Replay, script, files)?;
     let room = ROOM + ROOM_OF_A_LINE * events.len();
     let mut world = World::new(alloc, &profile, room)?;
-    step_all(alloc, &mut world, &events, files, out)?;
+    if let Err(e) = step_all(alloc, &mut world, &events, files, out) {
+        return Err(step_fault(e));
+    }
     let Ok(()) = world.finish(files) else {
         return Err(Fault::FileWrite);
     };
     Ok(())
+}
+
+/// Why a step ended the run.
+fn step_fault(e: StepError) -> Fault
+    ensures { result ≡ step_fault e }
+{
+    match e {
+        StepError::NoMemory => Fault::NoMemory,
+        StepError::WriteFault => Fault::Write,
+        StepError::FileFault => Fault::FileWrite,
+    }
 }
 
 /// Steps over the events: prints their lines, and writes what clients record. Datagrams that no later line names are forgotten.

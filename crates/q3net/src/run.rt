@@ -5,18 +5,18 @@ ghost use Rattle.std.specs.String.{string_bytes};
 ghost use Rattle.q3_io.specs.Faults.{HasCause, Rose};
 ghost use Rattle.q3_io.specs.Written.{Adds, NothingWaits};
 ghost use Rattle.q3_command.specs.Command.{command_of};
-ghost use Rattle.q3net.specs.Faults.{ReadCause, WriteCause, FileCause, WireCause};
-ghost use Rattle.q3net.specs.Lines.{fault_line, ending_line, ending_status};
-ghost use Rattle.q3net.specs.Verdict.{outside};
-ghost use Rattle.q3net.specs.Run.{PrintsAll, SeeksAsPlays, EndsAsPlays, left_so, ExecutesWired, Took, Prints, Reports, FilesFail, IsDecided, IsComplete, HasLeft, Touched, LeavesFiles, MayBind, Settles};
+ghost use Rattle.q3_runs.specs.Faults.{ReadCause, WriteCause, FileCause, WireCause};
+ghost use Rattle.q3_runs.specs.Lines.{fault_line, ending_line, ending_status};
+ghost use Rattle.q3_runs.specs.Verdict.{outside};
+ghost use Rattle.q3_runs.specs.Run.{PrintsAll, left_so, ExecutesWired, LeavesFiles, MayBind};
+ghost use Rattle.q3net.specs.Verdict.{IsVerdict};
+ghost use Rattle.q3net.specs.Run.{SeeksAsPlays, SoughtAsPlayed, Took, Prints, Reports, FilesFail, IsDecided, IsComplete, HasLeft, Touched, Settles};
 
-use crate::demos::{index, play, seek};
-use crate::fault::Fault;
 use crate::generated::{make, trial};
-use crate::nodes::{join, serve};
 use crate::replay::replay;
 use q3_command::{Command, parse};
 use q3_io::{Clock, Failed, Files, Sink, Wire};
+use q3_runs::{Fault, index, join, play, seek, serve};
 use std::alloc::Global;
 
 const HELP: &[u8] =
@@ -67,8 +67,8 @@ pub fn run<F: Files, W: Wire, C: Clock, O: Sink>(
         (F.write_faults files.new) }
 
     // An address is bound only by a command that has one, and the clock is read after that alone.
-    ensures binds { W.bound wire.new ≡ true → MayBind (command_of (map string_bytes words.now))
-        (outside (F.told files.old) (W.told wire.old) (C.readings clock.old)) }
+    ensures binds { W.bound wire.new ≡ true → MayBind (IsVerdict (outside (F.told files.old) (W.told wire.old)
+        (C.readings clock.old)) (command_of (map string_bytes words.now))) }
     ensures unbound { W.bound wire.new ≡ false → clock.new ≡ clock.old }
 
     // What is sought in a demo by the index that was made of it is what playing leaves, and such an index is never refused.
@@ -119,19 +119,20 @@ fn execute<F: Files, W: Wire, C: Clock, O: Sink>(
     out: &mut O,
 ) -> Result<(), Fault>
     requires unbound { W.bound wire.old ≡ false }
-    ensures executes { ExecutesWired (command_of (map string_bytes words.now))
+    ensures executes { ExecutesWired (IsVerdict (outside (F.told files.old) (W.told wire.old)
+        (C.readings clock.old)) (command_of (map string_bytes words.now)))
         (outside (F.told files.old) (W.told wire.old) (C.readings clock.old)) (O.written out.old) (O.written out.new)
         (left_so (W.told wire.new) (F.told files.new)) result }
-    ensures sought { EndsAsPlays (command_of (map string_bytes words.now))
+    ensures sought { SoughtAsPlayed (command_of (map string_bytes words.now))
         (outside (F.told files.old) (W.told wire.old) (C.readings clock.old)) (O.written out.old)
         (O.written out.new) result }
-    ensures gives { LeavesFiles (command_of (map string_bytes words.now))
-        (outside (F.told files.old) (W.told wire.old) (C.readings clock.old)) (F.told files.new) result }
+    ensures gives { LeavesFiles (IsVerdict (outside (F.told files.old) (W.told wire.old) (C.readings clock.old))
+        (command_of (map string_bytes words.now))) (F.told files.old) (F.told files.new) result }
     ensures file_cause { FileCause (F.write_faults files.old) (F.write_faults files.new) result }
     ensures read_cause { ReadCause (F.faults files.old) (F.faults files.new) result }
     ensures write_cause { WriteCause (O.faults out.old) (O.faults out.new) result }
-    ensures binds { W.bound wire.new ≡ true → MayBind (command_of (map string_bytes words.now))
-        (outside (F.told files.old) (W.told wire.old) (C.readings clock.old)) }
+    ensures binds { W.bound wire.new ≡ true → MayBind (IsVerdict (outside (F.told files.old) (W.told wire.old)
+        (C.readings clock.old)) (command_of (map string_bytes words.now))) }
     ensures unbound { W.bound wire.new ≡ false → clock.new ≡ clock.old }
     ensures wire_cause { WireCause (W.faults wire.old) (W.faults wire.new) result }
 {

@@ -5,7 +5,8 @@ use Rattle.q3_world.specs.World.{opening, answers}
 use Rattle.q3_io.specs.Faults.{HasCause}
 use Rattle.q3_world.specs.Files.{acts_from, ending_acts, by_files}
 use Rattle.q3net.specs.Run.{AddsLines, DoesFirst}
-use Rattle.q3net.proofs.Replaying.{profile_ended, events_ended, both_read, memory_ended, steps_ended, steps_done, finish_failed, profile_gives, script_gives, both_looked, memory_left, steps_some, ends_some, steps_left, finish_left, all_done, nothing_sent, step_read_cause, step_write_cause, step_file_cause}
+use Rattle.q3_runs.proofs.Looking.{both_looked}
+use Rattle.q3net.proofs.Replaying.{profile_ended, events_ended, both_read, memory_ended, steps_ended, steps_done, finish_failed, profile_gives, script_gives, memory_left, steps_some, ends_some, steps_left, finish_left, all_done, nothing_sent, step_read_cause, step_write_cause, step_file_cause}
 use Rattle.q3net.proofs.replay.replay.Goals as goal
 
 pub returns-in_err-profile-clause-executes : goal.returns-in_err-profile-clause-executes

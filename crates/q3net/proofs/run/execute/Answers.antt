@@ -2,9 +2,11 @@ use Rattle.std.proofs.Common.{Some, None, [], refl}
 use Rattle.q3_make.specs.Printed.{script_text}
 use Rattle.q3_make.specs.Generated.{generated}
 use Rattle.q3_command.specs.Command.{Help, Version, Replay, Make, Trial, Play, Index, Seek}
+use Rattle.q3_runs.specs.Verdict.{outside, stops_nowhere, takes_memory}
 use Rattle.q3net.specs.Lines.{help_text, version_text}
-use Rattle.q3net.specs.Verdict.{outside, of_files, stops_nowhere, takes_memory}
-use Rattle.q3net.proofs.Ending.{none_executes, text_executes}
+use Rattle.q3net.specs.Verdict.{of_files}
+use Rattle.q3_runs.proofs.Ending.{text_executes}
+use Rattle.q3net.proofs.Ending.{none_executes}
 use Rattle.q3net.proofs.Looking.{none_given, text_given}
 use Rattle.q3net.proofs.Outside.{no_file_fails, no_read_fails, no_wire_fails, wire_stays, make_makes_nothing, trial_makes_nothing, play_makes_nothing, play_wires_nothing, replay_wires_nothing, make_wires_nothing, trial_wires_nothing, make_reads_nothing, index_wires_nothing, seek_wires_nothing, seek_makes_nothing}
 use Rattle.q3net.proofs.run.execute.Goals as goal
@@ -33,13 +35,13 @@ pub returns-in-Some-Make-clause-read_cause : goal.returns-in-Some-Make-clause-re
 returns-in-Some-Make-clause-read_cause g c =
     no_read_fails (Some (Make c.in-Some-Make.draws)) (outside (g.F.Files.told c.args.files.now) (g.W.Wire.told c.args.wire.now) (g.C.Clock.readings c.args.clock.now)) (g.O.Sink.written c.args.out.now) (g.O.Sink.written c.make.new.out) c.make.result
     (g.F.Files.faults c.args.files.now) (g.F.Files.faults c.args.files.now) (make_reads_nothing (outside (g.F.Files.told c.args.files.now) (g.W.Wire.told c.args.wire.now) (g.C.Clock.readings c.args.clock.now)) c.in-Some-Make.draws)
-    (c.make.ensures.executes (outside (g.F.Files.told c.args.files.now) (g.W.Wire.told c.args.wire.now) (g.C.Clock.readings c.args.clock.now))) refl
+    c.make.ensures.executes refl
 
 pub returns-in-Some-Make-clause-file_cause : goal.returns-in-Some-Make-clause-file_cause
 returns-in-Some-Make-clause-file_cause g c =
     no_file_fails (Some (Make c.in-Some-Make.draws)) (outside (g.F.Files.told c.args.files.now) (g.W.Wire.told c.args.wire.now) (g.C.Clock.readings c.args.clock.now)) (g.O.Sink.written c.args.out.now) (g.O.Sink.written c.make.new.out) c.make.result
     (g.F.Files.write_faults c.args.files.now) (g.F.Files.write_faults c.args.files.now) (make_makes_nothing (outside (g.F.Files.told c.args.files.now) (g.W.Wire.told c.args.wire.now) (g.C.Clock.readings c.args.clock.now)) c.in-Some-Make.draws)
-    (c.make.ensures.executes (outside (g.F.Files.told c.args.files.now) (g.W.Wire.told c.args.wire.now) (g.C.Clock.readings c.args.clock.now))) refl
+    c.make.ensures.executes refl
 
 pub returns-in-Some-Trial-clause-file_cause : goal.returns-in-Some-Trial-clause-file_cause
 returns-in-Some-Trial-clause-file_cause g c =
@@ -53,7 +55,7 @@ returns-in-Some-Replay-clause-wire_cause g c =
 
 pub returns-in-Some-Make-clause-wire_cause : goal.returns-in-Some-Make-clause-wire_cause
 returns-in-Some-Make-clause-wire_cause g c =
-    no_wire_fails (Some (Make c.in-Some-Make.draws)) (outside (g.F.Files.told c.args.files.now) (g.W.Wire.told c.args.wire.now) (g.C.Clock.readings c.args.clock.now)) (g.O.Sink.written c.args.out.now) (g.O.Sink.written c.make.new.out) c.make.result (g.W.Wire.faults c.args.wire.now) (g.W.Wire.faults c.args.wire.now) (make_wires_nothing (outside (g.F.Files.told c.args.files.now) (g.W.Wire.told c.args.wire.now) (g.C.Clock.readings c.args.clock.now)) c.in-Some-Make.draws) (c.make.ensures.executes (outside (g.F.Files.told c.args.files.now) (g.W.Wire.told c.args.wire.now) (g.C.Clock.readings c.args.clock.now))) refl
+    no_wire_fails (Some (Make c.in-Some-Make.draws)) (outside (g.F.Files.told c.args.files.now) (g.W.Wire.told c.args.wire.now) (g.C.Clock.readings c.args.clock.now)) (g.O.Sink.written c.args.out.now) (g.O.Sink.written c.make.new.out) c.make.result (g.W.Wire.faults c.args.wire.now) (g.W.Wire.faults c.args.wire.now) (make_wires_nothing (outside (g.F.Files.told c.args.files.now) (g.W.Wire.told c.args.wire.now) (g.C.Clock.readings c.args.clock.now)) c.in-Some-Make.draws) c.make.ensures.executes refl
 
 pub returns-in-Some-Trial-clause-wire_cause : goal.returns-in-Some-Trial-clause-wire_cause
 returns-in-Some-Trial-clause-wire_cause g c =
@@ -78,7 +80,7 @@ returns-in-Some-Version-clause-executes g c =
 pub returns-in-Some-Make-clause-executes : goal.returns-in-Some-Make-clause-executes
 returns-in-Some-Make-clause-executes g c =
     let e = rw c.in-Some-Make.field-0-is at c.in-Some-Make.ensures.value in
-    rw (← e) (wire_stays (Some (Make c.in-Some-Make.draws)) (outside (g.F.Files.told c.args.files.now) (g.W.Wire.told c.args.wire.now) (g.C.Clock.readings c.args.clock.now)) (g.O.Sink.written c.args.out.now) (g.O.Sink.written c.make.new.out) c.make.result tt (c.make.ensures.executes (outside (g.F.Files.told c.args.files.now) (g.W.Wire.told c.args.wire.now) (g.C.Clock.readings c.args.clock.now))))
+    rw (← e) (wire_stays (Some (Make c.in-Some-Make.draws)) (outside (g.F.Files.told c.args.files.now) (g.W.Wire.told c.args.wire.now) (g.C.Clock.readings c.args.clock.now)) (g.O.Sink.written c.args.out.now) (g.O.Sink.written c.make.new.out) c.make.result tt c.make.ensures.executes)
 
 pub returns-in-Some-Replay-clause-executes : goal.returns-in-Some-Replay-clause-executes
 returns-in-Some-Replay-clause-executes g c =

@@ -2,8 +2,8 @@ use Rattle.std.proofs.Common.{inl, inr}
 use Rattle.std.specs.Prelude.{map}
 use Rattle.std.specs.String.{string_bytes}
 use Rattle.q3_command.specs.Command.{command_of}
-use Rattle.q3net.specs.Run.{left_so}
-use Rattle.q3net.specs.Verdict.{outside}
+use Rattle.q3_runs.specs.Run.{left_so}
+use Rattle.q3_runs.specs.Verdict.{outside}
 use Rattle.q3net.proofs.Ending.{prints, reports}
 use Rattle.q3net.proofs.Looking.{touches, has_left}
 use Rattle.q3net.proofs.Outside.{executes_of, files_failed, usage_of_none, four_fails, completes, decides, no_command_so, nine_fails, no_wire_passed, statuses_in}

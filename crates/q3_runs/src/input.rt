@@ -1,0 +1,115 @@
+//! Reads a file whole, up to a limit: a profile, or a script.
+
+ghost use Rattle.std.specs.Prelude.{◌≡◌, ◌+◌, ◌<◌, ◌≤◌, ◌^◌, [], ◌∷◌, All, length, IfOk, OnOk};
+ghost use Rattle.q3_io.specs.Told.{LooksUp};
+ghost use Rattle.q3_profile.specs.Profile.{IsProfile};
+ghost use Rattle.q3_script.specs.Grammar.{IsEventOf, AreOrdered};
+ghost use Rattle.q3_script.specs.Script.{most_events};
+ghost use Rattle.q3_runs.specs.Faults.{ReadCause};
+ghost use Rattle.q3_runs.specs.Input.{ReadsFile, ReadsPieces, Finds, Gives, as_told, with_items};
+ghost use Rattle.q3_runs.specs.Verdict.{GetsFrom, profile_in, events_in, with_events};
+
+use crate::fault::Fault;
+use q3_io::Files;
+use q3_profile::{LONGEST_PROFILE, Profile, read_profile};
+use q3_script::{Event, LONGEST_SCRIPT, ScriptKind, read_script};
+use std::alloc::Global;
+
+/// How many bytes are asked for at a time.
+const PIECE: usize = 65_536;
+
+/// Reads the profile of this name, and checks it.
+pub fn load_profile<F: Files>(alloc: Global, name: &str, files: &mut F) -> Result<Profile, Fault>
+    ensures gets { GetsFrom profile_in (F.told files.old) name.now result }
+    ensures passes { IfOk result IsProfile }
+    ensures gives { Gives result (name.now ∷ []) (F.told files.old) (F.told files.new) }
+    ensures writes { F.write_faults files.new ≡ F.write_faults files.old }
+    ensures read_cause { ReadCause (F.faults files.old) (F.faults files.new) result }
+{
+    let bytes = read_file(alloc, name, LONGEST_PROFILE, files)?;
+    Ok(read_profile(alloc, &bytes)?)
+}
+
+/// Reads the script of this name, of a kind.
+pub fn load_events<F: Files>(
+    alloc: Global,
+    kind: ScriptKind,
+    name: &str,
+    files: &mut F,
+) -> Result<Vec<Event>, Fault>
+    ensures gets { GetsFrom (events_in kind) (F.told files.old) name.now (with_events result) }
+    ensures each { IfOk result (λ events. All (IsEventOf kind) events.items) }
+    ensures ordered { IfOk result (λ events. AreOrdered kind events.items) }
+    ensures few { IfOk result (λ events. length events.items ≤ most_events) }
+    ensures gives { Gives result (name.now ∷ []) (F.told files.old) (F.told files.new) }
+    ensures writes { F.write_faults files.new ≡ F.write_faults files.old }
+    ensures read_cause { ReadCause (F.faults files.old) (F.faults files.new) result }
+{
+    let bytes = read_file(alloc, name, LONGEST_SCRIPT, files)?;
+    Ok(read_script(alloc, kind, &bytes)?)
+}
+
+/// The number of the file of this name. `Read` comes where the files' count of faults rose.
+pub fn find_file<F: Files>(name: &str, files: &mut F) -> Result<usize, Fault>
+    ensures given { IfOk result (λ file. file < F.given files.new) }
+    ensures more { OnOk result (F.given files.old ≤ F.given files.new) }
+    ensures looks { LooksUp (F.told files.old) (F.told files.new) name.now (as_told result) }
+    ensures finds { Finds name.now (F.told files.old) (F.told files.new) result }
+    ensures gives { Gives result (name.now ∷ []) (F.told files.old) (F.told files.new) }
+    ensures cause { ReadCause (F.faults files.old) (F.faults files.new) result }
+    ensures writes { F.write_faults files.new ≡ F.write_faults files.old }
+{
+    let Ok(file) = files.lookup(name) else {
+        return Err(Fault::Read);
+    };
+    Ok(file)
+}
+
+/// The bytes of the file of this name: all of them, or a front that is longer than the limit.
+/// `Read` comes where the files' count of faults rose, and `NoMemory` is want of memory.
+pub fn read_file<F: Files>(
+    alloc: Global,
+    name: &str,
+    most: usize,
+    files: &mut F,
+) -> Result<Vec<u8>, Fault>
+    requires { most < 2 ^ 32 }
+    ensures reads { ReadsFile most name.now (F.told files.old) (with_items result) }
+    ensures gives { Gives result (name.now ∷ []) (F.told files.old) (F.told files.new) }
+    ensures cause { ReadCause (F.faults files.old) (F.faults files.new) result }
+    ensures writes { F.write_faults files.new ≡ F.write_faults files.old }
+{
+    let Ok(file) = files.lookup(name) else {
+        return Err(Fault::Read);
+    };
+    let mut piece = vec![in alloc; 0; PIECE]?;
+    read_pieces(alloc, file, most, files, &mut piece)
+}
+
+/// Reads a file piece by piece, each into the same buffer, until it ends or more than the limit was read.
+fn read_pieces<F: Files>(
+    alloc: Global,
+    file: usize,
+    most: usize,
+    files: &mut F,
+    piece: &mut [u8],
+) -> Result<Vec<u8>, Fault>
+    requires given { file < F.given files.old }
+    requires some { 0 < length piece.old }
+    requires few { most + length piece.old < 2 ^ 33 }
+    ensures reads { ReadsPieces most file (F.told files.old) (F.told files.new) (with_items result) }
+    ensures cause { ReadCause (F.faults files.old) (F.faults files.new) result }
+    ensures writes { F.write_faults files.new ≡ F.write_faults files.old }
+{
+    let mut bytes = Vec::new(alloc);
+    while bytes.len() <= most {
+        let Ok(count) = files.read_at(file, bytes.len() as u64, piece) else {
+            return Err(Fault::Read);
+        };
+        if count == 0 {
+            return Ok(bytes);
+        }
+        bytes.extend_from_slice(&piece[..count])?;
+    }
+    Ok(bytes)
+}

@@ -1,0 +1,13 @@
+//! What a run of each command does, but of a replay and of what a script is generated for: why it may end early, how it reads its input, and
+//! what it prints and leaves.
+#![tactic(auto)]
+
+pub mod demos;
+pub mod fault;
+pub mod input;
+pub mod nodes;
+
+pub use demos::{index, play, seek};
+pub use fault::Fault;
+pub use input::{find_file, load_events, load_profile, read_file};
+pub use nodes::{join, serve};
