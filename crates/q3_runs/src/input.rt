@@ -1,8 +1,9 @@
 //! Reads a file whole, up to a limit: a profile, or a script.
 
-ghost use Rattle.std.specs.Prelude.{◌≡◌, ◌+◌, ◌<◌, ◌≤◌, ◌^◌, [], ◌∷◌, All, length, IfOk, OnOk};
+ghost use Rattle.std.specs.Prelude.{◌≡◌, ◌⊎◌, ◌+◌, ◌<◌, ◌≤◌, ◌^◌, [], ◌∷◌, All, length, Ok, Err, IfOk, OnOk, MatchResult};
 ghost use Rattle.q3_io.specs.Told.{LooksUp};
-ghost use Rattle.q3_profile.specs.Profile.{IsProfile};
+ghost use Rattle.q3_profile.specs.declared.error.ProfileError.TheVariants as errors;
+ghost use Rattle.q3_profile.specs.Profile.{IsProfile, checked};
 ghost use Rattle.q3_script.specs.Grammar.{IsEventOf, AreOrdered};
 ghost use Rattle.q3_script.specs.Script.{most_events};
 ghost use Rattle.q3_runs.specs.Faults.{ReadCause};
@@ -11,12 +12,17 @@ ghost use Rattle.q3_runs.specs.Verdict.{GetsFrom, profile_in, events_in, with_ev
 
 use crate::fault::Fault;
 use q3_io::Files;
-use q3_profile::{LONGEST_PROFILE, Profile, read_profile};
+use q3_profile::{LONGEST_PROFILE, Profile, ProfileError, read_profile};
 use q3_script::{Event, LONGEST_SCRIPT, ScriptKind, read_script};
 use std::alloc::Global;
 
 /// How many bytes are asked for at a time.
 const PIECE: usize = 65_536;
+
+/// How many tables a profile's document may have, and for how many of its bytes one more.
+const TABLES: usize = 1_024;
+
+const BYTES_OF_A_TABLE: usize = 64;
 
 /// Reads the profile of this name, and checks it.
 pub fn load_profile<F: Files>(alloc: Global, name: &str, files: &mut F) -> Result<Profile, Fault>
@@ -27,7 +33,28 @@ pub fn load_profile<F: Files>(alloc: Global, name: &str, files: &mut F) -> Resul
     ensures read_cause { ReadCause (F.faults files.old) (F.faults files.new) result }
 {
     let bytes = read_file(alloc, name, LONGEST_PROFILE, files)?;
-    Ok(read_profile(alloc, &bytes)?)
+    Ok(read_thriftily(alloc, &bytes)?)
+}
+
+/// The profile of a file's bytes, as `read_profile` has it. A document that may have too many tables for its length counts as want of
+/// memory: each that isn't empty takes more than a kilobyte, and one of two bytes may begin it.
+fn read_thriftily(alloc: Global, bytes: &[u8]) -> Result<Profile, ProfileError>
+    ensures exact { MatchResult result (λ profile. checked bytes.now ≡ Ok profile)
+        (λ e. (e ≡ errors.NoMemory) ⊎ (checked bytes.now ≡ Err e)) }
+    ensures is_profile { IfOk result IsProfile }
+{
+    if table_marks(bytes) > TABLES + bytes.len() / BYTES_OF_A_TABLE {
+        return Err(ProfileError::NoMemory);
+    }
+    read_profile(alloc, bytes)
+}
+
+/// How many bytes there are that may begin a table.
+fn table_marks(bytes: &[u8]) -> usize {
+    bytes
+        .iter()
+        .filter(|byte| matches!(byte, b'.' | b'[' | b'{'))
+        .count()
 }
 
 /// Reads the script of this name, of a kind.
