@@ -1,8 +1,8 @@
 -- Words that are mostly 0: those that aren't, put one after the other, and put over zeros again.
-use Rattle.std.proofs.Common.{◌≡◌, ℕ, suc, ◌+◌, ◌-◌, ◌<◌, ◌≤◌, List, [], ◌∷◌, ◌++◌, length, take, drop, set, get_or, replicate, eqb, refl, sym, ap, subst, ◌∙◌, append_assoc, arith, inl, inr}
+use Rattle.std.proofs.Common.{◌≡◌, ℕ, suc, ◌+◌, ◌-◌, ◌*◌, ◌<◌, ◌≤◌, List, [], ◌∷◌, ◌++◌, length, take, drop, set, get_or, replicate, eqb, refl, sym, ap, subst, ◌∙◌, append_assoc, arith, inl, inr}
 use lib.IntN.{ℤ}
-use Rattle.std.proofs.lemmas.Bool.{cases_Bool, ne_eqb}
-use Rattle.std.proofs.lemmas.List.{append-nil, drop_more, drop_all, take_at, take_all, drop_at, length-replicate, replicate-append-replicate, length-append}
+use Rattle.std.proofs.lemmas.Bool.{eq-eqb, cases_Bool, ne_eqb}
+use Rattle.std.proofs.lemmas.List.{append-nil, drop_more, drop_all, take_at, take_all, drop_at, length-replicate, replicate-append-replicate, length-append, drop-drop, length-drop, length-take-le, take-append-drop}
 use Rattle.std.proofs.lemmas.List.Elements.{All-nil, All-cons}
 use Rattle.q3_fields.specs.Places.{Change, with_changes, AreRising}
 use Rattle.q3_player.specs.Arrays.{changes_from}
@@ -72,6 +72,41 @@ changes-append place (x ∷ xs) ys (a ∷ ps) qs same =
       | inr differs ↦ rw (differs, ← here, others) refl
     ]
 
+changes-zeros : (place count more : ℕ) (ps qs : List ℕ) → length ps ≡ count
+    → changes_from place (replicate (count + more) 0) (ps ++ qs) ≡ changes_from place (replicate count 0) ps ++ changes_from (place + count) (replicate more 0) qs
+changes-zeros place count more ps qs long =
+    let zeros : length (replicate count 0) ≡ count = length-replicate count 0 in
+    let both : replicate count 0 ++ replicate more 0 ≡ replicate (count + more) 0 = replicate-append-replicate {A = ℕ} count more 0 in
+    rw (← both)
+    (changes-append place (replicate count 0) (replicate more 0) ps qs (zeros ∙ sym long)
+    ∙ ap (λ (n : ℕ). changes_from place (replicate count 0) ps ++ changes_from (place + n) (replicate more 0) qs) zeros)
+
+-- a row of nothing but zeros
+changes-same : (place : ℕ) (words : List ℕ) → changes_from place words words ≡ []
+unfolding changes_from
+changes-same place [] = refl
+changes-same place (word ∷ words) = rw (eq-eqb word word refl) (changes-same (place + 1) words)
+
+pub changes-none : (place count : ℕ) (words : List ℕ) → words ≡ replicate count 0 → changes_from place (replicate count 0) words ≡ []
+changes-none place count words is = ap (λ (ws : List ℕ). changes_from place (replicate count 0) ws) is ∙ changes-same place (replicate count 0)
+
+-- a block more was put
+pub block_on : {kept whole : List Change} (first count : ℕ) (words : List ℕ) (k : ℕ) (block : List ℕ) (size : ℕ) → size ≡ 8 → 8 * (k + 1) ≤ count → 8 * (k + 1) ≤ length words → block ≡ take size (drop (k * 8) words)
+    → Reaches kept (first + k * 8) (count - k * 8) (drop (k * 8) words) whole
+    → Reaches (kept ++ changes_from (first + k * 8) (replicate 8 0) block) (first + (k + 1) * 8) (count - (k + 1) * 8) (drop ((k + 1) * 8) words) whole
+block_on {kept} {whole} first count words k block size eight few within same reached =
+    let is : block ≡ take 8 (drop (k * 8) words) = same ∙ ap (λ (n : ℕ). take n (drop (k * 8) words)) eight in
+    let more : 8 + (count - (k + 1) * 8) ≡ count - k * 8 = omega arith in
+    let next : first + k * 8 + 8 ≡ first + (k + 1) * 8 = omega arith in
+    let place : k * 8 + 8 ≡ (k + 1) * 8 = omega arith in
+    let some : 8 ≤ length (drop (k * 8) words) = omega (arith, length-drop (k * 8) words) in
+    let long : length block ≡ 8 = ap (λ (ws : List ℕ). length ws) is ∙ length-take-le 8 (drop (k * 8) words) some in
+    let after : drop 8 (drop (k * 8) words) ≡ drop ((k + 1) * 8) words = drop-drop 8 (k * 8) words ∙ ap (λ (n : ℕ). drop n words) place in
+    let split : drop (k * 8) words ≡ block ++ drop ((k + 1) * 8) words = sym (take-append-drop 8 (drop (k * 8) words)) ∙ ap (λ (ws : List ℕ). take 8 (drop (k * 8) words) ++ ws) after ∙ ap (λ (ws : List ℕ). ws ++ drop ((k + 1) * 8) words) (sym is) in
+    let here : changes_from (first + k * 8) (replicate (count - k * 8) 0) (drop (k * 8) words) ≡ changes_from (first + k * 8) (replicate 8 0) block ++ changes_from (first + (k + 1) * 8) (replicate (count - (k + 1) * 8) 0) (drop ((k + 1) * 8) words) =
+    rw (← more, split, ← next) (changes-zeros (first + k * 8) 8 (count - (k + 1) * 8) block (drop ((k + 1) * 8) words) long) in
+    record { all = append_assoc kept (changes_from (first + k * 8) (replicate 8 0) block) (changes_from (first + (k + 1) * 8) (replicate (count - (k + 1) * 8) 0) (drop ((k + 1) * 8) words)) ∙ ap (λ (cs : List Change). kept ++ cs) (sym here) ∙ reached.all }
+
 -- what is kept of words, put over zeros, gives them
 pub record Gives (count : ℕ) (kept : List Change) (words : List ℕ) : Type 0 where
   pub values : values_of count kept ≡ words
@@ -100,15 +135,6 @@ pub record Rows (words stats persistant ammo powerups : List ℕ) : Type 0 where
   pub of_persistant : length persistant ≡ 16
   pub of_ammo : length ammo ≡ 16
   pub of_powerups : length powerups ≡ 16
-
-changes-zeros : (place count more : ℕ) (ps qs : List ℕ) → length ps ≡ count
-    → changes_from place (replicate (count + more) 0) (ps ++ qs) ≡ changes_from place (replicate count 0) ps ++ changes_from (place + count) (replicate more 0) qs
-changes-zeros place count more ps qs long =
-    let zeros : length (replicate count 0) ≡ count = length-replicate count 0 in
-    let both : replicate count 0 ++ replicate more 0 ≡ replicate (count + more) 0 = replicate-append-replicate {A = ℕ} count more 0 in
-    rw (← both)
-    (changes-append place (replicate count 0) (replicate more 0) ps qs (zeros ∙ sym long)
-    ∙ ap (λ (n : ℕ). changes_from place (replicate count 0) ps ++ changes_from (place + n) (replicate more 0) qs) zeros)
 
 -- all rows at once
 rows-kept : (words stats persistant ammo powerups : List ℕ) → Rows words stats persistant ammo powerups
@@ -197,9 +223,9 @@ pub record GivesPlayer (kept : List Change) (player : PlayerState) : Type 0 wher
 pub gives_player : (player : PlayerState) (kept : List Change) → IsState player
     → kept
     ≡ changes_from 0 (replicate (length player.words) 0) player.words
-    ++ changes_from 64 (replicate 16 0) (patterns_of player.stats)
-    ++ changes_from 80 (replicate 16 0) (patterns_of player.persistant)
-    ++ changes_from 96 (replicate 16 0) (patterns_of player.ammo)
+    ++ changes_from 64 (replicate (length (patterns_of player.stats)) 0) (patterns_of player.stats)
+    ++ changes_from 80 (replicate (length (patterns_of player.persistant)) 0) (patterns_of player.persistant)
+    ++ changes_from 96 (replicate (length (patterns_of player.ammo)) 0) (patterns_of player.ammo)
     ++ changes_from 112 (replicate (length player.powerups) 0) player.powerups
     → GivesPlayer kept player
 gives_player player kept state same =
@@ -208,13 +234,16 @@ gives_player player kept state same =
     let ammo = patterns_of player.ammo in
     let rows = rows-of player state in
     let long : length (player_words player) ≡ 128 = all_rows player.words stats persistant ammo player.powerups rows in
-    let middle = λ (first last : List Change). first ++ changes_from 64 (replicate 16 0) stats ++ changes_from 80 (replicate 16 0) persistant ++ changes_from 96 (replicate 16 0) ammo ++ last in
     let is : kept ≡ changes_from 0 (replicate 128 0) (player_words player) =
-    same ∙ ap (λ (n : ℕ). middle (changes_from 0 (replicate n 0) player.words) (changes_from 112 (replicate (length player.powerups) 0) player.powerups)) rows.of_words
-    ∙ ap (λ (n : ℕ). middle (changes_from 0 (replicate 64 0) player.words) (changes_from 112 (replicate n 0) player.powerups)) rows.of_powerups
+    same ∙ lengths player.words stats persistant ammo player.powerups _ _ _ _ _ rows.of_words rows.of_stats rows.of_persistant rows.of_ammo rows.of_powerups
     ∙ rows-kept player.words stats persistant ammo player.powerups rows in
     let given = gives 128 kept (player_words player) long (is ∙ ap (λ (n : ℕ). changes_from 0 (replicate n 0) (player_words player)) (sym long)) in
     record { is = ap player_with given.values ∙ player_again player state; within = given.within } where
+      lengths : (words stats persistant ammo powerups : List ℕ) (a b c d e : ℕ) → a ≡ 64 → b ≡ 16 → c ≡ 16 → d ≡ 16 → e ≡ 16
+          → changes_from 0 (replicate a 0) words ++ changes_from 64 (replicate b 0) stats ++ changes_from 80 (replicate c 0) persistant ++ changes_from 96 (replicate d 0) ammo ++ changes_from 112 (replicate e 0) powerups
+          ≡ changes_from 0 (replicate 64 0) words ++ changes_from 64 (replicate 16 0) stats ++ changes_from 80 (replicate 16 0) persistant ++ changes_from 96 (replicate 16 0) ammo ++ changes_from 112 (replicate 16 0) powerups
+      lengths words stats persistant ammo powerups a b c d e e1 e2 e3 e4 e5 = rw (e1, e2, e3, e4, e5) refl
+
       all_rows : (words stats persistant ammo powerups : List ℕ) → Rows words stats persistant ammo powerups → length (words ++ stats ++ persistant ++ ammo ++ powerups) ≡ 128
       all_rows words stats persistant ammo powerups rows =
           omega (

@@ -6,7 +6,7 @@ ghost use Rattle.std.specs.Cmp.Rules.{comparing};
 ghost use Rattle.q3_words.specs.Fields.{values_of};
 ghost use Rattle.q3_words.specs.Kept.{AreWithin, player_with};
 
-use crate::sparse::{Places, count_shorts, count_words, push_shorts, push_words, put};
+use crate::sparse::{Places, count_words, patterns, push_words, put};
 use q3_bits::NoMemory;
 use q3_player::PlayerState;
 use q3_player::state::shorts;
@@ -52,26 +52,25 @@ impl Eq for KeptPlayer {
     ghost laws = { Prim.search (comparing, rules) };
 }
 
-/// How many words and values of a player aren't 0.
-fn count(player: &PlayerState) -> usize {
-    count_words(&player.words)
-        + count_shorts(&player.stats)
-        + count_shorts(&player.persistant)
-        + count_shorts(&player.ammo)
-        + count_words(&player.powerups)
-}
-
 /// The words and values of a player that aren't 0, each after its place. `Err` is want of memory.
 fn places(alloc: Global, player: &PlayerState) -> Result<Places, NoMemory>
     ensures player { IfOk result (λ kept. player_with (values_of 128 kept.items) ≡ player.now) }
     ensures within { IfOk result (λ kept. AreWithin 128 kept.items) }
 {
     q3_player::laws::is_state(player);
-    let mut words = Vec::with_capacity(alloc, count(player))?;
+    let stats = patterns(&player.stats);
+    let persistant = patterns(&player.persistant);
+    let ammo = patterns(&player.ammo);
+    let count = count_words(&player.words)
+        + count_words(&stats)
+        + count_words(&persistant)
+        + count_words(&ammo)
+        + count_words(&player.powerups);
+    let mut words = Vec::with_capacity(alloc, count)?;
     push_words(&mut words, 0, &player.words)?;
-    push_shorts(&mut words, 64, &player.stats)?;
-    push_shorts(&mut words, 80, &player.persistant)?;
-    push_shorts(&mut words, 96, &player.ammo)?;
+    push_words(&mut words, 64, &stats)?;
+    push_words(&mut words, 80, &persistant)?;
+    push_words(&mut words, 96, &ammo)?;
     push_words(&mut words, 112, &player.powerups)?;
     Ok(words)
 }
