@@ -26,25 +26,31 @@ pub fn server_line(server: &mut Server, event: &Event) -> Option<HandedIn>
             id: *id,
             outcome: server.new_map(*id, *feed),
         }),
-        Event::Baseline { state } => Some(HandedIn::Baseline {
-            number: state.get().number,
-            outcome: set_baseline(server, state.get()),
-        }),
+        Event::Baseline { state } => {
+            let state = state.state();
+            Some(HandedIn::Baseline {
+                number: state.number,
+                outcome: set_baseline(server, &state),
+            })
+        }
         Event::Config { index, text } => Some(HandedIn::Config {
             index: *index,
             outcome: server.set_config(*index, text.bytes()),
         }),
-        Event::Entity { state } => Some(HandedIn::Entity {
-            number: state.get().number,
-            outcome: set_entity(server, state.get()),
-        }),
+        Event::Entity { state } => {
+            let state = state.state();
+            Some(HandedIn::Entity {
+                number: state.number,
+                outcome: set_entity(server, &state),
+            })
+        }
         Event::Remove { number } => Some(HandedIn::Remove {
             number: *number,
             outcome: remove_entity(server, *number),
         }),
         Event::Player { c, player } => Some(HandedIn::Player {
             c: *c,
-            outcome: server.set_player(*c, player.get()),
+            outcome: server.set_player(*c, &player.player()),
         }),
         Event::Area { c, area } => Some(HandedIn::Area {
             c: *c,
@@ -56,7 +62,7 @@ pub fn server_line(server: &mut Server, event: &Event) -> Option<HandedIn>
         }
         Event::Say { c, text } => Some(HandedIn::Say {
             c: *c,
-            outcome: server.say(*c, text.get()),
+            outcome: server.say(*c, &text.text()),
         }),
         _ => None,
     }

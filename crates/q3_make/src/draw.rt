@@ -12,7 +12,7 @@ use q3_entity::EntityState;
 use q3_player::PlayerState;
 use q3_script::Event;
 use q3_text::Text;
-use q3_words::{Boxed, Bytes};
+use q3_words::{Bytes, KeptEntity, KeptPlayer, KeptText};
 use rand_core::utils::NextWord;
 use rand_pcg::Lcg64Xsh32;
 use std::alloc::Global;
@@ -89,7 +89,7 @@ fn entity_line(alloc: Global, generator: &mut Lcg64Xsh32) -> Result<Event, NoMem
     let place = draw(generator, 4);
     let word = draw(generator, 1_000);
     Ok(Event::Entity {
-        state: Boxed::new(alloc, entity_with(number as u16, place as usize, word))?,
+        state: KeptEntity::of(alloc, &entity_with(number as u16, place as usize, word))?,
     })
 }
 
@@ -121,7 +121,7 @@ fn player_line(alloc: Global, generator: &mut Lcg64Xsh32) -> Result<Event, NoMem
     let player = player_with(place as usize, word, stat as usize, value as u8);
     Ok(Event::Player {
         c,
-        player: Boxed::new(alloc, player)?,
+        player: KeptPlayer::of(alloc, &player)?,
     })
 }
 
@@ -131,7 +131,7 @@ fn say_line(alloc: Global, i: u32, generator: &mut Lcg64Xsh32) -> Result<Event, 
 {
     Ok(Event::Say {
         c: draw_client(generator),
-        text: Boxed::new(alloc, text_with(b"chat ", i))?,
+        text: KeptText::of(alloc, &text_with(b"chat ", i))?,
     })
 }
 
@@ -141,7 +141,7 @@ fn type_line(alloc: Global, i: u32, generator: &mut Lcg64Xsh32) -> Result<Event,
 {
     Ok(Event::TypeText {
         c: draw_client(generator),
-        text: Boxed::new(alloc, text_with(b"cmd ", i))?,
+        text: KeptText::of(alloc, &text_with(b"cmd ", i))?,
     })
 }
 

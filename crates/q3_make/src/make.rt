@@ -13,7 +13,7 @@ use q3_bits::NoMemory;
 use q3_clmsg::Move;
 use q3_io::Address;
 use q3_script::Event;
-use q3_words::Boxed;
+use q3_words::KeptEntity;
 use std::alloc::Global;
 
 /// How many lines open a script.
@@ -114,7 +114,7 @@ fn push_baselines(alloc: Global, events: &mut Vec<Event>) -> Result<(), NoMemory
 {
     for k in 0..40 {
         events.push(Event::Baseline {
-            state: Boxed::new(alloc, entity_with(1 + k, 1, u32::from(1 + k)))?,
+            state: KeptEntity::of(alloc, &entity_with(1 + k, 1, u32::from(1 + k)))?,
         })?;
     }
     Ok(())
@@ -127,7 +127,7 @@ fn push_entities(alloc: Global, events: &mut Vec<Event>) -> Result<(), NoMemory>
 {
     for k in 0..40 {
         events.push(Event::Entity {
-            state: Boxed::new(alloc, entity_with(1 + k, 1, u32::from(1 + k)))?,
+            state: KeptEntity::of(alloc, &entity_with(1 + k, 1, u32::from(1 + k)))?,
         })?;
     }
     Ok(())

@@ -232,7 +232,7 @@ impl End for ClientEnd {
     ) -> Result<bool, NodeError> {
         match event {
             Event::Send { c } => self.send(*c, number, wire, out),
-            Event::RecordTo { c, name } => self.record(alloc, *c, name.get(), file, files, out),
+            Event::RecordTo { c, name } => self.record(alloc, *c, &name.name(), file, files, out),
             Event::Stop { c } => self.stop(*c, *file, files, out),
             Event::End { .. } => self.finish(*file, files),
             Event::Show { c } => {
@@ -244,7 +244,7 @@ impl End for ClientEnd {
                 tell_line(&Answer::HandedIn(HandedIn::Client { c: *c, outcome }), out)
             }
             Event::TypeText { c, text } => {
-                let handed = type_text(&mut self.client, *c, text.get());
+                let handed = type_text(&mut self.client, *c, &text.text());
                 tell_line(&Answer::HandedIn(handed), out)
             }
             Event::Move { c, one } => {

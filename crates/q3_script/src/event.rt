@@ -2,11 +2,9 @@
 
 use arrayvec::ArrayVec;
 use q3_clmsg::Move;
-use q3_entity::EntityState;
 use q3_io::Address;
-use q3_player::{MOST_AREA, PlayerState};
-use q3_text::Text;
-use q3_words::{Boxed, Bytes, Name};
+use q3_player::MOST_AREA;
+use q3_words::{Bytes, KeptEntity, KeptName, KeptPlayer, KeptText};
 
 /// What one line of a script says: one call of one end, or something that the game hands in.
 /// `c` is the number of a client, 0 to 15.
@@ -33,7 +31,7 @@ pub enum Event {
     },
     /// The whole state of an entity, under its number.
     Entity {
-        state: Boxed<EntityState>,
+        state: KeptEntity,
     },
     /// The entity of this number is gone from now on.
     Remove {
@@ -41,12 +39,12 @@ pub enum Event {
     },
     /// The baseline of an entity, under its number.
     Baseline {
-        state: Boxed<EntityState>,
+        state: KeptEntity,
     },
     /// The whole state of a client's player.
     Player {
         c: u8,
-        player: Boxed<PlayerState>,
+        player: KeptPlayer,
     },
     /// The area bytes of a client's snapshots, a bit for each area of the map: 1 where the client can't see it.
     Area {
@@ -65,12 +63,12 @@ pub enum Event {
     /// The server issues a command to the client.
     Say {
         c: u8,
-        text: Boxed<Text>,
+        text: KeptText,
     },
     /// The client issues a command to the server.
     TypeText {
         c: u8,
-        text: Boxed<Text>,
+        text: KeptText,
     },
     /// The client issues a move.
     Move {
@@ -92,7 +90,7 @@ pub enum Event {
     /// The client's messages are recorded into a file of this name from its next whole snapshot on.
     RecordTo {
         c: u8,
-        name: Boxed<Name>,
+        name: KeptName,
     },
     /// The client's recording ends.
     Stop {

@@ -12,8 +12,9 @@ use q3_bits::NoMemory;
 use q3_text::Text;
 use q3_words::words::{first_word, is, next_word, only_word, text_left};
 use q3_words::{
-    Boxed, Bytes, LAST_ENTITY, LineCause, Name, area_bytes, client_word, config_bytes,
-    entity_state, entity_word, handed_bytes, number_word, player_state, read_address, text_word,
+    Bytes, KeptEntity, KeptName, KeptPlayer, KeptText, LAST_ENTITY, LineCause, Name, area_bytes,
+    client_word, config_bytes, entity_state, entity_word, handed_bytes, number_word, player_state,
+    read_address, text_word,
 };
 use std::alloc::Global;
 
@@ -107,7 +108,7 @@ fn entity(alloc: Global, left: &[u8]) -> Result<Result<Event, LineCause>, NoMemo
     };
     match entity_state(number, left) {
         Ok(state) => Ok(Ok(Event::Entity {
-            state: Boxed::new(alloc, state)?,
+            state: KeptEntity::of(alloc, &state)?,
         })),
         Err(cause) => Ok(Err(cause)),
     }
@@ -136,7 +137,7 @@ fn baseline(alloc: Global, left: &[u8]) -> Result<Result<Event, LineCause>, NoMe
     };
     match entity_state(number, left) {
         Ok(state) => Ok(Ok(Event::Baseline {
-            state: Boxed::new(alloc, state)?,
+            state: KeptEntity::of(alloc, &state)?,
         })),
         Err(cause) => Ok(Err(cause)),
     }
@@ -157,7 +158,7 @@ fn player(alloc: Global, left: &[u8]) -> Result<Result<Event, LineCause>, NoMemo
     match player_state(left) {
         Ok(player) => Ok(Ok(Event::Player {
             c,
-            player: Boxed::new(alloc, player)?,
+            player: KeptPlayer::of(alloc, &player)?,
         })),
         Err(cause) => Ok(Err(cause)),
     }
@@ -228,11 +229,11 @@ fn command_text(left: &[u8]) -> Result<(u8, Text), LineCause>
 }
 
 /// A client, and the command to it or from it. `Err` is want of memory.
-fn command(alloc: Global, left: &[u8]) -> Result<Result<(u8, Boxed<Text>), LineCause>, NoMemory>
+fn command(alloc: Global, left: &[u8]) -> Result<Result<(u8, KeptText), LineCause>, NoMemory>
     ensures { IfOk result (λ answer. answer ≡ command_at (words_left left.now)) }
 {
     match command_text(left) {
-        Ok((c, text)) => Ok(Ok((c, Boxed::new(alloc, text)?))),
+        Ok((c, text)) => Ok(Ok((c, KeptText::of(alloc, &text)?))),
         Err(cause) => Ok(Err(cause)),
     }
 }
@@ -305,7 +306,7 @@ fn record_to(alloc: Global, left: &[u8]) -> Result<Result<Event, LineCause>, NoM
     match Name::of(word) {
         Some(name) => Ok(Ok(Event::RecordTo {
             c,
-            name: Boxed::new(alloc, name)?,
+            name: KeptName::of(alloc, &name)?,
         })),
         None => Ok(Err(LineCause::Name)),
     }

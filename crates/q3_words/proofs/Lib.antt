@@ -13,3 +13,4 @@ mod Fronts
 mod Coming
 mod Rising
 mod PlayerParts
+mod Placed

@@ -5,3 +5,4 @@ pub mod Hex
 pub mod Names
 pub mod Quotes
 pub mod Fields
+pub mod Kept

@@ -78,13 +78,21 @@ impl Name {
         Some(Name { bytes })
     }
 
+    /// The name of these bytes.
+    pub(crate) fn copy_of(name: &[u8]) -> Name
+        requires { IsName name.now }
+        ensures { result ≡ name.now }
+    {
+        let mut bytes = ArrayVec::new();
+        let _ = bytes.try_extend_from_slice(name);
+        Name { bytes }
+    }
+
     /// A copy.
     pub fn copy(&self) -> Name
         ensures { result ≡ self.now }
     {
-        let mut bytes = ArrayVec::new();
-        let _ = bytes.try_extend_from_slice(&self.bytes);
-        Name { bytes }
+        Name::copy_of(&self.bytes)
     }
 
     /// The name as text.

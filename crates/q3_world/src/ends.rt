@@ -124,7 +124,7 @@ impl Ends {
                 tell(&Answer::HandedIn(handed), counts, out)
             }
             Event::TypeText { c, text } => {
-                let handed = self.type_text(*c, text.get());
+                let handed = self.type_text(*c, &text.text());
                 tell(&Answer::HandedIn(handed), counts, out)
             }
             Event::Move { c, one } => {
@@ -132,7 +132,7 @@ impl Ends {
                 tell(&Answer::HandedIn(handed), counts, out)
             }
             Event::RecordTo { c, name } => {
-                let Ok(fresh) = Recording::new(alloc, name.get()) else {
+                let Ok(fresh) = Recording::new(alloc, &name.name()) else {
                     return Err(StepError::NoMemory);
                 };
                 self.record(*c, fresh, numbers, counts, files, out)

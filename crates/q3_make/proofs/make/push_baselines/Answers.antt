@@ -7,6 +7,6 @@ use Rattle.q3_make.proofs.make.push_baselines.Goals as goal
 pub loop-k-preserved : goal.loop-k-preserved
 loop-k-preserved c =
     let n = 1 + c.loop-k.k in
-    let is : c.in_ok-new.field-0 ≡ entity_with n 1 n = c.in_ok-new.ensures ∙ c.entity_with.ensures ∙ ap (λ (word : ℕ). entity_with n 1 word) c.from.ensures in
+    let is : c.in_ok-of.field-0 ≡ entity_with n 1 n = c.in_ok-of.ensures ∙ c.entity_with.ensures ∙ ap (λ (word : ℕ). entity_with n 1 word) c.from.ensures in
     rw c.in_ok-push.ensures.items
-    (one_more (λ n. Baseline (entity_with n 1 n)) 1 c.loop-k.k n c.args.events.now.items c.loop-k.events.items (Baseline c.in_ok-new.field-0) refl c.loop-k.invariant (ap Baseline is))
+    (one_more (λ n. Baseline (entity_with n 1 n)) 1 c.loop-k.k n c.args.events.now.items c.loop-k.events.items (Baseline c.in_ok-of.field-0) refl c.loop-k.invariant (ap Baseline is))
