@@ -10,7 +10,7 @@ pub returns-in-Send-clause-file_cause : goal.returns-in-Send-clause-file_cause
 returns-in-Send-clause-file_cause g c = c.send.ensures.file_cause (g.F.Files.write_faults c.args.files.now)
 
 pub returns-in-RecordTo-clause-does : goal.returns-in-RecordTo-clause-does
-returns-in-RecordTo-clause-does g c = rw (c.in-RecordTo.is, sym c.get.ensures) (c.record.ensures.does (g.W.Wire.told c.args.wire.now))
+returns-in-RecordTo-clause-does g c = rw (c.in-RecordTo.is, sym c.name.ensures) (c.record.ensures.does (g.W.Wire.told c.args.wire.now))
 
 pub returns-in-RecordTo-clause-wire_cause : goal.returns-in-RecordTo-clause-wire_cause
 returns-in-RecordTo-clause-wire_cause g c = c.record.ensures.wire_cause (g.W.Wire.faults c.args.wire.now)

@@ -46,7 +46,7 @@ returns-in-Move-clause-numbered g c =
 pub returns-in-TypeText-clause-numbered : goal.returns-in-TypeText-clause-numbered
 returns-in-TypeText-clause-numbered g c =
     subst (λ (step : EndsStep). AreNumbered (g.F.Files.told c.args.files.now) (g.F.Files.given c.args.files.now) c.args.numbers.now step.ends) c.type_text-handed.ensures
-    (numbered_same _ _ c.args.numbers.now c.args.self.now (by_ends.type_text c.args.self.now c.in-TypeText.c c.get.result.now).ends (same_line c.args.self.now c.in-TypeText.c (handed.TypeText c.in-TypeText.c (Err untyped.NoClient)) (λ client. at_client.type_text client c.in-TypeText.c c.get.result.now) (place_at c.args.self.now c.in-TypeText.c) refl) c.requires.numbered)
+    (numbered_same _ _ c.args.numbers.now c.args.self.now (by_ends.type_text c.args.self.now c.in-TypeText.c c.text.result).ends (same_line c.args.self.now c.in-TypeText.c (handed.TypeText c.in-TypeText.c (Err untyped.NoClient)) (λ client. at_client.type_text client c.in-TypeText.c c.text.result) (place_at c.args.self.now c.in-TypeText.c) refl) c.requires.numbered)
 
 pub returns-in-Port-clause-numbered : goal.returns-in-Port-clause-numbered
 returns-in-Port-clause-numbered g c =
