@@ -46,7 +46,7 @@ Ends verdict ended printed =
     ((ended ≡ verdict.ending) × (printed ≡ verdict.text))
     ⊎ ((fault : Fault) × (ended ≡ Err fault) × ComesAfter (place_of verdict.stops fault) printed verdict.text)
 
--- what the sink took by then of a command whose verdict meets this rule; where it failed, a front of the verdict's text
+-- what the sink took by then of a command whose verdict meets a rule; where it failed, a front of the verdict's text
 abbrev pub Executes : (Verdict → Type 0) → Option Written → Option Written → Result (Unit {0}) Fault → Type 0
 Executes Rule old now ended =
     (verdict : Verdict) × Rule verdict
@@ -131,8 +131,8 @@ OfMadeIndex told profile demo index records So =
     → contents_of files.files demo ≡ Some bytes → contents_of files.files index ≡ Some made → length bytes < 2 ^ 64 → Tells version by.entity.number_bits → index_by version by bytes ≡ Ok made
     → records ≤ length (records_of by bytes) → So by bytes records
 
--- what so many of a demo's records leave is what playing them leaves: that text is printed, or only want of memory, a read that fails and a
--- write that does come before that
+-- what so many of a demo's records leave is what playing them leaves, and is printed; only want of memory, a read that
+-- fails and a write that does come before that
 abbrev pub EndsSought : ProfileValue → List ℕ → ℕ → Option Written → Option Written → Result (Unit {0}) Fault → Type 0
 EndsSought by demo records old now ended =
     ((played : Played) × (play_state by demo records ≡ Ok played) × PrintsAll (state_text played.state records) old now ended)

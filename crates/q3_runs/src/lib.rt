@@ -1,5 +1,5 @@
-//! What a run of each command does, but of a replay and of what a script is generated for: why it may end early, how it reads its input, and
-//! what it prints and leaves.
+//! What a run of each command does, but of a replay and of a generated script: why it may end early, how it reads
+//! its input, and what it prints and leaves.
 #![tactic(auto)]
 
 pub mod demos;

@@ -26,8 +26,8 @@ pub fn serve<F: Files, W: Wire, C: Clock, O: Sink>(
 ) -> Result<(), Fault>
     requires unbound { W.bound wire.old ≡ false }
     ensures executes { ExecutesWired (IsServed (outside (F.told files.old) (W.told wire.old) (C.readings clock.old))
-        profile.now script.now at) (outside (F.told files.old) (W.told wire.old) (C.readings clock.old)) (O.written out.old)
-        (O.written out.new) (left_so (W.told wire.new) (F.told files.new)) result }
+        profile.now script.now at) (outside (F.told files.old) (W.told wire.old) (C.readings clock.old))
+        (O.written out.old) (O.written out.new) (left_so (W.told wire.new) (F.told files.new)) result }
     ensures gives { LeavesFiles (IsServed (outside (F.told files.old) (W.told wire.old) (C.readings clock.old))
         profile.now script.now at) (F.told files.old) (F.told files.new) result }
     ensures binds { W.bound wire.new ≡ true → MayBind (IsServed
@@ -61,8 +61,8 @@ pub fn join<F: Files, W: Wire, C: Clock, O: Sink>(
 ) -> Result<(), Fault>
     requires unbound { W.bound wire.old ≡ false }
     ensures executes { ExecutesWired (IsJoined (outside (F.told files.old) (W.told wire.old) (C.readings clock.old))
-        profile.now script.now at server) (outside (F.told files.old) (W.told wire.old) (C.readings clock.old)) (O.written out.old)
-        (O.written out.new) (left_so (W.told wire.new) (F.told files.new)) result }
+        profile.now script.now at server) (outside (F.told files.old) (W.told wire.old) (C.readings clock.old))
+        (O.written out.old) (O.written out.new) (left_so (W.told wire.new) (F.told files.new)) result }
     ensures gives { LeavesFiles (IsJoined (outside (F.told files.old) (W.told wire.old) (C.readings clock.old))
         profile.now script.now at server) (F.told files.old) (F.told files.new) result }
     ensures binds { W.bound wire.new ≡ true → MayBind (IsJoined

@@ -1,5 +1,5 @@
 -- Stepping over events while datagrams are forgotten that no later one names: the world is alike the one that keeps them all.
-use Rattle.std.proofs.Common.{◌≡◌, ℕ, ◌+◌, ◌<◌, List, [], ◌∷◌, ◌++◌, length, get_or, take, drop, refl, sym, ap, subst, ◌∙◌}
+use Rattle.std.proofs.Common.{◌≡◌, ℕ, ◌+◌, ◌<◌, List, [], ◌∷◌, ◌++◌, length, get_or, take, drop, Option, Result, refl, sym, ap, subst, ◌∙◌}
 use Rattle.std.specs.Prelude.{true}
 use Rattle.std.proofs.lemmas.List.{drop_more}
 use Rattle.std.proofs.Math.Seq.{take-add}
@@ -14,6 +14,15 @@ use Rattle.q3_world.specs.Forgetting.{AreAlike, ForgettingIsAlike}
 use Rattle.q3_world.specs.Kept.{Kept, kept_step, kept_after}
 use Rattle.q3_world.specs.World.{Whole, step}
 use Rattle.q3_world.specs.StandsFor.{StandsFor}
+use Rattle.q3_io.specs.Laws.{TextsFollow}
+use Rattle.q3_io.specs.Told.{Told}
+use Rattle.q3_io.specs.Written.{Written, Wrote}
+use Rattle.q3_report.specs.AnswerLines.{lines_of}
+use Rattle.q3_world.specs.Counts.{Counting}
+use Rattle.q3_world.specs.Outcome.{Prints}
+use Rattle.q3_world.specs.declared.told.StepError.{StepError}
+use Rattle.q3net.proofs.Acting.{HasActed, HasActed-begin}
+use Rattle.q3net.proofs.Stepping.{HasStepped, HasStepped-begin}
 
 -- what a world keeps that forgets nothing, after the first so many events
 abbrev pub full_at : Kept → List Event → ℕ → Kept
@@ -70,3 +79,29 @@ does_alike law start now events k event is lt alike =
       left = subst (λ (f : Kept). AreAlike (drop (k + 1) events) (kept_step now event).kept f) (sym next) done.2;
       full = next;
     }
+
+-- the world, as if it kept all
+abbrev pub full_of : Counting → Counting → List Event → ℕ → Counting
+full_of start now events k = record now { kept = full_at start.kept events k }
+
+pub stepped_begin : (follow : TextsFollow) (profile : Profile) (start : Counting) (had : Option Written) (events : List Event)
+    → HasStepped profile start (full_of start start events 0) had had events 0
+stepped_begin follow profile start had events =
+    subst (λ (kept : Kept). HasStepped profile start (record start { kept = kept }) had had events 0) (sym (after-none start.kept))
+    (HasStepped-begin follow profile start had events)
+
+pub acted_begin : (start : Kept) (told : Option Told) (events : List Event) → HasActed start (full_at start events 0) told told events 0
+acted_begin start told events = subst (λ (kept : Kept). HasActed start kept told told events 0) (sym (after-none start)) (HasActed-begin start told events)
+
+-- the whole world's step is told by what the world that forgets does
+module _ (law : StepFollows) (profile : Profile) (start now : Kept) (events : List Event) (k : ℕ) (event : Event) (is : IsReplayEvent event) (does : DoesAlike start now events k event) where
+  pub stands_full : (whole : Whole) → StandsFor profile (full_at start events k) whole → StandsFor profile (full_at start events (k + 1)) (step profile whole event).whole
+  stands_full whole stands =
+      subst (λ (kept : Kept). StandsFor profile kept (step profile whole event).whole) (sym does.full) (law profile (full_at start events k) whole event is stands).0
+
+  pub answer_full : (whole : Whole) → StandsFor profile (full_at start events k) whole → (kept_step now event).answer ≡ (step profile whole event).answer
+  answer_full whole stands = does.answer ∙ (law profile (full_at start events k) whole event is stands).1
+
+  pub prints_full : (had after : Option Written) (result : Result (Unit {0}) StepError) → Prints had after (lines_of (kept_step now event).answer) result
+      → (whole : Whole) → StandsFor profile (full_at start events k) whole → Prints had after (lines_of (step profile whole event).answer) result
+  prints_full had after result printed whole stands = subst (λ (a : Answered). Prints had after (lines_of a) result) (answer_full whole stands) printed

@@ -69,13 +69,13 @@ pub returns-in-Some-Help-clause-executes : goal.returns-in-Some-Help-clause-exec
 unfolding help_text
 returns-in-Some-Help-clause-executes g c =
     let e = rw c.in-Some-Help.field-0-is at c.in-Some-Help.ensures.value in
-    rw (← e) (wire_stays (Some Help) (outside (g.F.Files.told c.args.files.now) (g.W.Wire.told c.args.wire.now) (g.C.Clock.readings c.args.clock.now)) (g.O.Sink.written c.args.out.now) (g.O.Sink.written c.print.new.out) c.print.result tt (text_executes (Some Help) (outside (g.F.Files.told c.args.files.now) (g.W.Wire.told c.args.wire.now) (g.C.Clock.readings c.args.clock.now)) (g.O.Sink.written c.args.out.now) (g.O.Sink.written c.print.new.out) stops_nowhere [] help_text c.print.result refl c.print.ensures.prints))
+    rw (← e) (wire_stays (Some Help) (outside (g.F.Files.told c.args.files.now) (g.W.Wire.told c.args.wire.now) (g.C.Clock.readings c.args.clock.now)) (g.O.Sink.written c.args.out.now) (g.O.Sink.written c.print.new.out) c.print.result tt (text_executes (IsVerdict (outside (g.F.Files.told c.args.files.now) (g.W.Wire.told c.args.wire.now) (g.C.Clock.readings c.args.clock.now)) (Some Help)) (g.O.Sink.written c.args.out.now) (g.O.Sink.written c.print.new.out) stops_nowhere [] help_text c.print.result refl c.print.ensures.prints))
 
 pub returns-in-Some-Version-clause-executes : goal.returns-in-Some-Version-clause-executes
 unfolding version_text
 returns-in-Some-Version-clause-executes g c =
     let e = rw c.in-Some-Version.field-0-is at c.in-Some-Version.ensures.value in
-    rw (← e) (wire_stays (Some Version) (outside (g.F.Files.told c.args.files.now) (g.W.Wire.told c.args.wire.now) (g.C.Clock.readings c.args.clock.now)) (g.O.Sink.written c.args.out.now) (g.O.Sink.written c.print-in-Some-Version.new.out) c.print-in-Some-Version.result tt (text_executes (Some Version) (outside (g.F.Files.told c.args.files.now) (g.W.Wire.told c.args.wire.now) (g.C.Clock.readings c.args.clock.now)) (g.O.Sink.written c.args.out.now) (g.O.Sink.written c.print-in-Some-Version.new.out) stops_nowhere [] version_text c.print-in-Some-Version.result refl c.print-in-Some-Version.ensures.prints))
+    rw (← e) (wire_stays (Some Version) (outside (g.F.Files.told c.args.files.now) (g.W.Wire.told c.args.wire.now) (g.C.Clock.readings c.args.clock.now)) (g.O.Sink.written c.args.out.now) (g.O.Sink.written c.print-in-Some-Version.new.out) c.print-in-Some-Version.result tt (text_executes (IsVerdict (outside (g.F.Files.told c.args.files.now) (g.W.Wire.told c.args.wire.now) (g.C.Clock.readings c.args.clock.now)) (Some Version)) (g.O.Sink.written c.args.out.now) (g.O.Sink.written c.print-in-Some-Version.new.out) stops_nowhere [] version_text c.print-in-Some-Version.result refl c.print-in-Some-Version.ensures.prints))
 
 pub returns-in-Some-Make-clause-executes : goal.returns-in-Some-Make-clause-executes
 returns-in-Some-Make-clause-executes g c =
