@@ -1,6 +1,6 @@
 //! Which datagrams the lines name that a replay hasn't done yet.
 
-ghost use Rattle.std.specs.Prelude.{◌≡◌, ◌<◌, ◌^◌, List, drop, length, true, IfOk};
+ghost use Rattle.std.specs.Prelude.{◌≡◌, ◌<◌, ◌^◌, List, drop, length, set, true, IfOk};
 ghost use Rattle.q3_script.specs.declared.event.Event.{Event as EventValue};
 ghost use Rattle.q3_world.specs.Forgetting.{named_by, noted, TellsLast, AreSilentOf};
 
@@ -54,9 +54,16 @@ fn note(last: &mut [u32], event: &Event, done: u32)
     ensures { last.new ≡ noted last.old (named_by event.now) done }
 {
     if let Some(at) = named(event) {
-        if let Some(place) = last.get_mut(at) {
-            *place = done;
-        }
+        put(last, at, done);
+    }
+}
+
+/// Puts a number at a place of a list, if it has that place.
+fn put(list: &mut [u32], at: usize, number: u32)
+    ensures { list.new ≡ set list.old at number }
+{
+    if at < list.len() {
+        list[at] = number;
     }
 }
 

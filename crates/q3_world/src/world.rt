@@ -330,12 +330,23 @@ impl World {
         ensures others { self.new ≡ record self.old
             { kept = record self.old.kept { datagrams = self.new.kept.datagrams } } }
     {
-        if let Some(at) = named(event) {
-            self.forget(later, at, done);
-        }
+        self.forget_named(later, event, done);
         let made = self.datagrams.len();
         if made > 0 {
             self.forget(later, made - 1, done);
+        }
+    }
+
+    /// The same of the datagram that a line named alone.
+    fn forget_named(&mut self, later: &Later, event: &Event, done: usize)
+        ensures alike { (all : List EventValue) (other : KeptValue) → TellsLast later.now all
+            → AreAlike (drop done all) self.old.kept other → AreAlike (drop done all) self.new.kept other }
+        ensures many { length self.new.kept.datagrams ≡ length self.old.kept.datagrams }
+        ensures others { self.new ≡ record self.old
+            { kept = record self.old.kept { datagrams = self.new.kept.datagrams } } }
+    {
+        if let Some(at) = named(event) {
+            self.forget(later, at, done);
         }
     }
 
