@@ -43,34 +43,33 @@ pub step_all-requires-clause-few : goal.step_all-requires-clause-few
 step_all-requires-clause-few g c =
     omega (arith, nothing_sent c.in_ok-profile.profile c.in_ok-world.world.kept c.in_ok-world.ensures.stands, c.in_ok-events.ensures.few, c.deref.ensures.len)
 
-pub returns-in_err-step_all-clause-executes : goal.returns-in_err-step_all-clause-executes
-returns-in_err-step_all-clause-executes g c =
-    let p = err_from_is_err_and c.from_residual-in_err-step_all.result c.from_residual-in_err-step_all.ensures.1 in
+pub returns-in-Err-clause-executes : goal.returns-in-Err-clause-executes
+returns-in-Err-clause-executes g c =
     let read = both_read (g.F.Files.told c.args.files.now) (g.F.Files.told c.load_profile.new.files) c.args.profile.now c.args.script.now c.in_ok-profile.profile c.in_ok-events.events.items
     c.in_ok-profile.ensures.gets c.in_ok-profile.ensures.gives c.in_ok-events.ensures.gets in
-    rw (p.1, p.2) (steps_ended (g.F.Files.told c.args.files.now) c.args.profile.now c.args.script.now c.in_ok-profile.profile c.in_ok-events.events.items (g.O.Sink.written c.args.out.now)
-    (g.O.Sink.written c.step_all.new.out) c.in_err-step_all.field-0.0 read (subst (λ (events : List Event). AddsLines (answers c.in_ok-profile.profile (opening c.in_ok-profile.profile) events) (g.O.Sink.written c.args.out.now) (g.O.Sink.written c.step_all.new.out) (Err c.in_err-step_all.field-0.0))
-    c.deref.ensures.value (c.in_err-step_all.ensures.adds c.in_ok-profile.profile (opening c.in_ok-profile.profile) c.in_ok-world.ensures.stands))
+    rw c.step_fault.ensures (steps_ended (g.F.Files.told c.args.files.now) c.args.profile.now c.args.script.now c.in_ok-profile.profile c.in_ok-events.events.items (g.O.Sink.written c.args.out.now)
+    (g.O.Sink.written c.step_all.new.out) c.in-Err.e read (subst (λ (events : List Event). AddsLines (answers c.in_ok-profile.profile (opening c.in_ok-profile.profile) events) (g.O.Sink.written c.args.out.now) (g.O.Sink.written c.step_all.new.out) (Err c.in-Err.e))
+    c.deref.ensures.value (c.in-Err.ensures.adds c.in_ok-profile.profile (opening c.in_ok-profile.profile) c.in_ok-world.ensures.stands))
     (steps_some (g.F.Files.told c.load_events.new.files) (g.F.Files.told c.step_all.new.files) c.in_ok-profile.profile c.in_ok-events.events.items c.in_ok-world.world.kept (ending_acts c.step_all.new.world.kept.ends)
-    (Err c.in_err-step_all.field-0.0) c.in_ok-world.ensures.stands
-    (subst (λ (events : List Event). DoesFirst (g.F.Files.told c.load_events.new.files) (g.F.Files.told c.step_all.new.files) (acts_from c.in_ok-world.world.kept events) (ending_acts c.step_all.new.world.kept.ends) (Err c.in_err-step_all.field-0.0)) c.deref.ensures.value c.in_err-step_all.ensures.files)))
+    (Err c.in-Err.e) c.in_ok-world.ensures.stands
+    (subst (λ (events : List Event). DoesFirst (g.F.Files.told c.load_events.new.files) (g.F.Files.told c.step_all.new.files) (acts_from c.in_ok-world.world.kept events) (ending_acts c.step_all.new.world.kept.ends) (Err c.in-Err.e)) c.deref.ensures.value c.in-Err.ensures.files)))
 
 pub returns-clause-executes : goal.returns-clause-executes
 returns-clause-executes g c =
     let read = both_read (g.F.Files.told c.args.files.now) (g.F.Files.told c.load_profile.new.files) c.args.profile.now c.args.script.now c.in_ok-profile.profile c.in_ok-events.events.items
     c.in_ok-profile.ensures.gets c.in_ok-profile.ensures.gives c.in_ok-events.ensures.gets in
     steps_done (g.F.Files.told c.args.files.now) c.args.profile.now c.args.script.now c.in_ok-profile.profile c.in_ok-events.events.items (g.O.Sink.written c.args.out.now)
-    (g.O.Sink.written c.step_all.new.out) read (rw c.deref.ensures.value at (c.in_ok-step_all.ensures.adds c.in_ok-profile.profile (opening c.in_ok-profile.profile) c.in_ok-world.ensures.stands))
+    (g.O.Sink.written c.step_all.new.out) read (rw c.deref.ensures.value at (c.in_default.ensures.adds c.in_ok-profile.profile (opening c.in_ok-profile.profile) c.in_ok-world.ensures.stands))
 
-pub returns-in_default-clause-executes : goal.returns-in_default-clause-executes
-returns-in_default-clause-executes g c =
+pub returns-in_default-finish-clause-executes : goal.returns-in_default-finish-clause-executes
+returns-in_default-finish-clause-executes g c =
     let read = both_read (g.F.Files.told c.args.files.now) (g.F.Files.told c.load_profile.new.files) c.args.profile.now c.args.script.now c.in_ok-profile.profile c.in_ok-events.events.items
     c.in_ok-profile.ensures.gets c.in_ok-profile.ensures.gives c.in_ok-events.ensures.gets in
     finish_failed (g.F.Files.told c.args.files.now) c.args.profile.now c.args.script.now c.in_ok-profile.profile c.in_ok-events.events.items (g.O.Sink.written c.args.out.now)
-    (g.O.Sink.written c.step_all.new.out) read (rw c.deref.ensures.value at (c.in_ok-step_all.ensures.adds c.in_ok-profile.profile (opening c.in_ok-profile.profile) c.in_ok-world.ensures.stands))
+    (g.O.Sink.written c.step_all.new.out) read (rw c.deref.ensures.value at (c.in_default.ensures.adds c.in_ok-profile.profile (opening c.in_ok-profile.profile) c.in_ok-world.ensures.stands))
     (ends_some (g.F.Files.told c.load_events.new.files) (g.F.Files.told c.step_all.new.files) c.in_ok-profile.profile c.in_ok-events.events.items c.in_ok-world.world.kept (ending_acts c.step_all.new.world.kept.ends) c.in_ok-world.ensures.stands
-    (subst (λ (events : List Event). DoesFirst (g.F.Files.told c.load_events.new.files) (g.F.Files.told c.step_all.new.files) (acts_from c.in_ok-world.world.kept events) (ending_acts c.step_all.new.world.kept.ends) (Ok tt)) c.deref.ensures.value c.in_ok-step_all.ensures.files)
-    (c.in_default.ensures.files.some refl))
+    (subst (λ (events : List Event). DoesFirst (g.F.Files.told c.load_events.new.files) (g.F.Files.told c.step_all.new.files) (acts_from c.in_ok-world.world.kept events) (ending_acts c.step_all.new.world.kept.ends) (Ok tt)) c.deref.ensures.value c.in_default.ensures.files)
+    (c.in_default-finish.ensures.files.some refl))
 
 pub returns-in_err-world-clause-gives : goal.returns-in_err-world-clause-gives
 returns-in_err-world-clause-gives g c =
@@ -81,26 +80,25 @@ returns-in_err-world-clause-gives g c =
     c.in_ok-profile.ensures.gives c.in_ok-events.ensures.gives in
     rw (p.1, p.2) (memory_left (g.F.Files.told c.args.files.now) (g.F.Files.told c.load_events.new.files) c.args.profile.now c.args.script.now c.in_ok-profile.profile c.in_ok-events.events.items read looked)
 
-pub returns-in_err-step_all-clause-gives : goal.returns-in_err-step_all-clause-gives
-returns-in_err-step_all-clause-gives g c =
-    let p = err_from_is_err_and c.from_residual-in_err-step_all.result c.from_residual-in_err-step_all.ensures.1 in
+pub returns-in-Err-clause-gives : goal.returns-in-Err-clause-gives
+returns-in-Err-clause-gives g c =
     let read = both_read (g.F.Files.told c.args.files.now) (g.F.Files.told c.load_profile.new.files) c.args.profile.now c.args.script.now c.in_ok-profile.profile c.in_ok-events.events.items
     c.in_ok-profile.ensures.gets c.in_ok-profile.ensures.gives c.in_ok-events.ensures.gets in
     let looked = both_looked (g.F.Files.told c.args.files.now) (g.F.Files.told c.load_profile.new.files) (g.F.Files.told c.load_events.new.files) c.args.profile.now c.args.script.now c.in_ok-profile.profile c.in_ok-events.events
     c.in_ok-profile.ensures.gives c.in_ok-events.ensures.gives in
-    let does = subst (λ (events : List Event). DoesFirst (g.F.Files.told c.load_events.new.files) (g.F.Files.told c.step_all.new.files) (acts_from c.in_ok-world.world.kept events) (ending_acts c.step_all.new.world.kept.ends) (Err c.in_err-step_all.field-0.0)) c.deref.ensures.value c.in_err-step_all.ensures.files in
-    rw (p.1, p.2) (steps_left (g.F.Files.told c.args.files.now) (g.F.Files.told c.load_events.new.files) (g.F.Files.told c.step_all.new.files) c.args.profile.now c.args.script.now c.in_ok-profile.profile c.in_ok-events.events.items
-    c.in_ok-world.world.kept (ending_acts c.step_all.new.world.kept.ends) c.in_err-step_all.field-0.0 read looked c.in_ok-world.ensures.stands does)
+    let does = subst (λ (events : List Event). DoesFirst (g.F.Files.told c.load_events.new.files) (g.F.Files.told c.step_all.new.files) (acts_from c.in_ok-world.world.kept events) (ending_acts c.step_all.new.world.kept.ends) (Err c.in-Err.e)) c.deref.ensures.value c.in-Err.ensures.files in
+    rw c.step_fault.ensures (steps_left (g.F.Files.told c.args.files.now) (g.F.Files.told c.load_events.new.files) (g.F.Files.told c.step_all.new.files) c.args.profile.now c.args.script.now c.in_ok-profile.profile c.in_ok-events.events.items
+    c.in_ok-world.world.kept (ending_acts c.step_all.new.world.kept.ends) c.in-Err.e read looked c.in_ok-world.ensures.stands does)
 
-pub returns-in_default-clause-gives : goal.returns-in_default-clause-gives
-returns-in_default-clause-gives g c =
+pub returns-in_default-finish-clause-gives : goal.returns-in_default-finish-clause-gives
+returns-in_default-finish-clause-gives g c =
     let read = both_read (g.F.Files.told c.args.files.now) (g.F.Files.told c.load_profile.new.files) c.args.profile.now c.args.script.now c.in_ok-profile.profile c.in_ok-events.events.items
     c.in_ok-profile.ensures.gets c.in_ok-profile.ensures.gives c.in_ok-events.ensures.gets in
     let looked = both_looked (g.F.Files.told c.args.files.now) (g.F.Files.told c.load_profile.new.files) (g.F.Files.told c.load_events.new.files) c.args.profile.now c.args.script.now c.in_ok-profile.profile c.in_ok-events.events
     c.in_ok-profile.ensures.gives c.in_ok-events.ensures.gives in
-    let does = subst (λ (events : List Event). DoesFirst (g.F.Files.told c.load_events.new.files) (g.F.Files.told c.step_all.new.files) (acts_from c.in_ok-world.world.kept events) (ending_acts c.step_all.new.world.kept.ends) (Ok tt)) c.deref.ensures.value c.in_ok-step_all.ensures.files in
+    let does = subst (λ (events : List Event). DoesFirst (g.F.Files.told c.load_events.new.files) (g.F.Files.told c.step_all.new.files) (acts_from c.in_ok-world.world.kept events) (ending_acts c.step_all.new.world.kept.ends) (Ok tt)) c.deref.ensures.value c.in_default.ensures.files in
     finish_left (g.F.Files.told c.args.files.now) (g.F.Files.told c.load_events.new.files) (g.F.Files.told c.step_all.new.files) (g.F.Files.told c.finish.new.files) c.args.profile.now c.args.script.now c.in_ok-profile.profile c.in_ok-events.events.items
-    c.in_ok-world.world.kept (ending_acts c.step_all.new.world.kept.ends) c.in_default.field-0 read looked c.in_ok-world.ensures.stands does c.in_default.ensures.files.acts_on
+    c.in_ok-world.world.kept (ending_acts c.step_all.new.world.kept.ends) c.in_default-finish.field-0 read looked c.in_ok-world.ensures.stands does c.in_default-finish.ensures.files.acts_on
 
 pub returns-clause-gives : goal.returns-clause-gives
 returns-clause-gives g c =
@@ -108,23 +106,20 @@ returns-clause-gives g c =
     c.in_ok-profile.ensures.gets c.in_ok-profile.ensures.gives c.in_ok-events.ensures.gets in
     let looked = both_looked (g.F.Files.told c.args.files.now) (g.F.Files.told c.load_profile.new.files) (g.F.Files.told c.load_events.new.files) c.args.profile.now c.args.script.now c.in_ok-profile.profile c.in_ok-events.events
     c.in_ok-profile.ensures.gives c.in_ok-events.ensures.gives in
-    let does = subst (λ (events : List Event). DoesFirst (g.F.Files.told c.load_events.new.files) (g.F.Files.told c.step_all.new.files) (acts_from c.in_ok-world.world.kept events) (ending_acts c.step_all.new.world.kept.ends) (Ok tt)) c.deref.ensures.value c.in_ok-step_all.ensures.files in
+    let does = subst (λ (events : List Event). DoesFirst (g.F.Files.told c.load_events.new.files) (g.F.Files.told c.step_all.new.files) (acts_from c.in_ok-world.world.kept events) (ending_acts c.step_all.new.world.kept.ends) (Ok tt)) c.deref.ensures.value c.in_default.ensures.files in
     all_done (g.F.Files.told c.args.files.now) (g.F.Files.told c.load_events.new.files) (g.F.Files.told c.step_all.new.files) (g.F.Files.told c.finish.new.files) c.args.profile.now c.args.script.now c.in_ok-profile.profile c.in_ok-events.events.items
     c.in_ok-world.world.kept (ending_acts c.step_all.new.world.kept.ends) read looked c.in_ok-world.ensures.stands does c.in-Ok.ensures.files.acts_on
 
-pub returns-in_err-step_all-clause-read_cause : goal.returns-in_err-step_all-clause-read_cause
-returns-in_err-step_all-clause-read_cause g c =
-    let p = err_from_is_err_and c.from_residual-in_err-step_all.result c.from_residual-in_err-step_all.ensures.1 in
-    rw (p.1, p.2) (step_read_cause (g.F.Files.faults c.args.files.now) (g.F.Files.faults c.step_all.new.files) c.in_err-step_all.field-0.0
+pub returns-in-Err-clause-read_cause : goal.returns-in-Err-clause-read_cause
+returns-in-Err-clause-read_cause g c =
+    rw c.step_fault.ensures (step_read_cause (g.F.Files.faults c.args.files.now) (g.F.Files.faults c.step_all.new.files) c.in-Err.e
     (c.step_all.ensures.reads ∙ (c.in_ok-events.ensures.read_cause ∙ c.in_ok-profile.ensures.read_cause)))
 
-pub returns-in_err-step_all-clause-write_cause : goal.returns-in_err-step_all-clause-write_cause
-returns-in_err-step_all-clause-write_cause g c =
-    let p = err_from_is_err_and c.from_residual-in_err-step_all.result c.from_residual-in_err-step_all.ensures.1 in
-    rw (p.1, p.2) (step_write_cause (g.O.Sink.faults c.args.out.now) (g.O.Sink.faults c.step_all.new.out) c.in_err-step_all.field-0.0 c.in_err-step_all.ensures.cause)
+pub returns-in-Err-clause-write_cause : goal.returns-in-Err-clause-write_cause
+returns-in-Err-clause-write_cause g c =
+    rw c.step_fault.ensures (step_write_cause (g.O.Sink.faults c.args.out.now) (g.O.Sink.faults c.step_all.new.out) c.in-Err.e c.in-Err.ensures.cause)
 
-pub returns-in_err-step_all-clause-file_cause : goal.returns-in_err-step_all-clause-file_cause
-returns-in_err-step_all-clause-file_cause g c =
-    let p = err_from_is_err_and c.from_residual-in_err-step_all.result c.from_residual-in_err-step_all.ensures.1 in
-    rw (p.1, p.2) (step_file_cause (g.F.Files.write_faults c.args.files.now) (g.F.Files.write_faults c.step_all.new.files) c.in_err-step_all.field-0.0
-    (subst (λ (n : ℕ). HasCause n (g.F.Files.write_faults c.step_all.new.files) (by_files (Err c.in_err-step_all.field-0.0))) (c.in_ok-events.ensures.writes ∙ c.in_ok-profile.ensures.writes) c.in_err-step_all.ensures.file_cause))
+pub returns-in-Err-clause-file_cause : goal.returns-in-Err-clause-file_cause
+returns-in-Err-clause-file_cause g c =
+    rw c.step_fault.ensures (step_file_cause (g.F.Files.write_faults c.args.files.now) (g.F.Files.write_faults c.step_all.new.files) c.in-Err.e
+    (subst (λ (n : ℕ). HasCause n (g.F.Files.write_faults c.step_all.new.files) (by_files (Err c.in-Err.e))) (c.in_ok-events.ensures.writes ∙ c.in_ok-profile.ensures.writes) c.in-Err.ensures.file_cause))
