@@ -13,8 +13,8 @@ use q3_io::Failed;
 use std::alloc::AllocError;
 use std::mem::replace;
 
-/// Puts a state after bytes, as an index of a demo keeps it. The ages of all snapshots that are held are below 2^32, as
-/// they are after 1,048,576 messages at most. `Err` is want of memory; the bytes are as they were then.
+/// Puts a state after bytes, as an index of a demo keeps it. The ages of all snapshots that are held are below 2^32,
+/// as they are after 1,048,576 messages at most. `Err` is want of memory; the bytes are as they were then.
 pub fn append_state(state: &ClState, into: &mut Vec<u8>) -> Result<(), NoMemory>
     requires ages { HasAges state.now.held }
     ensures { Appends into.old.items into.new.items (state_bytes state.now.profile (saved_in state.now)) result }

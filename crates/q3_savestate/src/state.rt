@@ -43,8 +43,8 @@ pub(crate) struct Start {
     incoming: Incoming,
 }
 
-/// Writes a state. The ages of all snapshots that are held are below 2^32. `Failed` comes where the sink failed, after a
-/// front of the text.
+/// Writes a state. The ages of all snapshots that are held are below 2^32. `Failed` comes where the sink failed, after
+/// a front of the text.
 pub fn write_state<O: Sink>(state: &ClState, out: &mut O) -> Result<(), Failed>
     requires ages { HasAges state.now.held }
     ensures adds { Adds (O.written out.old) (O.written out.new)
@@ -79,9 +79,9 @@ fn write_start<O: Sink>(state: &ClState, out: &mut O) -> Result<(), Failed>
     out.write_all(last)
 }
 
-/// The state that bytes are, by a profile whose ring for a client's entities has 512 to 65,536 places. `Err` is want of
-/// memory, or `NotState` exactly where they are none, with the place of the first field that is cut short or breaks a
-/// rule, or of the first byte after the state.
+/// The state that bytes are, by a profile whose ring for a client's entities has 512 to 65,536 places. `Err` is want
+/// of memory, or `NotState` exactly where they are none, with the place of the first field that is cut short or breaks
+/// a rule, or of the first byte after the state.
 pub fn read_state(alloc: Global, profile: &Profile, bytes: &[u8]) -> Result<ClState, StateError>
     requires least { 512 ≤ profile.now.parse_ring }
     requires most { profile.now.parse_ring ≤ 65536 }
