@@ -50,7 +50,7 @@ pub trait Files {
         ensures cause { HasCause (faults self.old) (faults self.new) result }
         ensures others { write_faults self.new ≡ write_faults self.old };
 
-    /// The number of an empty file of this name, also where there was one.
+    /// The number of an empty file of this name, also where there was one. `Failed` where the outside can't make it, or keeps its bytes.
     fn create(&mut self, name: &str) -> Result<usize, Failed>
         ensures given { IsGiven (given self.old) (given self.new) result }
         ensures told { Creates (told self.old) (told self.new) name.now result }

@@ -10,8 +10,8 @@ use q3_entity::EntityState;
 use std::alloc::Global;
 use std::marker::Model;
 
-/// An entity in as much memory as it has words that aren't 0: eight bytes for each, and none where there are none. To a
-/// caller it is the entity.
+/// An entity in as much memory as it has words that aren't 0: eight bytes for each, and none where there are none.
+/// To a caller it is the entity.
 #[derive(Debug, Drop)]
 pub struct KeptEntity {
     number: u16,

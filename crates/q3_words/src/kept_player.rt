@@ -13,8 +13,8 @@ use q3_player::state::shorts;
 use std::alloc::Global;
 use std::marker::Model;
 
-/// A player in as much memory as it has words and values that aren't 0: eight bytes for each, and none where there are
-/// none. To a caller it is the player.
+/// A player in as much memory as it has words and values that aren't 0: eight bytes for each, and none where there
+/// are none. To a caller it is the player.
 #[derive(Debug, Drop)]
 pub struct KeptPlayer {
     words: Places,

@@ -89,7 +89,7 @@ fn keep<R: std::rt::Files>(
     }
     let file = match purpose {
         Purpose::Reading => open(rt, name)?,
-        Purpose::Writing => empty(rt, files, name)?,
+        Purpose::Writing => create(rt, files, name)?,
     };
     let place = Some(0);
     match files.push(OpenedFile {
@@ -114,7 +114,7 @@ fn open<R: std::rt::Files>(rt: &R, name: &str) -> Result<R::File, Failed> {
 }
 
 /// Creates an empty file for writing, also where there was one. One that is read is refused, and keeps its bytes.
-fn empty<R: std::rt::Files>(
+fn create<R: std::rt::Files>(
     rt: &R,
     files: &[OpenedFile<R::File>],
     name: &str,
@@ -125,26 +125,27 @@ fn empty<R: std::rt::Files>(
     let Ok(metadata) = file.metadata() else {
         return Err(Failed);
     };
-    if metadata.is_file() && (is_read(files, &metadata) || file.set_len(0).is_err()) {
+    if metadata.is_file() && (may_be_read(files, &metadata) || file.set_len(0).is_err()) {
         return Err(Failed);
     }
     Ok(file)
 }
 
-/// Whether a file is one of those that are read: it has the same number on the same device.
-fn is_read<F: OpenFile>(files: &[OpenedFile<F>], metadata: &Metadata) -> bool {
+/// Whether a file may be one of those that are read.
+fn may_be_read<F: OpenFile>(files: &[OpenedFile<F>], metadata: &Metadata) -> bool {
     for opened in files {
-        if opened.purpose == Purpose::Reading && is_same(&opened.file, metadata) {
+        if opened.purpose == Purpose::Reading && may_be_same(&opened.file, metadata) {
             return true;
         }
     }
     false
 }
 
-fn is_same<F: OpenFile>(file: &F, metadata: &Metadata) -> bool {
+/// Whether a file may be the same: it has the same number on the same device, or can't tell.
+fn may_be_same<F: OpenFile>(file: &F, metadata: &Metadata) -> bool {
     match file.metadata() {
         Ok(other) => other.dev() == metadata.dev() && other.ino() == metadata.ino(),
-        Err(_) => false,
+        Err(_) => true,
     }
 }
 
