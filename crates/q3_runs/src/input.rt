@@ -1,4 +1,4 @@
-//! Reads a file whole, up to a limit: a profile, or a script.
+//! Reads a file whole, up to a limit, and what it spells: a profile, or the events of a script.
 
 ghost use Rattle.std.specs.Prelude.{◌≡◌, ◌⊎◌, ◌+◌, ◌<◌, ◌≤◌, ◌^◌, [], ◌∷◌, All, length, Ok, Err, IfOk, OnOk, MatchResult};
 ghost use Rattle.q3_io.specs.Told.{LooksUp};
@@ -19,10 +19,13 @@ use std::alloc::Global;
 /// How many bytes are asked for at a time.
 const PIECE: usize = 65_536;
 
-/// How many tables a profile's document may have, and for how many of its bytes one more.
-const TABLES: usize = 1_024;
+/// How much memory the tables and keys of a profile's document may take, in bytes, as far as the file tells.
+const MOST_MEMORY: usize = 33_554_432;
 
-const BYTES_OF_A_TABLE: usize = 64;
+/// What a table takes that isn't empty, and what a key does, as `toml` keeps them.
+const TABLE: usize = 1_280;
+
+const KEY: usize = 224;
 
 /// Reads the profile of this name, and checks it.
 pub fn load_profile<F: Files>(alloc: Global, name: &str, files: &mut F) -> Result<Profile, Fault>
@@ -33,28 +36,34 @@ pub fn load_profile<F: Files>(alloc: Global, name: &str, files: &mut F) -> Resul
     ensures read_cause { ReadCause (F.faults files.old) (F.faults files.new) result }
 {
     let bytes = read_file(alloc, name, LONGEST_PROFILE, files)?;
-    Ok(read_thriftily(alloc, &bytes)?)
+    Ok(parse_profile(alloc, &bytes)?)
 }
 
-/// The profile of a file's bytes, as `read_profile` has it. A document that may have too many tables for its length counts as want of
-/// memory: each that isn't empty takes more than a kilobyte, and one of two bytes may begin it.
-fn read_thriftily(alloc: Global, bytes: &[u8]) -> Result<Profile, ProfileError>
+/// The profile of a file's bytes, as `read_profile` has it. A document whose tables and keys may take too much counts as want of memory: two
+/// bytes may begin a table.
+fn parse_profile(alloc: Global, bytes: &[u8]) -> Result<Profile, ProfileError>
     ensures exact { MatchResult result (λ profile. checked bytes.now ≡ Ok profile)
         (λ e. (e ≡ errors.NoMemory) ⊎ (checked bytes.now ≡ Err e)) }
     ensures is_profile { IfOk result IsProfile }
 {
-    if table_marks(bytes) > TABLES + bytes.len() / BYTES_OF_A_TABLE {
+    if bytes.len() <= LONGEST_PROFILE && memory_of(bytes) > MOST_MEMORY {
         return Err(ProfileError::NoMemory);
     }
     read_profile(alloc, bytes)
 }
 
-/// How many bytes there are that may begin a table.
-fn table_marks(bytes: &[u8]) -> usize {
-    bytes
-        .iter()
-        .filter(|byte| matches!(byte, b'.' | b'[' | b'{'))
-        .count()
+/// How much memory a document may take: each of these bytes may begin a table, or end a key, or stand in a text or a comment.
+fn memory_of(bytes: &[u8]) -> usize {
+    let mut most: usize = 0;
+    for byte in bytes {
+        let more = match byte {
+            b'.' | b'[' | b'{' => TABLE,
+            b'=' => KEY,
+            _ => 0,
+        };
+        most = most.saturating_add(more);
+    }
+    most
 }
 
 /// Reads the script of this name, of a kind.

@@ -9,7 +9,7 @@ ghost use Rattle.q3_world.specs.Kept.{datagrams_after};
 use q3_bits::NoMemory;
 use q3_chan::{DATAGRAM_ROOM, Datagram};
 use q3_io::Address;
-use std::alloc::{AllocError, Global};
+use std::alloc::Global;
 use std::marker::Model;
 
 /// Which end a datagram goes to.
@@ -52,19 +52,12 @@ impl Made {
     }
 }
 
-/// Room among the datagrams for one more, and for its bytes, where they may take so many more. `Err` is want of memory.
-pub(crate) fn room_for_one(
-    alloc: Global,
-    room: usize,
-    datagrams: &mut Vec<Made>,
-) -> Result<Vec<u8>, NoMemory>
+/// Room among the datagrams for one more, and for its bytes. `Err` is want of memory.
+pub(crate) fn room_for_one(alloc: Global, datagrams: &mut Vec<Made>) -> Result<Vec<u8>, NoMemory>
     ensures same { datagrams.new.items ≡ datagrams.old.items }
     ensures room { OnOk result (length datagrams.new.items + 1 ≤ vec_capacity datagrams.new) }
     ensures bytes { IfOk result (λ bytes. (bytes.items ≡ []) × (DATAGRAM_ROOM ≤ vec_capacity bytes)) }
 {
-    if room < DATAGRAM_ROOM {
-        return Err(AllocError);
-    }
     let bytes = Vec::with_capacity(alloc, DATAGRAM_ROOM)?;
     datagrams.reserve(1)?;
     Ok(bytes)
@@ -76,14 +69,6 @@ pub(crate) fn forget_at(datagrams: &mut Vec<Made>, at: usize)
 {
     if let Some(sent) = datagrams.get_mut(at) {
         sent.forget();
-    }
-}
-
-/// How many bytes the datagram at a place has, 0 where there is none.
-pub(crate) fn bytes_at(datagrams: &[Made], at: usize) -> usize {
-    match datagrams.get(at) {
-        Some(sent) => sent.bytes.len(),
-        None => 0,
     }
 }
 

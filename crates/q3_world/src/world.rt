@@ -21,7 +21,7 @@ use crate::counts::Counts;
 use crate::ends::Ends;
 use crate::later::{Later, named};
 use crate::laws;
-use crate::made::{Made, bytes_at, forget_at, room_for_one};
+use crate::made::{Made, forget_at, room_for_one};
 use crate::told::{StepError, tell};
 use q3_bits::NoMemory;
 use q3_clstate::Log;
@@ -45,8 +45,6 @@ pub struct World {
     ends: Ends,
     /// Every datagram that was made, that of the number 1 first. Those that were forgotten have no bytes any more.
     datagrams: Vec<Made>,
-    /// How many more bytes the datagrams may take together.
-    room: usize,
     /// Of the lines that were printed.
     counts: Counts,
     /// What a client executed last, in a box.
@@ -78,9 +76,8 @@ impl World {
     ghost use Rattle.q3_ends.specs.Recording.{WritesFiles};
     ghost use Rattle.q3_io.specs.Told.{Told};
 
-    /// A world by this profile, with no client, nothing sent, and the time 0. The datagrams that are made and not forgotten may take so
-    /// many bytes together: beyond that `serve` and `send` want memory. `Err` is want of memory.
-    pub fn new(alloc: Global, profile: &Profile, room: usize) -> Result<World, NoMemory>
+    /// A world by this profile, with no client, nothing sent, and the time 0. `Err` is want of memory.
+    pub fn new(alloc: Global, profile: &Profile) -> Result<World, NoMemory>
         requires { IsProfile profile.now }
         ensures stands { IfOk result (λ world. StandsFor profile.now world.kept (opening profile.now)) }
         ensures counts { IfOk result (λ world. world.counts ≡ no_counts) }
@@ -88,12 +85,12 @@ impl World {
             → AreNumbered told given world.numbers world.kept.ends) }
     {
         laws::layers();
-        let world = World::empty(alloc, profile, room)?;
+        let world = World::empty(alloc, profile)?;
         Ok(world)
     }
 
     /// What a world begins as.
-    fn empty(alloc: Global, profile: &Profile, room: usize) -> Result<World, NoMemory>
+    fn empty(alloc: Global, profile: &Profile) -> Result<World, NoMemory>
         requires { IsProfile profile.now }
         ensures made { IfOk result (λ world. (world.kept ≡ opening_kept profile.now) × (world.counts ≡ no_counts)) }
         ensures codec { OnOk result (IsCodec profile.now) }
@@ -106,7 +103,6 @@ impl World {
             profile: copy,
             ends,
             datagrams: Vec::new(alloc),
-            room,
             counts: Counts::none(),
             log,
             heard,
@@ -226,15 +222,11 @@ impl World {
             (kept_serve self.old.kept c (emit_at self.old.kept.ends.server c)) result }
         ensures leaves { LeavesRecordings self.old self.new result }
     {
-        let Ok(bytes) = room_for_one(self.alloc, self.room, &mut self.datagrams) else {
+        let Ok(bytes) = room_for_one(self.alloc, &mut self.datagrams) else {
             return Err(StepError::NoMemory);
         };
-        let at = self.datagrams.len();
-        let served = self
-            .ends
-            .serve(c, &mut self.datagrams, bytes, &mut self.counts, out);
-        self.room = self.room.saturating_sub(bytes_at(&self.datagrams, at));
-        served
+        self.ends
+            .serve(c, &mut self.datagrams, bytes, &mut self.counts, out)
     }
 
     /// A client makes a datagram, whose memory is taken first.
@@ -246,15 +238,11 @@ impl World {
             (kept_send self.old.kept c (place_at self.old.kept.ends c)) result }
         ensures leaves { LeavesRecordings self.old self.new result }
     {
-        let Ok(bytes) = room_for_one(self.alloc, self.room, &mut self.datagrams) else {
+        let Ok(bytes) = room_for_one(self.alloc, &mut self.datagrams) else {
             return Err(StepError::NoMemory);
         };
-        let at = self.datagrams.len();
-        let sent = self
-            .ends
-            .send(c, &mut self.datagrams, bytes, &mut self.counts, out);
-        self.room = self.room.saturating_sub(bytes_at(&self.datagrams, at));
-        sent
+        self.ends
+            .send(c, &mut self.datagrams, bytes, &mut self.counts, out)
     }
 
     /// A datagram arrives: the end that it goes to takes the stored bytes.
@@ -360,7 +348,6 @@ impl World {
     {
         laws::forgetting_is_alike();
         if later.is_silent(at, done) {
-            self.room = self.room.saturating_add(bytes_at(&self.datagrams, at));
             forget_at(&mut self.datagrams, at);
         }
     }

@@ -67,7 +67,7 @@ pub fn trial<F: Files, O: Sink>(
 {
     q3_io::laws::texts_follow();
     let profile = load_profile(alloc, profile, files)?;
-    let mut world = World::new(alloc, &profile, usize::MAX)?;
+    let mut world = World::new(alloc, &profile)?;
     try_script(alloc, draws, &mut world)?;
     print_summary(world.counts(), out)
 }

@@ -21,13 +21,6 @@ use q3_script::{Event, ScriptKind};
 use q3_world::{Later, StepError, World, laws};
 use std::alloc::Global;
 
-/// How many bytes the datagrams that later lines name may take at once, in any replay.
-const ROOM: usize = 1_048_576;
-
-/// And how many more for each line of the script. So all that a replay keeps of a script is at most twenty times as long, beside that megabyte
-/// and what the profile's rings need.
-const ROOM_OF_A_LINE: usize = 128;
-
 /// Replays the script of this name by the profile of that name, prints its report, and writes what clients record.
 pub fn replay<F: Files, O: Sink>(
     alloc: Global,
@@ -47,8 +40,7 @@ pub fn replay<F: Files, O: Sink>(
     q3_io::laws::texts_follow();
     let profile = load_profile(alloc, profile, files)?;
     let events = load_events(alloc, ScriptKind::Replay, script, files)?;
-    let room = ROOM + ROOM_OF_A_LINE * events.len();
-    let mut world = World::new(alloc, &profile, room)?;
+    let mut world = World::new(alloc, &profile)?;
     if let Err(e) = step_all(alloc, &mut world, &events, files, out) {
         return Err(step_fault(e));
     }
