@@ -1,4 +1,4 @@
-use Rattle.std.proofs.Common.{◌≡◌, ◌≢◌, List, [], drop, ◌+◌, Ok, Err, IsErr, refl, sym, subst, arith, ◌∙◌}
+use Rattle.std.proofs.Common.{◌≡◌, ◌≢◌, ℕ, List, [], drop, ◌+◌, Ok, Err, IsErr, refl, sym, ap, subst, arith, ◌∙◌}
 use Rattle.std.proofs.lemmas.Grind.{common_steps}
 use Rattle.std.proofs.lemmas.Result.{err_from_is_err_and}
 use Rattle.q3_script.specs.declared.event.Event.{Event}
@@ -8,6 +8,7 @@ use Rattle.q3_world.specs.Ends.{Ends}
 use Rattle.q3_world.specs.Files.{AreNumbered, acts_by, acts_of, acts_from, by_files, ending_acts}
 use Rattle.q3_world.specs.Forgetting.{AreAlike}
 use Rattle.q3_world.specs.Kept.{Kept, kept_step}
+use Rattle.q3_runs.proofs.Acting.{none_on}
 use Rattle.q3net.specs.Run.{DoesFirst}
 use Rattle.q3net.proofs.Acting.{HasActed-more, HasActed-early, HasActed-all}
 use Rattle.q3net.proofs.Stepping.{HasStepped-more, HasStepped-early, HasStepped-all}
@@ -47,6 +48,10 @@ returns-in_err-step-clause-file_cause g c =
 pub returns-in_err-step-clause-reads : goal.returns-in_err-step-clause-reads
 returns-in_err-step-clause-reads g c = c.in_err-step.ensures.files.reads ∙ c.loop-event.invariant.5
 
+-- there was no memory to look at the lines
+pub returns-in-Err-clause-files : goal.returns-in-Err-clause-files
+returns-in-Err-clause-files g c = ([], acts_from c.args.world.now.kept c.args.events.now, refl, none_on (g.F.Files.told c.args.files.now), tt, λ failed. absurd cc)
+
 pub loop-event-init : goal.loop-event-init
 loop-event-init g c = (
   λ profile. stepped_begin c.texts_follow.ensures profile c.args.world.now (g.O.Sink.written c.args.out.now) c.args.events.now,
@@ -69,6 +74,7 @@ loop-event-preserved g c =
     let does = does_alike c.forgetting_is_alike.ensures start.kept c.loop-event.world.kept c.args.events.now index event c.event-item.is c.loop-event-test.true c.loop-event.invariant.7 in
     let done = c.in_ok-step.ensures in
     let gone = c.forget_unnamed.ensures in
+    let same : c.loop-event.done + 1 ≡ index + 1 = ap (λ (n : ℕ). n + 1) c.loop-event.invariant.8 in
     let left : AreAlike (drop (index + 1) c.args.events.now) c.step.new.self.kept (full_at start.kept c.args.events.now (index + 1)) =
     subst (λ (kept : Kept). AreAlike (drop (index + 1) c.args.events.now) kept (full_at start.kept c.args.events.now (index + 1))) (sym done.kept) does.left in (
       λ profile. HasStepped-more c.texts_follow.ensures profile start (full_of start c.loop-event.world c.args.events.now index) (full_of start c.forget_unnamed.new.self c.args.events.now (index + 1)) _
@@ -83,7 +89,9 @@ loop-event-preserved g c =
       done.files.cause.ok refl ∙ c.loop-event.invariant.4,
       done.files.reads ∙ c.loop-event.invariant.5,
       rw gone.others done.numbered,
-      gone.alike c.args.events.now (full_at start.kept c.args.events.now (index + 1)) c.in-Ok.ensures left,
+      subst (λ (n : ℕ). AreAlike (drop n c.args.events.now) c.forget_unnamed.new.self.kept (full_at start.kept c.args.events.now (index + 1))) same
+          (gone.alike c.args.events.now (full_at start.kept c.args.events.now (index + 1)) c.in-Ok.ensures
+          (subst (λ (n : ℕ). AreAlike (drop n c.args.events.now) c.step.new.self.kept (full_at start.kept c.args.events.now (index + 1))) (sym same) left)),
       omega (arith, c.loop-event.invariant.8),
     )
 

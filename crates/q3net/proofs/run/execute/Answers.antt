@@ -4,7 +4,7 @@ use Rattle.q3_make.specs.Generated.{generated}
 use Rattle.q3_command.specs.Command.{Help, Version, Replay, Make, Trial, Play, Index, Seek}
 use Rattle.q3_runs.specs.Verdict.{outside, stops_nowhere, takes_memory}
 use Rattle.q3net.specs.Lines.{help_text, version_text}
-use Rattle.q3net.specs.Verdict.{of_files}
+use Rattle.q3net.specs.Verdict.{of_files, IsVerdict}
 use Rattle.q3_runs.proofs.Ending.{text_executes}
 use Rattle.q3net.proofs.Ending.{none_executes}
 use Rattle.q3net.proofs.Looking.{none_given, text_given}
