@@ -1,26 +1,18 @@
 -- Words that are mostly 0: those that aren't, put one after the other, and put over zeros again.
-use Rattle.std.proofs.Common.{◌≡◌, ℕ, suc, ◌+◌, ◌-◌, ◌*◌, ◌<◌, ◌≤◌, List, [], ◌∷◌, ◌++◌, length, take, drop, set, get_or, replicate, eqb, refl, sym, ap, subst, ◌∙◌, append_assoc, arith, inl, inr}
+use Rattle.std.proofs.Common.{◌≡◌, ◌≢◌, ℕ, zero, suc, ◌+◌, ◌-◌, ◌*◌, ◌<◌, ◌≤◌, List, [], ◌∷◌, ◌++◌, length, take, drop, set, get_or, replicate, eqb, refl, sym, ap, subst, ◌∙◌, append_assoc, arith, inl, inr}
 use lib.IntN.{ℤ}
-use Rattle.std.proofs.lemmas.Bool.{eq-eqb, cases_Bool, ne_eqb}
+use Rattle.std.specs.List.{concat, All}
+use Rattle.std.proofs.lemmas.Bool.{eq-eqb, eqb-false, cases_Bool}
 use Rattle.std.proofs.lemmas.List.{append-nil, drop_more, drop_all, take_at, take_all, drop_at, length-replicate, replicate-append-replicate, length-append, drop-drop, length-drop, length-take-le, take-append-drop}
-use Rattle.std.proofs.lemmas.List.Elements.{All-nil, All-cons}
+use Rattle.std.proofs.lemmas.List.Elements.{All-nil, All-cons, All-get_or}
 use Rattle.q3_fields.specs.Places.{Change, with_changes, AreRising}
 use Rattle.q3_player.specs.Arrays.{changes_from}
-use Rattle.q3_player.specs.State.{IsState, patterns_of, shorts_of}
+use Rattle.q3_player.specs.State.{IsState, patterns_of, shorts_of, arrays_of}
 use Rattle.q3_player.specs.declared.state.PlayerState.{PlayerState}
 use Rattle.q3_player.proofs.Kept.{shorts-back, length-patterns}
 use Rattle.q3_player.proofs.Maps.{changes-rise, with_changes-changes}
 use Rattle.q3_words.specs.Fields.{values_of}
-use Rattle.q3_words.specs.Kept.{AreWithin, player_words, player_with}
-
--- a word that is 0, and one that isn't
-pub changes-zero : (place word : ℕ) → word ≡ 0 → changes_from place (0 ∷ []) (word ∷ []) ≡ []
-unfolding changes_from
-changes-zero place word is = rw is refl
-
-pub changes-some : (place word : ℕ) → (word ≡ 0 → ⊥) → changes_from place (0 ∷ []) (word ∷ []) ≡ (place, word) ∷ []
-unfolding changes_from
-changes-some place word differs = rw (ne_eqb 0 word (λ e. differs (sym e))) refl
+use Rattle.q3_words.specs.Kept.{player_of_words}
 
 -- the first word, and those after it
 changes-first : (place count word : ℕ) (words : List ℕ)
@@ -107,15 +99,22 @@ block_on {kept} {whole} first count words k block size eight few within same rea
     rw (← more, split, ← next) (changes-zeros (first + k * 8) 8 (count - (k + 1) * 8) block (drop ((k + 1) * 8) words) long) in
     record { all = append_assoc kept (changes_from (first + k * 8) (replicate 8 0) block) (changes_from (first + (k + 1) * 8) (replicate (count - (k + 1) * 8) 0) (drop ((k + 1) * 8) words)) ∙ ap (λ (cs : List Change). kept ++ cs) (sym here) ∙ reached.all }
 
+-- none of them is 0
+changes-some : (place count : ℕ) (words : List ℕ) → All (λ change. change.1 ≢ 0) (changes_from place (replicate count 0) words)
+unfolding changes_from
+changes-some place zero words = All-nil (λ (change : Change). change.1 ≢ 0)
+changes-some place (suc count) [] = All-nil (λ (change : Change). change.1 ≢ 0)
+changes-some place (suc count) (word ∷ words) =
+    let others = changes-some (place + 1) count words in
+    elim (cases_Bool (eqb 0 word)) [
+      | inl zero_word ↦ rw zero_word others
+      | inr differs ↦ rw differs (All-cons (λ (change : Change). change.1 ≢ 0) (place, word) (changes_from (place + 1) (replicate count 0) words) (λ e. eqb-false 0 word differs (sym e)) others)
+    ]
+
 -- what is kept of words, put over zeros, gives them
 pub record Gives (count : ℕ) (kept : List Change) (words : List ℕ) : Type 0 where
   pub values : values_of count kept ≡ words
-  pub within : AreWithin count kept
-
-rising-within : (limit least : ℕ) (kept : List Change) → AreRising limit least kept → AreWithin limit kept
-rising-within limit least [] rises = All-nil (λ (change : Change). change.0 < limit)
-rising-within limit least (change ∷ kept) rises =
-    All-cons (λ (change : Change). change.0 < limit) change kept rises.1 (rising-within limit (change.0 + 1) kept rises.2)
+  pub are_kept : AreRising count 0 kept × All (λ change. change.1 ≢ 0) kept
 
 pub gives : (count : ℕ) (kept : List Change) (words : List ℕ) → length words ≡ count → kept ≡ changes_from 0 (replicate (length words) 0) words → Gives count kept words
 gives count kept words long same =
@@ -123,10 +122,21 @@ gives count kept words long same =
     let zeros : length (replicate count 0) ≡ count = length-replicate count 0 in
     record {
       values = rw is (with_changes-changes (replicate count 0) words (zeros ∙ sym long));
-      within = rw is (rising-within count 0 (changes_from 0 (replicate count 0) words) (subst (λ (n : ℕ). AreRising n 0 (changes_from 0 (replicate count 0) words)) zeros (changes-rise (replicate count 0) words)));
+      are_kept = rw is (subst (λ (n : ℕ). AreRising n 0 (changes_from 0 (replicate count 0) words)) zeros (changes-rise (replicate count 0) words), changes-some 0 count words);
     }
 
 -- ---- a player
+
+-- the words of its fields, and after them those of its arrays
+abbrev player_words : PlayerState → List ℕ
+player_words player = player.words ++ concat (arrays_of player)
+
+words-joined : (player : PlayerState) → player_words player ≡ player.words ++ patterns_of player.stats ++ patterns_of player.persistant ++ patterns_of player.ammo ++ player.powerups
+words-joined player = joined player.words (patterns_of player.stats) (patterns_of player.persistant) (patterns_of player.ammo) player.powerups where
+  joined : (words stats persistant ammo powerups : List ℕ) → words ++ concat (stats ∷ persistant ∷ ammo ∷ powerups ∷ []) ≡ words ++ stats ++ persistant ++ ammo ++ powerups
+  joined words stats persistant ammo powerups =
+      let last : powerups ++ [] ≡ powerups = append-nil powerups in
+      rw last (sym (append_assoc (words ++ stats ++ persistant) ammo powerups ∙ append_assoc (words ++ stats) persistant (ammo ++ powerups) ∙ append_assoc words stats (persistant ++ (ammo ++ powerups))))
 
 -- the words of a player, row by row
 pub record Rows (words stats persistant ammo powerups : List ℕ) : Type 0 where
@@ -206,10 +216,10 @@ rows-of player state = record {
 }
 
 -- a state is that of its words
-player_again : (player : PlayerState) → IsState player → player_with (player_words player) ≡ player
+player_again : (player : PlayerState) → IsState player → player_of_words (player_words player) ≡ player
 player_again player state =
     let cut = rows-cut player.words (patterns_of player.stats) (patterns_of player.persistant) (patterns_of player.ammo) player.powerups (rows-of player state) in
-    player_of_parts player _ _ _ _ _ cut.of_words
+    ap player_of_words (words-joined player) ∙ player_of_parts player _ _ _ _ _ cut.of_words
     (ap shorts_of cut.of_stats ∙ shorts-back player.stats state.stats.each)
     (ap shorts_of cut.of_persistant ∙ shorts-back player.persistant state.persistant.each)
     (ap shorts_of cut.of_ammo ∙ shorts-back player.ammo state.ammo.each)
@@ -217,8 +227,8 @@ player_again player state =
 
 -- what is kept of a state gives it
 pub record GivesPlayer (kept : List Change) (player : PlayerState) : Type 0 where
-  pub is : player_with (values_of 128 kept) ≡ player
-  pub within : AreWithin 128 kept
+  pub is : player_of_words (values_of 128 kept) ≡ player
+  pub are_kept : AreRising 128 0 kept × All (λ change. change.1 ≢ 0) kept
 
 pub gives_player : (player : PlayerState) (kept : List Change) → IsState player
     → kept
@@ -233,12 +243,13 @@ gives_player player kept state same =
     let persistant = patterns_of player.persistant in
     let ammo = patterns_of player.ammo in
     let rows = rows-of player state in
-    let long : length (player_words player) ≡ 128 = all_rows player.words stats persistant ammo player.powerups rows in
+    let long : length (player_words player) ≡ 128 = ap (λ (ws : List ℕ). length ws) (words-joined player) ∙ all_rows player.words stats persistant ammo player.powerups rows in
     let is : kept ≡ changes_from 0 (replicate 128 0) (player_words player) =
     same ∙ lengths player.words stats persistant ammo player.powerups _ _ _ _ _ rows.of_words rows.of_stats rows.of_persistant rows.of_ammo rows.of_powerups
-    ∙ rows-kept player.words stats persistant ammo player.powerups rows in
+    ∙ rows-kept player.words stats persistant ammo player.powerups rows
+    ∙ ap (λ (ws : List ℕ). changes_from 0 (replicate 128 0) ws) (sym (words-joined player)) in
     let given = gives 128 kept (player_words player) long (is ∙ ap (λ (n : ℕ). changes_from 0 (replicate n 0) (player_words player)) (sym long)) in
-    record { is = ap player_with given.values ∙ player_again player state; within = given.within } where
+    record { is = ap player_of_words given.values ∙ player_again player state; are_kept = given.are_kept } where
       lengths : (words stats persistant ammo powerups : List ℕ) (a b c d e : ℕ) → a ≡ 64 → b ≡ 16 → c ≡ 16 → d ≡ 16 → e ≡ 16
           → changes_from 0 (replicate a 0) words ++ changes_from 64 (replicate b 0) stats ++ changes_from 80 (replicate c 0) persistant ++ changes_from 96 (replicate d 0) ammo ++ changes_from 112 (replicate e 0) powerups
           ≡ changes_from 0 (replicate 64 0) words ++ changes_from 64 (replicate 16 0) stats ++ changes_from 80 (replicate 16 0) persistant ++ changes_from 96 (replicate 16 0) ammo ++ changes_from 112 (replicate 16 0) powerups
@@ -260,6 +271,15 @@ gives_player player kept state same =
           )
 
 -- ---- put over words
+
+rising-within : (limit least : ℕ) (kept : List Change) → AreRising limit least kept → All (λ change. change.0 < limit) kept
+rising-within limit least [] rises = All-nil (λ (change : Change). change.0 < limit)
+rising-within limit least (change ∷ kept) rises =
+    All-cons (λ (change : Change). change.0 < limit) change kept rises.1 (rising-within limit (change.0 + 1) kept rises.2)
+
+-- each place is below the limit
+pub place-within : (limit : ℕ) (kept : List Change) (k : ℕ) (d : Change) → AreRising limit 0 kept → k < length kept → (get_or kept k d).0 < limit
+place-within limit kept k d rises within = All-get_or (λ (change : Change). change.0 < limit) kept k d within (rising-within limit 0 kept rises)
 
 -- the first, and those after it
 pub puts_on : (kept : List Change) (words : List ℕ) (k : ℕ) (d : Change) → k < length kept → with_changes words (drop k kept) ≡ with_changes (set words (get_or kept k d).0 (get_or kept k d).1) (drop (k + 1) kept)

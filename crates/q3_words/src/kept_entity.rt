@@ -19,15 +19,16 @@ pub struct KeptEntity {
 }
 
 impl Model for KeptEntity {
+    ghost use Rattle.std.specs.Prelude.{◌≢◌, All};
     ghost use Rattle.q3_entity.specs.declared.state.EntityState.{EntityState};
+    ghost use Rattle.q3_fields.specs.Places.{AreRising};
     ghost use Rattle.q3_words.specs.Fields.{entity_of};
-    ghost use Rattle.q3_words.specs.Kept.{AreWithin};
 
     ghost Value = { EntityState };
 
     ghost view = { λ kept. entity_of kept.number kept.words.items };
 
-    ghost invariant = { λ kept. AreWithin 64 kept.words.items };
+    ghost invariant = { λ kept. AreRising 64 0 kept.words.items × All (λ change. change.1 ≢ 0) kept.words.items };
 }
 
 impl PartialEq for KeptEntity {

@@ -1,10 +1,11 @@
 //! A player in an event.
 
-ghost use Rattle.std.specs.Prelude.{◌≡◌, ◌≤◌, IfOk};
+ghost use Rattle.std.specs.Prelude.{◌≡◌, ◌≢◌, ◌≤◌, All, IfOk};
 ghost use Rattle.std.proofs.Common.{rules};
 ghost use Rattle.std.specs.Cmp.Rules.{comparing};
+ghost use Rattle.q3_fields.specs.Places.{AreRising};
 ghost use Rattle.q3_words.specs.Fields.{values_of};
-ghost use Rattle.q3_words.specs.Kept.{AreWithin, player_with};
+ghost use Rattle.q3_words.specs.Kept.{player_of_words};
 
 use crate::sparse::{Places, count_words, patterns, push_words, put};
 use q3_bits::NoMemory;
@@ -21,15 +22,17 @@ pub struct KeptPlayer {
 }
 
 impl Model for KeptPlayer {
+    ghost use Rattle.std.specs.Prelude.{◌≢◌, All};
+    ghost use Rattle.q3_fields.specs.Places.{AreRising};
     ghost use Rattle.q3_player.specs.declared.state.PlayerState.{PlayerState};
     ghost use Rattle.q3_words.specs.Fields.{values_of};
-    ghost use Rattle.q3_words.specs.Kept.{AreWithin, player_with};
+    ghost use Rattle.q3_words.specs.Kept.{player_of_words};
 
     ghost Value = { PlayerState };
 
-    ghost view = { λ kept. player_with (values_of 128 kept.words.items) };
+    ghost view = { λ kept. player_of_words (values_of 128 kept.words.items) };
 
-    ghost invariant = { λ kept. AreWithin 128 kept.words.items };
+    ghost invariant = { λ kept. AreRising 128 0 kept.words.items × All (λ change. change.1 ≢ 0) kept.words.items };
 }
 
 impl PartialEq for KeptPlayer {
@@ -54,8 +57,8 @@ impl Eq for KeptPlayer {
 
 /// The words and values of a player that aren't 0, each after its place. `Err` is want of memory.
 fn places(alloc: Global, player: &PlayerState) -> Result<Places, NoMemory>
-    ensures player { IfOk result (λ kept. player_with (values_of 128 kept.items) ≡ player.now) }
-    ensures within { IfOk result (λ kept. AreWithin 128 kept.items) }
+    ensures player { IfOk result (λ kept. player_of_words (values_of 128 kept.items) ≡ player.now) }
+    ensures kept { IfOk result (λ kept. AreRising 128 0 kept.items × All (λ change. change.1 ≢ 0) kept.items) }
 {
     q3_player::laws::is_state(player);
     let stats = patterns(&player.stats);
@@ -76,8 +79,8 @@ fn places(alloc: Global, player: &PlayerState) -> Result<Places, NoMemory>
 }
 
 /// The player of 128 words: those of its fields, and after them those of its arrays.
-fn player_with(words: &[u32; 128]) -> PlayerState
-    ensures { result ≡ player_with words.now }
+fn player_of_words(words: &[u32; 128]) -> PlayerState
+    ensures { result ≡ player_of_words words.now }
 {
     let mut fields = [0; 64];
     fields.copy_from_slice(&words[..64]);
@@ -108,6 +111,6 @@ impl KeptPlayer {
     {
         let mut words = [0; 128];
         put(&self.words, &mut words);
-        player_with(&words)
+        player_of_words(&words)
     }
 }

@@ -1,10 +1,9 @@
 //! Words that are mostly 0: those that aren't, each after its place.
 
 ghost use Rattle.std.specs.Prelude.{◌≡◌, ◌+◌, ◌%◌, ◌≤◌, [], ◌∷◌, ◌++◌, length, replicate, IfOk};
-ghost use Rattle.q3_fields.specs.Places.{with_changes};
+ghost use Rattle.q3_fields.specs.Places.{AreRising, with_changes};
 ghost use Rattle.q3_player.specs.Arrays.{changes_from};
 ghost use Rattle.q3_player.specs.State.{patterns_of};
-ghost use Rattle.q3_words.specs.Kept.{AreWithin};
 
 use q3_bits::NoMemory;
 use q3_fields::agree;
@@ -40,6 +39,7 @@ pub(crate) fn patterns(values: &[i16; 16]) -> [u32; 16]
 
 /// Puts a word after others, unless it is 0. `Err` is want of memory.
 #[inline]
+#[tactic(auto, unfolding(q3_player::specs::Arrays::changes_from))]
 fn push_word(kept: &mut Places, place: u8, word: u32) -> Result<(), NoMemory>
     ensures { IfOk result (λ _. kept.new.items ≡ kept.old.items ++ changes_from place (0 ∷ []) (word ∷ [])) }
 {
@@ -91,7 +91,7 @@ pub(crate) fn push_words(kept: &mut Places, first: u8, words: &[u32]) -> Result<
 
 /// Puts words over others, each at its place.
 pub(crate) fn put(kept: &[(u8, u32)], words: &mut [u32])
-    requires { AreWithin (length words.old) kept.now }
+    requires { AreRising (length words.old) 0 kept.now }
     ensures { words.new ≡ with_changes words.old kept.now }
 {
     for k in 0..kept.len() {
