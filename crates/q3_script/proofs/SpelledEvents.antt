@@ -33,7 +33,7 @@ use Rattle.q3_words.specs.Hex.{most_handed, area_at, handed_at, SpellsHex}
 use Rattle.q3_words.specs.Names.{name_at}
 use Rattle.q3_words.specs.Fields.{values_of, player_of, entity_at, player_at, AreFields, SpellsEntity, SpellsPlayer}
 use Rattle.q3_words.specs.Numbers.{last_client, last_entity, number_word, entity_word, client_word}
-use Rattle.q3_script.specs.Lines.{only_number, last_datagram, last_time, client_line, port_line, map_line, entity_line, remove_line, baseline_line, player_line, area_line, time_line, config_line, say_line, type_line, move_line, serve_line, send_line, deliver_line, record_line, stop_line, show_line, bytes_line, hand_at, toclient_line, toserver_line, at_line, end_line, Table, line_in, lines_taken, line_at}
+use Rattle.q3_script.specs.Lines.{only_number, last_datagram, last_time, client_line, port_line, map_line, entity_line, remove_line, baseline_line, player_line, area_line, time_line, config_line, say_line, type_line, move_line, serve_line, send_line, deliver_line, record_at, record_line, stop_line, show_line, bytes_line, hand_at, toclient_line, toserver_line, at_line, end_line, Table, line_in, lines_taken, line_at}
 use Rattle.q3_script.specs.Grammar.{SpellsEvent, IsInRange, IsEventOf, HasWords}
 use Rattle.q3_script.proofs.SpelledLines.{IsLine}
 use Rattle.q3_words.proofs.Spaces.{is_space, words_at_space, AreLeft}
@@ -267,15 +267,22 @@ record_from word last c name c_read name_read =
     let was = name_at-is last name name_read in
     record { in_range = (c_is.1, was.is); whole = rw (c_is.2, was.same) refl }
 
+record_at-spelled : (words : List (List ℕ)) (to : ℕ × List ℕ) → record_at words ≡ Ok to → IsLine (codes "record" ∷ words) (RecordTo to.0 to.1)
+unfolding record_at
+record_at-spelled [] to e = absurd cc
+record_at-spelled (word ∷ []) to e = absurd cc
+record_at-spelled (word ∷ last ∷ []) to e =
+    let c = bind_ok (client_word word) (λ c. ok_or (name_at last) causes.Name >>= λ name. Ok (c, name)) to e in
+    let name = bind_ok (ok_or (name_at last) causes.Name) (λ name. Ok (c.0, name)) to c.2 in
+    subst (λ (x : ℕ × List ℕ). IsLine (codes "record" ∷ word ∷ last ∷ []) (RecordTo x.0 x.1)) (ok_is (c.0, name.0) to name.2)
+    (record_from word last c.0 name.0 c.1 (ok_or-ok (name_at last) causes.Name name.0 name.1))
+record_at-spelled (word ∷ last ∷ other ∷ others) to e = absurd cc
+
 record_line-spelled : (words : List (List ℕ)) (event : Event) → record_line words ≡ Ok event → IsLine (codes "record" ∷ words) event
 unfolding record_line
-record_line-spelled [] event e = absurd cc
-record_line-spelled (word ∷ []) event e = absurd cc
-record_line-spelled (word ∷ last ∷ []) event e =
-    let c = bind_ok (client_word word) (λ c. ok_or (name_at last) causes.Name >>= λ name. Ok (RecordTo c name)) event e in
-    let name = bind_ok (ok_or (name_at last) causes.Name) (λ name. Ok (RecordTo c.0 name)) event c.2 in
-    subst (λ (x : Event). IsLine (codes "record" ∷ word ∷ last ∷ []) x) (ok_is (RecordTo c.0 name.0) event name.2) (record_from word last c.0 name.0 c.1 (ok_or-ok (name_at last) causes.Name name.0 name.1))
-record_line-spelled (word ∷ last ∷ other ∷ others) event e = absurd cc
+record_line-spelled words event e =
+    let to = bind_ok (record_at words) (λ to. Ok (RecordTo to.0 to.1)) event e in
+    subst (λ (x : Event). IsLine (codes "record" ∷ words) x) (ok_is (RecordTo to.0.0 to.0.1) event to.2) (record_at-spelled words to.0 to.1)
 
 stop_line-spelled : (words : List (List ℕ)) (event : Event) → stop_line words ≡ Ok event → IsLine (codes "stop" ∷ words) event
 unfolding stop_line
@@ -443,7 +450,7 @@ record Again (words : List (List ℕ)) (event : Event) : Type 0 where
 
 -- what is spelled so is read
 again : (words : List (List ℕ)) (event : Event) → IsInRange event → HasWords words event → Again words event
-unfolding only_number client_line port_line map_line entity_line remove_line baseline_line player_line area_line time_line config_line say_line type_line serve_line send_line deliver_line record_line stop_line show_line bytes_line toclient_line toserver_line at_line end_line
+unfolding only_number client_line port_line map_line entity_line remove_line baseline_line player_line area_line time_line config_line say_line type_line serve_line send_line deliver_line record_at record_line stop_line show_line bytes_line toclient_line toserver_line at_line end_line
 again words (Client c challenge qport dup address) is whole = record { others = decimal c ∷ decimal challenge ∷ decimal qport ∷ decimal dup ∷ whole.0 ∷ []; whole = whole.2; read = rw (number_word-again 0 last_client c (omega arith) (omega arith) (omega arith), number_word-again 0 4294967295 challenge (omega arith) (omega arith) (omega arith), number_word-again 0 65535 qport (omega arith) (omega arith) (omega arith), number_word-again 0 5 dup (omega arith) (omega arith) is.3, address_at-again whole.0 address whole.1 is.4 is.5) refl }
 again words (Port c port) is whole = record { others = decimal c ∷ decimal port ∷ []; whole = whole; read = rw (number_word-again 0 last_client c (omega arith) (omega arith) (omega arith), number_word-again 1 65535 port (omega arith) is.1 (omega arith)) refl }
 again words (Map id feed) is whole = record { others = decimal id ∷ decimal feed ∷ []; whole = whole; read = rw (number_word-again 1 2147483647 id (omega arith) is.0 (omega arith), number_word-again 0 4294967295 feed (omega arith) (omega arith) (omega arith)) refl }

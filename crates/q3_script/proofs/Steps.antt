@@ -1,7 +1,7 @@
 -- Each line in the steps by which it is read.
 use Rattle.std.proofs.Common.{◌≡◌, ℕ, List, [], ◌∷◌, Ok, refl}
 use Rattle.std.specs.Option.{ok_or}
-use Rattle.q3_script.specs.declared.event.Event.TheVariants.{Client, Port, Map, Entity, Baseline, Player, Area, Move, RecordTo}
+use Rattle.q3_script.specs.declared.event.Event.TheVariants.{Client, Port, Map, Entity, Baseline, Player, Area, Move}
 use Rattle.q3_words.specs.declared.cause.LineCause.TheVariants.{Address, Count, Name, Number}
 use Rattle.q3_bits.specs.ResultBind.{◌>>=◌}
 use Rattle.q3_words.specs.Words.{next_of, three_of, only_of, text_from}
@@ -11,7 +11,7 @@ use Rattle.q3_words.specs.Names.{name_at}
 use Rattle.q3_words.specs.Quotes.{bytes_word, text_word, most_config}
 use Rattle.q3_words.specs.Fields.{entity_at, player_at}
 use Rattle.q3_words.specs.Numbers.{last_entity, number_word, entity_word, client_word}
-use Rattle.q3_script.specs.Lines.{only_number, angles_at, steps_at, move_with, client_line, port_line, map_line, entity_line, baseline_line, player_line, area_line, config_at, command_at, move_line, record_line, hand_at}
+use Rattle.q3_script.specs.Lines.{only_number, angles_at, steps_at, move_with, client_line, port_line, map_line, entity_line, baseline_line, player_line, area_line, config_at, command_at, move_line, record_at, hand_at}
 
 -- a client: four words and the last, then each of them
 pub client_steps : (words : List (List ℕ)) → client_line words ≡ (ok_or (next_of words) Count >>= λ c. ok_or (next_of c.1) Count >>= λ challenge. ok_or (next_of challenge.1) Count >>= λ qport. ok_or (next_of qport.1) Count >>= λ dup. ok_or (only_of dup.1) Count >>= λ address.
@@ -108,8 +108,8 @@ move_steps (c ∷ time ∷ pitch ∷ yaw ∷ roll ∷ forward ∷ right ∷ up �
 move_steps (c ∷ time ∷ pitch ∷ yaw ∷ roll ∷ forward ∷ right ∷ up ∷ buttons ∷ weapon ∷ other ∷ others) = refl
 
 -- a recording: a word and the last, then each of them
-pub record_steps : (words : List (List ℕ)) → record_line words ≡ (ok_or (next_of words) Count >>= λ c. ok_or (only_of c.1) Count >>= λ name. client_word c.0 >>= λ c. ok_or (name_at name) Name >>= λ name. Ok (RecordTo c name))
-unfolding record_line
+pub record_steps : (words : List (List ℕ)) → record_at words ≡ (ok_or (next_of words) Count >>= λ c. ok_or (only_of c.1) Count >>= λ name. client_word c.0 >>= λ c. ok_or (name_at name) Name >>= λ name. Ok (c, name))
+unfolding record_at
 record_steps [] = refl
 record_steps (c ∷ []) = refl
 record_steps (c ∷ name ∷ []) = refl

@@ -191,12 +191,18 @@ deliver_line words = do
   datagram ← only_number 1 last_datagram words
   Ok (Deliver datagram)
 
-unfoldable pub record_line : List (List ℕ) → Result Event LineCause
-record_line (c ∷ name ∷ []) = do
+-- a client, and the name of the file that it records into
+unfoldable pub record_at : List (List ℕ) → Result (ℕ × List ℕ) LineCause
+record_at (c ∷ name ∷ []) = do
   c ← client_word c
   name ← ok_or (name_at name) causes.Name
-  Ok (RecordTo c name)
-record_line words = Err causes.Count
+  Ok (c, name)
+record_at words = Err causes.Count
+
+unfoldable pub record_line : List (List ℕ) → Result Event LineCause
+record_line words = do
+  record_to ← record_at words
+  Ok (RecordTo record_to.0 record_to.1)
 
 unfoldable pub stop_line : List (List ℕ) → Result Event LineCause
 stop_line words = do

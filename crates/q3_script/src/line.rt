@@ -3,7 +3,7 @@
 ghost use Rattle.std.specs.Prelude.{◌≡◌, ◌≤◌, ◌∷◌, IfOk};
 ghost use Rattle.q3_words.specs.Words.{words_of, words_left};
 ghost use Rattle.q3_words.specs.Numbers.{last_client, last_entity};
-ghost use Rattle.q3_script.specs.Lines.{only_number, client_line, port_line, map_line, entity_line, remove_line, baseline_line, player_line, area_line, time_line, config_at, config_line, command_at, say_line, type_line, serve_line, send_line, deliver_line, record_line, stop_line, show_line, bytes_line, hand_at, toclient_line, toserver_line, at_line, end_line, turn_lines, line_in, line_at};
+ghost use Rattle.q3_script.specs.Lines.{only_number, client_line, port_line, map_line, entity_line, remove_line, baseline_line, player_line, area_line, time_line, config_at, config_line, command_at, say_line, type_line, serve_line, send_line, deliver_line, record_at, record_line, stop_line, show_line, bytes_line, hand_at, toclient_line, toserver_line, at_line, end_line, turn_lines, line_in, line_at};
 
 use crate::cause::ScriptKind;
 use crate::event::Event;
@@ -287,28 +287,28 @@ fn deliver(left: &[u8]) -> Result<Event, LineCause>
     })
 }
 
-/// A `record` line, kept out of line as `config` is. `Err` is want of memory.
+/// A client, and the name of the file that it records into.
 #[tactic(auto, using(crate::proofs::Steps::record_steps))]
+fn record_name(left: &[u8]) -> Result<(u8, Name), LineCause>
+    ensures { result ≡ record_at (words_left left.now) }
+{
+    let (c, left) = next_word(left).ok_or(LineCause::Count)?;
+    let word = only_word(left).ok_or(LineCause::Count)?;
+    Ok((client_word(c)?, Name::of(word).ok_or(LineCause::Name)?))
+}
+
+/// A `record` line, kept out of line as `config` is. `Err` is want of memory.
+#[tactic(auto, unfolding(crate::specs::Lines::record_line))]
 #[inline(never)]
 fn record_to(alloc: Global, left: &[u8]) -> Result<Result<Event, LineCause>, NoMemory>
     ensures { IfOk result (λ answer. answer ≡ record_line (words_left left.now)) }
 {
-    let Some((c, left)) = next_word(left) else {
-        return Ok(Err(LineCause::Count));
-    };
-    let Some(word) = only_word(left) else {
-        return Ok(Err(LineCause::Count));
-    };
-    let c = match client_word(c) {
-        Ok(c) => c,
-        Err(cause) => return Ok(Err(cause)),
-    };
-    match Name::of(word) {
-        Some(name) => Ok(Ok(Event::RecordTo {
+    match record_name(left) {
+        Ok((c, name)) => Ok(Ok(Event::RecordTo {
             c,
             name: KeptName::of(alloc, &name)?,
         })),
-        None => Ok(Err(LineCause::Name)),
+        Err(cause) => Ok(Err(cause)),
     }
 }
 
