@@ -18,3 +18,4 @@ mod Writing
 mod Building
 mod Causes
 mod Refusals
+pub mod FilesByName
