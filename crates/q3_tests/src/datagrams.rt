@@ -2,8 +2,9 @@
 
 ghost use Rattle.std.specs.Prelude.{◌≡◌, length};
 
+use crate::fixtures::datagram;
 use q3_chan::{Datagram, Gathered, Gatherer, SEQUENCE_END, Sender, Side};
-use std::alloc::{AllocError, Global};
+use std::alloc::Global;
 use std::process::Abort;
 use std::test::*;
 
@@ -39,13 +40,6 @@ fn longest(rt: &impl Abort, alloc: Global) -> Vec<u8>
     ensures { length result.items ≡ 16384 }
 {
     vec![in alloc; 0; 16_384].expect(rt, "memory")
-}
-
-/// Bytes, and so many more.
-fn datagram(alloc: Global, begins: &[u8], more: usize) -> Result<Vec<u8>, AllocError> {
-    let mut bytes = Vec::from_slice(alloc, begins)?;
-    bytes.extend_from_slice(&vec![in alloc; 5; more]?)?;
-    Ok(bytes)
 }
 
 /// Datagrams that a client takes one after the other: their first bytes, how many more there are, and what each is.

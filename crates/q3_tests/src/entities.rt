@@ -1,18 +1,12 @@
 //! Changes of entity 5, by the plain code and field widths 0, 8 and -16.
 
+use crate::fixtures::entity;
 use q3_bits::{Code, Reader, Writer};
-use q3_entity::{Baselines, EntityError, EntityState, List, Run, read_list, write_entity};
+use q3_entity::{Baselines, EntityError, List, Run, read_list, write_entity};
 use q3_fields::Table;
 use std::alloc::Global;
 use std::process::Abort;
 use std::test::*;
-
-/// Entity 5, whose field 1 has this word, and nothing else.
-fn entity(word: u32) -> EntityState {
-    let mut state = EntityState::zero(5);
-    state.words[1] = word;
-    state
-}
 
 /// What is written where field 1 of entity 5 changes from zero to this word, or, by force, also where it doesn't.
 fn writes(rt: &impl Abort, alloc: Global, word: u32, force: bool, bytes: &[u8]) {

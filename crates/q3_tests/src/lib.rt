@@ -10,6 +10,7 @@ mod datagrams;
 mod entities;
 #[cfg(test)]
 mod fields;
+pub mod fixtures;
 #[cfg(test)]
 mod host;
 #[cfg(test)]

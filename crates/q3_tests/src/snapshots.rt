@@ -3,21 +3,12 @@
 ghost use Rattle.std.specs.Prelude.{◌≡◌, ◌≤◌, None};
 ghost use Rattle.q3_entity.specs.Entities.{Rises};
 
+use crate::fixtures::head;
 use q3_entity::{EntityState, List};
 use q3_entity_ring::Ring;
-use q3_player::SnapHead;
 use q3_rings::{NoBase, Rings};
 use std::process::Abort;
 use std::test::*;
-
-/// A snapshot's head under a number.
-fn head(number: u32) -> SnapHead
-    ensures { result.number ≡ number }
-{
-    let mut head = SnapHead::new();
-    head.number = number;
-    head
-}
 
 /// So many entities, numbered from 1.
 fn entities(count: u16) -> List

@@ -2,17 +2,10 @@
 
 ghost use Rattle.std.specs.Prelude.{◌≡◌, true};
 
-use q3_io::{Address, Clock, Failed, HostClock, UdpWire, Wire};
+use crate::fixtures::here;
+use q3_io::{Clock, Failed, HostClock, UdpWire, Wire};
 use q3_testio::{MemClock, MemWire};
 use std::test::*;
-
-/// An address of this machine.
-fn here(port: u16) -> Address {
-    Address {
-        host: 0x7f00_0001,
-        port,
-    }
-}
 
 #[test]
 fn a_wire_in_memory_gives_what_it_was_told(rt: HostRuntime) {
