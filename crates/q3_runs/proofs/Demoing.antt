@@ -19,7 +19,7 @@ use Rattle.q3_runs.specs.declared.fault.Fault.{Fault}
 use Rattle.q3_runs.specs.declared.fault.Fault.TheVariants as faults
 use Rattle.q3_runs.specs.Faults.{demo_fault, ReadCause, WriteCause}
 use Rattle.q3_runs.specs.Input.{Holds, Finds, looked_up, LeavesTold, Touches, Gives}
-use Rattle.q3_runs.specs.Verdict.{Verdict, IsPlayed, names_by, profile_in, played, demo_played, GetsFrom}
+use Rattle.q3_runs.specs.Verdict.{Verdict, IsPlayVerdict, names_by, profile_in, played, demo_played, GetsFrom}
 use Rattle.q3_runs.specs.Run.{Comes, Executes, LeavesFiles}
 use Rattle.q3_runs.proofs.Loading.{held, same_held}
 use Rattle.q3_runs.proofs.Looking.{got_ok, gave, leaves_then, first_then, profile_names}
@@ -54,43 +54,43 @@ played_reads names (Err e) = tt
 -- ---- before it is played
 
 pub play_unprofiled : (follow : TextsFollow) (told : Option Told) (profile demo : List ℕ) (old : Option Written) (e : Fault) → GetsFrom profile_in told profile (Err e)
-    → Executes (IsPlayed told profile demo) old old (Err e)
+    → Executes (IsPlayVerdict told profile demo) old old (Err e)
 play_unprofiled follow told profile demo old e gets =
     let d = held told demo in
     let answer = played gets.0 d.0 in
     let names = names_by (profile_in gets.0) profile demo in
-    let is : IsPlayed told profile demo (demo_played names answer) = (gets.0, d.0, gets.1, d.1, refl) in
+    let is : IsPlayVerdict told profile demo (demo_played names answer) = (gets.0, d.0, gets.1, d.1, refl) in
     elim gets.2 [
       | inl by_input ↦
           let no = played_refused names answer e (no_profile gets.0 d.0 e (sym by_input)) in
-          refused_so follow (IsPlayed told profile demo) old (demo_played names answer) e is no.0 no.1
+          refused_so follow (IsPlayVerdict told profile demo) old (demo_played names answer) e is no.0 no.1
       | inr outside ↦ elim outside [
         | inl memory ↦ (
             let so : e ≡ faults.NoMemory = cc in
-            subst (λ (d : Fault). Executes (IsPlayed told profile demo) old old (Err d)) (sym so) (wants_memory follow (IsPlayed told profile demo) old (demo_played names answer) is (played_memory names answer))
+            subst (λ (d : Fault). Executes (IsPlayVerdict told profile demo) old old (Err d)) (sym so) (wants_memory follow (IsPlayVerdict told profile demo) old (demo_played names answer) is (played_memory names answer))
             )
         | inr read ↦ (
             let so : e ≡ faults.Read = cc in
-            subst (λ (d : Fault). Executes (IsPlayed told profile demo) old old (Err d)) (sym so) (fails_reading follow (IsPlayed told profile demo) old (demo_played names answer) is (played_reads names answer))
+            subst (λ (d : Fault). Executes (IsPlayVerdict told profile demo) old old (Err d)) (sym so) (fails_reading follow (IsPlayVerdict told profile demo) old (demo_played names answer) is (played_reads names answer))
             )
       ]
     ]
 
 -- the demo isn't there, or can't be looked up
 pub play_unfound : (follow : TextsFollow) (told : Option Told) (profile demo : List ℕ) (by : Profile) (old : Option Written) (e : Fault) → GetsFrom profile_in told profile (Ok by) → e ≡ faults.Read
-    → Executes (IsPlayed told profile demo) old old (Err e)
+    → Executes (IsPlayVerdict told profile demo) old old (Err e)
 play_unfound follow told profile demo by old e passes read =
     let d = held told demo in
     let answer = played passes.0 d.0 in
     let names = names_by (profile_in passes.0) profile demo in
-    subst (λ (f : Fault). Executes (IsPlayed told profile demo) old old (Err f)) (sym read)
-    (fails_reading follow (IsPlayed told profile demo) old (demo_played names answer) (passes.0, d.0, passes.1, d.1, refl) (played_reads names answer))
+    subst (λ (f : Fault). Executes (IsPlayVerdict told profile demo) old old (Err f)) (sym read)
+    (fails_reading follow (IsPlayVerdict told profile demo) old (demo_played names answer) (passes.0, d.0, passes.1, d.1, refl) (played_reads names answer))
 
 -- ---- it is played
 
 -- the verdict of a profile and a demo that were read
 play_verdict : (told : Option Told) (profile demo bytes : List ℕ) (by : Profile) → GetsFrom profile_in told profile (Ok by) → Holds told demo (Some bytes)
-    → IsPlayed told profile demo (demo_played (profile ∷ demo ∷ []) (Ok (demos.play_of by bytes)))
+    → IsPlayVerdict told profile demo (demo_played (profile ∷ demo ∷ []) (Ok (demos.play_of by bytes)))
 play_verdict told profile demo bytes by passes holds = (
   passes.0,
   Some bytes,
@@ -124,12 +124,12 @@ play_ends follow Rule names play old now (Err (demo.Message at cause)) is plays 
 
 pub play_ended : (follow : TextsFollow) (told mid found : Option Told) (profile demo : List ℕ) (by : Profile) (file : ℕ) (old now : Option Written) (ended : Result (Unit {0}) DemoError)
     → GetsFrom profile_in told profile (Ok by) → Gives (Ok by) (profile ∷ []) told mid → Finds demo mid found (Ok file)
-    → ((bytes : List ℕ) × HasFrom found file 0 bytes × Plays (demos.play_of by bytes) old now ended) → Executes (IsPlayed told profile demo) old now (result_map_both (λ x. x) demo_fault ended)
+    → ((bytes : List ℕ) × HasFrom found file 0 bytes × Plays (demos.play_of by bytes) old now ended) → Executes (IsPlayVerdict told profile demo) old now (result_map_both (λ x. x) demo_fault ended)
 unfolding fault_of
 play_ended follow told mid found profile demo by file old now ended passes gives finds plays =
     let bytes = plays.0 in
     let holds = same_held told mid (profile ∷ []) demo (Some bytes) (gave by (profile ∷ []) told mid gives) (finds bytes plays.1) in
-    play_ends follow (IsPlayed told profile demo) (profile ∷ demo ∷ []) (demos.play_of by bytes) old now ended (play_verdict told profile demo bytes by passes holds) plays.2
+    play_ends follow (IsPlayVerdict told profile demo) (profile ∷ demo ∷ []) (demos.play_of by bytes) old now ended (play_verdict told profile demo bytes by passes holds) plays.2
 
 -- ---- what it leaves of the files
 
@@ -139,7 +139,7 @@ played_touches ended names (Ok play) told now gives = gives
 played_touches ended names (Err cause) told now gives = gives
 
 play_given : (told now : Option Told) (profile demo : List ℕ) (file : Option (List ℕ)) (ended : Result (Unit {0}) Fault) → Holds told profile file
-    → Gives ended (names_by (profile_in file) profile demo) told now → LeavesFiles (IsPlayed told profile demo) told now ended
+    → Gives ended (names_by (profile_in file) profile demo) told now → LeavesFiles (IsPlayVerdict told profile demo) told now ended
 play_given told now profile demo file ended holds gives =
     let other = held told demo in
     let names = names_by (profile_in file) profile demo in (
@@ -149,17 +149,17 @@ play_given told now profile demo file ended holds gives =
     )
 
 pub play_gives_profile : (told now : Option Told) (profile demo : List ℕ) (e : Fault) → GetsFrom profile_in told profile (Err e)
-    → Gives {A = Profile} (Err e) (profile ∷ []) told now → LeavesFiles (IsPlayed told profile demo) told now (Err e)
+    → Gives {A = Profile} (Err e) (profile ∷ []) told now → LeavesFiles (IsPlayVerdict told profile demo) told now (Err e)
 play_gives_profile told now profile demo e gets gives = play_given told now profile demo gets.0 (Err e) gets.1 (profile_names gets.0 e profile demo told now gets.2 gives)
 
 passed_given : (told now : Option Told) (profile demo : List ℕ) (by : Profile) (ended : Result (Unit {0}) Fault) → GetsFrom profile_in told profile (Ok by)
-    → Gives ended (profile ∷ demo ∷ []) told now → LeavesFiles (IsPlayed told profile demo) told now ended
+    → Gives ended (profile ∷ demo ∷ []) told now → LeavesFiles (IsPlayVerdict told profile demo) told now ended
 passed_given told now profile demo by ended passes gives =
     play_given told now profile demo passes.0 ended passes.1
     (subst (λ (says : Result Profile Fault). Gives ended (names_by says profile demo) told now) (sym (got_ok (profile_in passes.0) by passes.2)) gives)
 
 pub play_gives_demo : (told mid now : Option Told) (profile demo : List ℕ) (by : Profile) (e : Fault) → GetsFrom profile_in told profile (Ok by)
-    → Gives (Ok by) (profile ∷ []) told mid → Gives {A = Unit {0}} (Err e) (demo ∷ []) mid now → LeavesFiles (IsPlayed told profile demo) told now (Err e)
+    → Gives (Ok by) (profile ∷ []) told mid → Gives {A = Unit {0}} (Err e) (demo ∷ []) mid now → LeavesFiles (IsPlayVerdict told profile demo) told now (Err e)
 play_gives_demo told mid now profile demo by e passes first second =
     passed_given told now profile demo by (Err e) passes (elim second [
       | inl all ↦ inl (leaves_then told mid now (looked_up profile) (looked_up demo ∷ []) (gave by (profile ∷ []) told mid first) all)
@@ -167,7 +167,7 @@ play_gives_demo told mid now profile demo by e passes first second =
     ])
 
 pub play_gives_all : (told mid found now : Option Told) (profile demo : List ℕ) (by : Profile) (file : ℕ) (ended : Result (Unit {0}) Fault) → GetsFrom profile_in told profile (Ok by)
-    → Gives (Ok by) (profile ∷ []) told mid → Gives (Ok file) (demo ∷ []) mid found → OnlyAsks found now → LeavesFiles (IsPlayed told profile demo) told now ended
+    → Gives (Ok by) (profile ∷ []) told mid → Gives (Ok file) (demo ∷ []) mid found → OnlyAsks found now → LeavesFiles (IsPlayVerdict told profile demo) told now ended
 play_gives_all told mid found now profile demo by file ended passes first second asks =
     passed_given told now profile demo by ended passes
     (inl (leaves_then told mid now (looked_up profile) (looked_up demo ∷ []) (gave by (profile ∷ []) told mid first) (leaves_asked mid found now (looked_up demo ∷ []) (gave file (demo ∷ []) mid found second) asks)))

@@ -7,19 +7,19 @@ use Rattle.q3_runs.specs.declared.fault.Fault.{Fault}
 use Rattle.q3_runs.specs.declared.fault.Fault.TheVariants as faults
 use Rattle.q3_runs.specs.Faults.{Gets}
 use Rattle.q3_runs.specs.Input.{IsFront}
-use Rattle.q3_runs.specs.Verdict.{Place, Nowhere, First, Anywhere, Stops, Verdict, writes_by, settled}
+use Rattle.q3_runs.specs.Verdict.{StopPlace, Nowhere, First, Anywhere, Stops, Verdict, writes_by, settled}
 use Rattle.q3_runs.specs.Run.{Comes, ComesAfter, Executes, PrintsAll}
 
 -- ---- where something may stop a command
 
 -- before its text
-comes_first : (place : Place) (text : List ℕ) → Comes place → ComesAfter place [] text
+comes_first : (place : StopPlace) (text : List ℕ) → Comes place → ComesAfter place [] text
 comes_first Nowhere text comes = comes
 comes_first First text comes = refl
 comes_first Anywhere text comes = (text, refl)
 
 -- and anywhere at all
-pub comes_after : (place : Place) (printed text : List ℕ) → ComesAfter place printed text → Comes place
+pub comes_after : (place : StopPlace) (printed text : List ℕ) → ComesAfter place printed text → Comes place
 comes_after Nowhere printed text behind = behind
 comes_after First printed text behind = tt
 comes_after Anywhere printed text behind = tt

@@ -20,7 +20,7 @@ use Rattle.q3_runs.specs.declared.fault.Fault.{Fault}
 use Rattle.q3_runs.specs.declared.fault.Fault.TheVariants as faults
 use Rattle.q3_runs.specs.Faults.{build_fault, IsOutside, ReadCause, WriteCause, FileCause}
 use Rattle.q3_runs.specs.Input.{IsFront, Holds, looked_up, created, Leaves, LeavesTold, LeavesFirst, LooksUpTold, Gives}
-use Rattle.q3_runs.specs.Verdict.{Verdict, reads_first, printing, profile_in, Indexing, indexing_of, indexing_in, Indexes, index_acts, indexed_text, demo_indexed, IsIndexedBy, IsIndexed, GetsFrom}
+use Rattle.q3_runs.specs.Verdict.{Verdict, reads_first, printing, profile_in, Indexing, indexing_of, indexing_in, AnswersIndex, index_acts, indexed_text, demo_indexed, IsIndexVerdictBy, IsIndexVerdict, GetsFrom}
 use Rattle.q3_runs.specs.Run.{Comes, Executes, LeavesFiles, PrintsAll}
 use Rattle.q3_runs.proofs.Acting.{first_left}
 use Rattle.q3_runs.proofs.Looking.{got_ok, gave, gave_first, leaves_then, first_then}
@@ -34,16 +34,16 @@ use Rattle.q3_runs.proofs.Refusing.{OfDemo, Refuses, all_refuses}
 abbrev both : List ℕ → List ℕ → List Named
 both profile demo = looked_up profile ∷ looked_up demo ∷ []
 
-some_indexed : (told : Option Told) (by : Profile) (demo : List ℕ) → (answer : Result Indexing DemoError) × Indexes told by demo answer
+some_indexed : (told : Option Told) (by : Profile) (demo : List ℕ) → (answer : Result Indexing DemoError) × AnswersIndex told by demo answer
 some_indexed None by demo = (Err errors.NoMemory, tt)
 some_indexed (Some told) by demo = (indexing_in by (contents_of told.files demo), refl)
 
-index_verdict : (told : Option Told) (profile demo index : List ℕ) (by : Profile) (answer : Result Indexing DemoError) → GetsFrom profile_in told profile (Ok by) → Indexes told by demo answer
-    → IsIndexed told profile demo index (demo_indexed (profile ∷ demo ∷ []) index answer)
+index_verdict : (told : Option Told) (profile demo index : List ℕ) (by : Profile) (answer : Result Indexing DemoError) → GetsFrom profile_in told profile (Ok by) → AnswersIndex told by demo answer
+    → IsIndexVerdict told profile demo index (demo_indexed (profile ∷ demo ∷ []) index answer)
 index_verdict told profile demo index by answer passes is = (
   passes.0,
   passes.1,
-  subst (λ (says : Result Profile Fault). IsIndexedBy told says profile demo index (demo_indexed (profile ∷ demo ∷ []) index answer))
+  subst (λ (says : Result Profile Fault). IsIndexVerdictBy told says profile demo index (demo_indexed (profile ∷ demo ∷ []) index answer))
       (sym (got_ok (profile_in passes.0) by passes.2)) (answer, is, refl),
 )
 
@@ -62,7 +62,7 @@ indexed_writes names index (Err e) = tt
 -- a verdict by what a profile's file says, which something from outside may end
 record AnyIndexed (told : Option Told) (says : Result Profile Fault) (profile demo index : List ℕ) (first : List Named) : Type 0 where
   verdict : Verdict
-  is : IsIndexedBy told says profile demo index verdict
+  is : IsIndexVerdictBy told says profile demo index verdict
   memory : Comes verdict.stops.memory
   reads : Comes verdict.stops.reads
   others : List Named
@@ -94,7 +94,7 @@ by_any told profile demo index (Err cause) = record {
 }
 
 any_may : (told : Option Told) (profile demo index : List ℕ) (file : Option (List ℕ)) (first : List Named) → Holds told profile file → AnyIndexed told (profile_in file) profile demo index first
-    → MayEnd (IsIndexed told profile demo index) first
+    → MayEnd (IsIndexVerdict told profile demo index) first
 any_may told profile demo index file first holds any = record {
   verdict = any.verdict;
   is = (file, holds, any.is);
@@ -105,7 +105,7 @@ any_may told profile demo index file first holds any = record {
 }
 
 index_may : (told : Option Told) (profile demo index : List ℕ) (by : Profile) (first others : List Named) → GetsFrom profile_in told profile (Ok by) → both profile demo ≡ first ++ others
-    → MayEnd (IsIndexed told profile demo index) first
+    → MayEnd (IsIndexVerdict told profile demo index) first
 index_may told profile demo index by first others passes all =
     any_may told profile demo index passes.0 first passes.1
     (subst (λ (says : Result Profile Fault). AnyIndexed told says profile demo index first) (sym (got_ok (profile_in passes.0) by passes.2)) (by_profile told profile demo index by first others all))
@@ -113,29 +113,29 @@ index_may told profile demo index by first others passes all =
 -- ---- what comes from outside
 
 pub index_unprofiled : (follow : TextsFollow) (told : Option Told) (profile demo index : List ℕ) (old : Option Written) (e : Fault) → GetsFrom profile_in told profile (Err e)
-    → Executes (IsIndexed told profile demo index) old old (Err e)
+    → Executes (IsIndexVerdict told profile demo index) old old (Err e)
 index_unprofiled follow told profile demo index old e gets =
     elim gets.2 [
-      | inl said ↦ refused_so follow (IsIndexed told profile demo index) old (printing reads_first (profile ∷ []) [] (Err e)) e
-          (gets.0, gets.1, subst (λ (says : Result Profile Fault). IsIndexedBy told says profile demo index (printing reads_first (profile ∷ []) [] (Err e))) said refl) refl refl
-      | inr outside ↦ ends_early follow (IsIndexed told profile demo index) (looked_up profile ∷ []) old e
+      | inl said ↦ refused_so follow (IsIndexVerdict told profile demo index) old (printing reads_first (profile ∷ []) [] (Err e)) e
+          (gets.0, gets.1, subst (λ (says : Result Profile Fault). IsIndexVerdictBy told says profile demo index (printing reads_first (profile ∷ []) [] (Err e))) said refl) refl refl
+      | inr outside ↦ ends_early follow (IsIndexVerdict told profile demo index) (looked_up profile ∷ []) old e
           (any_may told profile demo index gets.0 (looked_up profile ∷ []) gets.1 (by_any told profile demo index (profile_in gets.0))) (outside_of {A = Profile} (Err e) e refl outside)
     ]
 
 pub index_ended : (follow : TextsFollow) (told : Option Told) (profile demo index : List ℕ) (by : Profile) (old : Option Written) (e : Fault) → GetsFrom profile_in told profile (Ok by)
-    → (e ≡ faults.NoMemory) ⊎ (e ≡ faults.Read) → Executes (IsIndexed told profile demo index) old old (Err e)
+    → (e ≡ faults.NoMemory) ⊎ (e ≡ faults.Read) → Executes (IsIndexVerdict told profile demo index) old old (Err e)
 index_ended follow told profile demo index by old e passes outside =
-    ends_early follow (IsIndexed told profile demo index) (looked_up profile ∷ []) old e
+    ends_early follow (IsIndexVerdict told profile demo index) (looked_up profile ∷ []) old e
     (index_may told profile demo index by (looked_up profile ∷ []) (looked_up demo ∷ []) passes refl) outside
 
 -- its file can't be made, or written
 pub index_unwritten : (follow : TextsFollow) (told : Option Told) (profile demo index : List ℕ) (by : Profile) (old : Option Written) (e : Fault) → GetsFrom profile_in told profile (Ok by)
-    → e ≡ faults.FileWrite → Executes (IsIndexed told profile demo index) old old (Err e)
+    → e ≡ faults.FileWrite → Executes (IsIndexVerdict told profile demo index) old old (Err e)
 index_unwritten follow told profile demo index by old e passes is =
     let some = some_indexed told by demo in
     let names = profile ∷ demo ∷ [] in
-    subst (λ (f : Fault). Executes (IsIndexed told profile demo index) old old (Err f)) (sym is)
-    (fails_writing follow (IsIndexed told profile demo index) old (demo_indexed names index some.0) (index_verdict told profile demo index by some.0 passes some.1)
+    subst (λ (f : Fault). Executes (IsIndexVerdict told profile demo index) old old (Err f)) (sym is)
+    (fails_writing follow (IsIndexVerdict told profile demo index) old (demo_indexed names index some.0) (index_verdict told profile demo index by some.0 passes some.1)
     (indexed_writes names index some.0))
 
 -- ---- what the demo's file says
@@ -145,7 +145,7 @@ indexed_as by bytes made = result_map_both (λ (index : List ℕ). record { inde
 
 -- the files of both numbers say the answer
 indexed_so : (told t1 t2 t3 : Option Told) (profile demo index : List ℕ) (by : Profile) (first second : ℕ) (answer : Result Indexing DemoError) → index ≢ demo → LooksUpTold told t1 (profile ∷ [])
-    → LooksUp t1 t2 demo (Ok first) → Creates t2 t3 index (Ok second) → ((now : Told) → t3 ≡ Some now → answer ≡ indexing_of by (contents_at now first)) → Indexes told by demo answer
+    → LooksUp t1 t2 demo (Ok first) → Creates t2 t3 index (Ok second) → ((now : Told) → t3 ≡ Some now → answer ≡ indexing_of by (contents_at now first)) → AnswersIndex told by demo answer
 indexed_so None t1 t2 t3 profile demo index by first second answer apart leaves looks makes_it says = tt
 indexed_so (Some told) t1 t2 t3 profile demo index by first second answer apart leaves looks makes_it says =
     let made = made_after told t1 t2 t3 (looked_up profile ∷ []) demo index first second apart leaves looks makes_it in
@@ -170,7 +170,7 @@ build_ends (errors.BadNumber at) = inr (record { acts = λ index. refl; says = �
 build_ends (errors.Message at cause) = inr (record { acts = λ index. refl; says = λ by now first second t4 is. is })
 
 refused_is : (told t1 t2 t3 t4 : Option Told) (profile demo index : List ℕ) (by : Profile) (first second : ℕ) (e : DemoError) → index ≢ demo → LooksUpTold told t1 (profile ∷ [])
-    → LooksUp t1 t2 demo (Ok first) → Creates t2 t3 index (Ok second) → IsRefused e → ((now : Told) → t3 ≡ Some now → Builds by now first second t4 (Err e)) → Indexes told by demo (Err e)
+    → LooksUp t1 t2 demo (Ok first) → Creates t2 t3 index (Ok second) → IsRefused e → ((now : Told) → t3 ≡ Some now → Builds by now first second t4 (Err e)) → AnswersIndex told by demo (Err e)
 unfolding indexed_as
 refused_is told t1 t2 t3 t4 profile demo index by first second e apart leaves looks makes_it refused builds =
     indexed_so told t1 t2 t3 profile demo index by first second (Err e) apart leaves looks makes_it
@@ -178,14 +178,14 @@ refused_is told t1 t2 t3 t4 profile demo index by first second e apart leaves lo
 
 pub index_refused : (follow : TextsFollow) (told t1 t2 t3 t4 : Option Told) (profile demo index : List ℕ) (by : Profile) (first second : ℕ) (old : Option Written) (e : DemoError) → index ≢ demo
     → GetsFrom profile_in told profile (Ok by) → Gives (Ok by) (profile ∷ []) told t1 → LooksUp t1 t2 demo (Ok first) → Creates t2 t3 index (Ok second)
-    → ((now : Told) → t3 ≡ Some now → Builds by now first second t4 (Err e)) → Executes (IsIndexed told profile demo index) old old (Err (build_fault e))
+    → ((now : Told) → t3 ≡ Some now → Builds by now first second t4 (Err e)) → Executes (IsIndexVerdict told profile demo index) old old (Err (build_fault e))
 index_refused follow told t1 t2 t3 t4 profile demo index by first second old e apart passes gives looks makes_it builds =
     elim (build_ends e) [
       | inl broken ↦ elim broken.fault [
         | inl outside ↦ index_ended follow told profile demo index by old (build_fault e) passes outside
         | inr written ↦ index_unwritten follow told profile demo index by old (build_fault e) passes written
       ]
-      | inr refused ↦ refused_so follow (IsIndexed told profile demo index) old (demo_indexed (profile ∷ demo ∷ []) index (Err e)) (build_fault e)
+      | inr refused ↦ refused_so follow (IsIndexVerdict told profile demo index) old (demo_indexed (profile ∷ demo ∷ []) index (Err e)) (build_fault e)
           (index_verdict told profile demo index by (Err e) passes
           (refused_is told t1 t2 t3 t4 profile demo index by first second e apart (gave by (profile ∷ []) told t1 gives) looks makes_it refused builds)) refl refl
     ]
@@ -202,7 +202,7 @@ made_of by now first second t4 built builds =
 -- what was made, where it is told or not
 record Made (told : Option Told) (by : Profile) (demo : List ℕ) (built : Built) : Type 0 where
   made : Indexing
-  is : Indexes told by demo (Ok made)
+  is : AnswersIndex told by demo (Ok made)
   records : made.records ≡ built.records
 
 was_made : (told t1 t2 t3 t4 : Option Told) (profile demo index : List ℕ) (by : Profile) (first second : ℕ) (built : Built) → index ≢ demo → LooksUpTold told t1 (profile ∷ [])
@@ -220,33 +220,33 @@ was_made (Some told) t1 t2 t3 t4 profile demo index by first second built apart 
 pub index_printed : (told t1 t2 t3 t4 : Option Told) (profile demo index : List ℕ) (by : Profile) (first second : ℕ) (built : Built) (old now : Option Written) (ended : Result (Unit {0}) Fault) → index ≢ demo
     → GetsFrom profile_in told profile (Ok by) → Gives (Ok by) (profile ∷ []) told t1 → LooksUp t1 t2 demo (Ok first) → Creates t2 t3 index (Ok second)
     → ((now : Told) → t3 ≡ Some now → Builds by now first second t4 (Ok built)) → PrintsAll (indexed_text built.records) old now ended
-    → Executes (IsIndexed told profile demo index) old now ended
+    → Executes (IsIndexVerdict told profile demo index) old now ended
 index_printed told t1 t2 t3 t4 profile demo index by first second built old now ended apart passes gives looks makes_it builds prints =
     let made = was_made told t1 t2 t3 t4 profile demo index by first second built apart (gave by (profile ∷ []) told t1 gives) looks makes_it builds in
-    printed_so (IsIndexed told profile demo index) old now (demo_indexed (profile ∷ demo ∷ []) index (Ok made.made)) ended
+    printed_so (IsIndexVerdict told profile demo index) old now (demo_indexed (profile ∷ demo ∷ []) index (Ok made.made)) ended
     (index_verdict told profile demo index by (Ok made.made) passes made.is) refl
     (subst (λ (n : ℕ). PrintsAll (indexed_text n) old now ended) (sym made.records) prints)
 
 -- ---- what it leaves of the files
 
 pub index_gives_profile : (told now : Option Told) (profile demo index : List ℕ) (e : Fault) → GetsFrom profile_in told profile (Err e) → Gives {A = Profile} (Err e) (profile ∷ []) told now
-    → LeavesFiles (IsIndexed told profile demo index) told now (Err e)
+    → LeavesFiles (IsIndexVerdict told profile demo index) told now (Err e)
 index_gives_profile told now profile demo index e gets gives =
     elim gets.2 [
       | inl said ↦ (
         printing reads_first (profile ∷ []) [] (Err e),
-        (gets.0, gets.1, subst (λ (says : Result Profile Fault). IsIndexedBy told says profile demo index (printing reads_first (profile ∷ []) [] (Err e))) said refl),
+        (gets.0, gets.1, subst (λ (says : Result Profile Fault). IsIndexVerdictBy told says profile demo index (printing reads_first (profile ∷ []) [] (Err e))) said refl),
         gives,
       )
-      | inr outside ↦ leaves_early told now (IsIndexed told profile demo index) (looked_up profile ∷ []) e
+      | inr outside ↦ leaves_early told now (IsIndexVerdict told profile demo index) (looked_up profile ∷ []) e
           (any_may told profile demo index gets.0 (looked_up profile ∷ []) gets.1 (by_any told profile demo index (profile_in gets.0))) (outside_of {A = Profile} (Err e) e refl outside)
           (gave_first {A = Profile} (Err e) (profile ∷ []) told now gives)
     ]
 
 pub index_gives_demo : (told t1 now : Option Told) (profile demo index : List ℕ) (by : Profile) (e : Fault) → GetsFrom profile_in told profile (Ok by) → Gives (Ok by) (profile ∷ []) told t1
-    → Gives {A = ℕ} (Err e) (demo ∷ []) t1 now → e ≡ faults.Read → LeavesFiles (IsIndexed told profile demo index) told now (Err e)
+    → Gives {A = ℕ} (Err e) (demo ∷ []) t1 now → e ≡ faults.Read → LeavesFiles (IsIndexVerdict told profile demo index) told now (Err e)
 index_gives_demo told t1 now profile demo index by e passes one two read =
-    leaves_early told now (IsIndexed told profile demo index) (both profile demo) e
+    leaves_early told now (IsIndexVerdict told profile demo index) (both profile demo) e
     (index_may told profile demo index by (both profile demo) [] passes refl) (inr read)
     (first_then told t1 now (looked_up profile) (looked_up demo ∷ []) (gave by (profile ∷ []) told t1 one) (gave_first {A = ℕ} (Err e) (demo ∷ []) t1 now two))
 
@@ -283,7 +283,7 @@ both_looked told t1 t2 profile demo by first one two =
 
 -- where nothing is told, nothing is told after it
 untold_gives : (profile demo index : List ℕ) (by : Profile) (ended : Result (Unit {0}) Fault) (now : Option Told) → GetsFrom profile_in None profile (Ok by) → now ≡ None
-    → LeavesFiles (IsIndexed None profile demo index) None now ended
+    → LeavesFiles (IsIndexVerdict None profile demo index) None now ended
 untold_gives profile demo index by ended now passes none =
     let some = some_indexed None by demo in
     (demo_indexed (profile ∷ demo ∷ []) index some.0, index_verdict None profile demo index by some.0 passes some.1, inl none)
@@ -291,7 +291,7 @@ untold_gives profile demo index by ended now passes none =
 -- its file can't be made
 pub index_gives_none : (told t1 t2 now : Option Told) (profile demo index : List ℕ) (by : Profile) (first : ℕ) (f : Failed) (e : Fault) → GetsFrom profile_in told profile (Ok by)
     → Gives (Ok by) (profile ∷ []) told t1 → Gives (Ok first) (demo ∷ []) t1 t2 → LooksUp t1 t2 demo (Ok first) → Creates t2 now index (Err f) → e ≡ faults.FileWrite
-    → LeavesFiles (IsIndexed told profile demo index) told now (Err e)
+    → LeavesFiles (IsIndexVerdict told profile demo index) told now (Err e)
 index_gives_none None t1 t2 now profile demo index by first f e passes one two looks makes_it is =
     untold_gives profile demo index by (Err e) now passes
     (subst (λ (t : Option Told). Creates t now index (Err f)) (both_looked None t1 t2 profile demo by first one two) makes_it)
@@ -361,7 +361,7 @@ begun_leaves told now (Some after) profile demo index by first second made begin
 -- something from outside ended it
 index_broken : (told t1 t2 t3 t4 : Option Told) (profile demo index : List ℕ) (by : Profile) (first second : ℕ) (e : Fault) → index ≢ demo → GetsFrom profile_in told profile (Ok by)
     → Gives (Ok by) (profile ∷ []) told t1 → LooksUp t1 t2 demo (Ok first) → Creates t2 t3 index (Ok second) → IsOutside e → (t3 ≡ None → t4 ≡ None)
-    → ((now : Told) → t3 ≡ Some now → BeginsIndex by now first second t4) → LeavesFiles (IsIndexed told profile demo index) told t4 (Err e)
+    → ((now : Told) → t3 ≡ Some now → BeginsIndex by now first second t4) → LeavesFiles (IsIndexVerdict told profile demo index) told t4 (Err e)
 index_broken None t1 t2 t3 t4 profile demo index by first second e apart passes gives looks makes_it outside untold begins =
     untold_gives profile demo index by (Err e) t4 passes (untold (untold_made t1 t2 t3 demo index first second (gave by (profile ∷ []) None t1 gives) looks makes_it))
 index_broken (Some told) t1 t2 t3 t4 profile demo index by first second e apart passes gives looks makes_it outside untold begins =
@@ -377,8 +377,8 @@ broken_outside e is = elim is [ inl outside ↦ is_outside e outside | inr writt
 
 -- what it leaves that was made, or refused
 index_left : (told : Told) (t1 t2 t3 t4 : Option Told) (profile demo index : List ℕ) (by : Profile) (ended : Result (Unit {0}) Fault) (answer : Result Indexing DemoError) (acts : List FileAct)
-    → GetsFrom profile_in (Some told) profile (Ok by) → Indexes (Some told) by demo answer → index_acts index answer ≡ acts → created acts ≡ record { name = index; call = Create } ∷ []
-    → ((after : Told) × (t4 ≡ Some after) × Leaves told after (made_names profile demo index) acts) → LeavesFiles (IsIndexed (Some told) profile demo index) (Some told) t4 ended
+    → GetsFrom profile_in (Some told) profile (Ok by) → AnswersIndex (Some told) by demo answer → index_acts index answer ≡ acts → created acts ≡ record { name = index; call = Create } ∷ []
+    → ((after : Told) × (t4 ≡ Some after) × Leaves told after (made_names profile demo index) acts) → LeavesFiles (IsIndexVerdict (Some told) profile demo index) (Some told) t4 ended
 unfolding made_names
 index_left told t1 t2 t3 t4 profile demo index by ended answer acts passes is are names leaves = (
   demo_indexed (profile ∷ demo ∷ []) index answer,
@@ -393,7 +393,7 @@ left_some now (Some after) second bytes leaves = (after, refl, leaves)
 
 pub index_gives_refused : (told t1 t2 t3 t4 : Option Told) (profile demo index : List ℕ) (by : Profile) (first second : ℕ) (e : DemoError) → index ≢ demo → GetsFrom profile_in told profile (Ok by)
     → Gives (Ok by) (profile ∷ []) told t1 → LooksUp t1 t2 demo (Ok first) → Creates t2 t3 index (Ok second) → (t3 ≡ None → t4 ≡ None)
-    → ((now : Told) → t3 ≡ Some now → Builds by now first second t4 (Err e)) → LeavesFiles (IsIndexed told profile demo index) told t4 (Err (build_fault e))
+    → ((now : Told) → t3 ≡ Some now → Builds by now first second t4 (Err e)) → LeavesFiles (IsIndexVerdict told profile demo index) told t4 (Err (build_fault e))
 unfolding created made_names
 index_gives_refused None t1 t2 t3 t4 profile demo index by first second e apart passes gives looks makes_it untold builds =
     untold_gives profile demo index by (Err (build_fault e)) t4 passes (untold (untold_made t1 t2 t3 demo index first second (gave by (profile ∷ []) None t1 gives) looks makes_it))
@@ -412,7 +412,7 @@ index_gives_refused (Some told) t1 t2 t3 t4 profile demo index by first second e
 
 pub index_gives_all : (told t1 t2 t3 t4 : Option Told) (profile demo index : List ℕ) (by : Profile) (first second : ℕ) (built : Built) (ended : Result (Unit {0}) Fault) → index ≢ demo
     → GetsFrom profile_in told profile (Ok by) → Gives (Ok by) (profile ∷ []) told t1 → LooksUp t1 t2 demo (Ok first) → Creates t2 t3 index (Ok second) → (t3 ≡ None → t4 ≡ None)
-    → ((now : Told) → t3 ≡ Some now → Builds by now first second t4 (Ok built)) → LeavesFiles (IsIndexed told profile demo index) told t4 ended
+    → ((now : Told) → t3 ≡ Some now → Builds by now first second t4 (Ok built)) → LeavesFiles (IsIndexVerdict told profile demo index) told t4 ended
 unfolding created made_names made_answer
 index_gives_all None t1 t2 t3 t4 profile demo index by first second built ended apart passes gives looks makes_it untold builds =
     untold_gives profile demo index by ended t4 passes (untold (untold_made t1 t2 t3 demo index first second (gave by (profile ∷ []) None t1 gives) looks makes_it))

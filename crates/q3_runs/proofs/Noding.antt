@@ -28,7 +28,7 @@ use Rattle.q3_runs.specs.declared.fault.Fault.{Fault}
 use Rattle.q3_runs.specs.declared.fault.Fault.TheVariants as faults
 use Rattle.q3_runs.specs.Faults.{Gets, node_fault, ReadCause, WriteCause, FileCause, WireCause}
 use Rattle.q3_runs.specs.Input.{IsFront, Holds, looked_up, created, LeavesTold, LeavesFirst, LooksUpTold, LooksUpFirst, Touches, Gives}
-use Rattle.q3_runs.specs.Verdict.{Verdict, Outside, IsServed, IsJoined, memory_by, names_by, profile_in, events_in, ending_of, noded, served, client_turns, joined, GetsFrom}
+use Rattle.q3_runs.specs.Verdict.{Verdict, Outside, IsServeVerdict, IsJoinVerdict, memory_by, names_by, profile_in, events_in, ending_of, node_verdict, served, client_turns, joined, GetsFrom}
 use Rattle.q3_runs.specs.Run.{ComesAfter, place_of, left_so, EndsEarly, IsBeforehand, ExecutesWired, LeavesFiles, MayBind}
 use Rattle.q3_runs.proofs.Loading.{held, same_held}
 use Rattle.q3_runs.proofs.Acting.{none_on, both_on, first_more, all_left, first_left}
@@ -56,7 +56,7 @@ TurnsBy = Option (List ℕ) → Option (List ℕ) → List ℕ → List (Option 
 pub record IsNodes (told : Outside) (Rule : Verdict → Type 0) (kind : ScriptKind) (profile script : List ℕ) (at : Address) (turns : TurnsBy) : Type 0 where
   pub verdict : (of_profile of_script : Option (List ℕ)) → Holds told.files profile of_profile → Holds told.files script of_script
       → (readings : List ℕ) → ToRead told.clock readings → (arrivals : List (Option Parcel)) → ToArrive told.wire arrivals
-      → Rule (noded (names_by (profile_in of_profile) profile script) at (turns of_profile of_script readings arrivals))
+      → Rule (node_verdict (names_by (profile_in of_profile) profile script) at (turns of_profile of_script readings arrivals))
   pub no_profile : (of_profile of_script : Option (List ℕ)) (readings : List ℕ) (arrivals : List (Option Parcel)) (e : Fault)
       → profile_in of_profile ≡ Err e → turns of_profile of_script readings arrivals ≡ Err e
   pub no_events : (of_profile of_script : Option (List ℕ)) (readings : List ℕ) (arrivals : List (Option Parcel)) (by : Profile) (e : Fault)
@@ -66,7 +66,7 @@ pub record IsNodes (told : Outside) (Rule : Verdict → Type 0) (kind : ScriptKi
 serve_turns : Profile → List ℕ → List (Option Parcel) → List Event → Result (List Turn) Fault
 serve_turns by readings arrivals events = Ok (turns_of most_turns server_rules (new_node (new_server by places) events) readings arrivals)
 
-pub serves : (told : Outside) (profile script : List ℕ) (at : Address) → IsNodes told (IsServed told profile script at) kinds.Serve profile script at served
+pub serves : (told : Outside) (profile script : List ℕ) (at : Address) → IsNodes told (IsServeVerdict told profile script at) kinds.Serve profile script at served
 unfolding serve_turns
 serves told profile script at = record {
   verdict = λ of_profile of_script holds holds_script readings to_read arrivals to_arrive. (of_profile, of_script, holds, holds_script, readings, to_read, arrivals, to_arrive, refl);
@@ -88,7 +88,7 @@ served_so of_profile of_script by events readings arrivals passes is =
 join_turns : Address → Profile → List ℕ → List (Option Parcel) → List Event → Result (List Turn) Fault
 join_turns server by readings arrivals events = Ok (client_turns (client_of by server events) events readings arrivals)
 
-pub joins : (told : Outside) (profile script : List ℕ) (at server : Address) → IsNodes told (IsJoined told profile script at server) kinds.Join profile script at (joined server)
+pub joins : (told : Outside) (profile script : List ℕ) (at server : Address) → IsNodes told (IsJoinVerdict told profile script at server) kinds.Join profile script at (joined server)
 unfolding join_turns
 joins told profile script at server = record {
   verdict = λ of_profile of_script holds holds_script readings to_read arrivals to_arrive. (of_profile, of_script, holds, holds_script, readings, to_read, arrivals, to_arrive, refl);
@@ -115,34 +115,34 @@ one_client profile server other is = absurd is
 
 -- by what the input says
 noded_refused : {files : Option Told} (follow : TextsFollow) (Rule : Verdict → Type 0) (told : Outside) (old : Option Written) (names : List (List ℕ)) (at : Address) (answer : Result (List Turn) Fault) (e : Fault) → answer ≡ Err e
-    → Rule (noded names at answer) → ExecutesWired Rule told old old (left_so told.wire files) (Err e)
+    → Rule (node_verdict names at answer) → ExecutesWired Rule told old old (left_so told.wire files) (Err e)
 noded_refused follow Rule told old names at answer e refuses is =
-    (noded names at (Err e), subst (λ (a : Result (List Turn) Fault). Rule (noded names at a)) refuses is, inl ([], inl (refl, refl), refl, follow.none, tt))
+    (node_verdict names at (Err e), subst (λ (a : Result (List Turn) Fault). Rule (node_verdict names at a)) refuses is, inl ([], inl (refl, refl), refl, follow.none, tt))
 
 -- where memory ran out, a read failed, or the wire did before an address was bound
 comes_before : {files : Option Told} (Rule : Verdict → Type 0) (told : Outside) (names : List (List ℕ)) (at : Address) (answer : Result (List Turn) Fault) (fault : Fault) → IsBeforehand (Err fault)
-    → ComesAfter (place_of (noded names at answer).stops fault) [] (noded names at answer).text → (follow : TextsFollow) (old : Option Written) → Rule (noded names at answer)
+    → ComesAfter (place_of (node_verdict names at answer).stops fault) [] (node_verdict names at answer).text → (follow : TextsFollow) (old : Option Written) → Rule (node_verdict names at answer)
     → ExecutesWired Rule told old old (left_so told.wire files) (Err fault)
 comes_before Rule told names at (Ok turns) fault outside comes follow old is =
-    (noded names at (Ok turns), is, inl ([], inr (fault, refl, comes), inr (inl (outside, refl, refl)), follow.none, λ nothing. nothing))
+    (node_verdict names at (Ok turns), is, inl ([], inr (fault, refl, comes), inr (inl (outside, refl, refl)), follow.none, λ nothing. nothing))
 comes_before Rule told names at (Err e) fault outside comes follow old is =
-    (noded names at (Err e), is, inl ([], inr (fault, refl, comes), refl, follow.none, tt))
+    (node_verdict names at (Err e), is, inl ([], inr (fault, refl, comes), refl, follow.none, tt))
 
 memory_comes : (wants : Bool) (text : List ℕ) → ComesAfter (memory_by wants) [] text
 memory_comes true text = (text, refl)
 memory_comes false text = refl
 
-noded_memory : (names : List (List ℕ)) (at : Address) (answer : Result (List Turn) Fault) → ComesAfter (place_of (noded names at answer).stops faults.NoMemory) [] (noded names at answer).text
+noded_memory : (names : List (List ℕ)) (at : Address) (answer : Result (List Turn) Fault) → ComesAfter (place_of (node_verdict names at answer).stops faults.NoMemory) [] (node_verdict names at answer).text
 noded_memory names at (Ok turns) = memory_comes (want_memory turns) (text_of turns)
 noded_memory names at (Err e) = ([], refl)
 
-noded_reads : (names : List (List ℕ)) (at : Address) (answer : Result (List Turn) Fault) → ComesAfter (place_of (noded names at answer).stops faults.Read) [] (noded names at answer).text
+noded_reads : (names : List (List ℕ)) (at : Address) (answer : Result (List Turn) Fault) → ComesAfter (place_of (node_verdict names at answer).stops faults.Read) [] (node_verdict names at answer).text
 noded_reads names at (Ok turns) = refl
 noded_reads names at (Err e) = refl
 
 -- a part that reads a file ended it
 pub part_executes : {A : Type 0} {files : Option Told} (follow : TextsFollow) (Rule : Verdict → Type 0) (told : Outside) (old : Option Written) (names : List (List ℕ)) (at : Address) (answer : Result (List Turn) Fault)
-    (said : Result A Fault) (e : Fault) → Rule (noded names at answer) → (said ≡ Err e → answer ≡ Err e) → Gets said (Err e) → ExecutesWired Rule told old old (left_so told.wire files) (Err e)
+    (said : Result A Fault) (e : Fault) → Rule (node_verdict names at answer) → (said ≡ Err e → answer ≡ Err e) → Gets said (Err e) → ExecutesWired Rule told old old (left_so told.wire files) (Err e)
 part_executes {files} follow Rule told old names at answer said e is so gets =
     elim gets [
       | inl by_input ↦ noded_refused follow Rule told old names at answer e (so (sym by_input)) is
@@ -162,14 +162,14 @@ part_executes {files} follow Rule told old names at answer said e is so gets =
 
 -- what is left of the files before its turns, by its input or by what comes from outside
 part_given : {A : Type 0} (said : Result A Fault) (e : Fault) (names : List (List ℕ)) (at : Address) (answer : Result (List Turn) Fault) (told now : Option Told) → Gets said (Err e) → (said ≡ Err e → answer ≡ Err e)
-    → Gives {A = Unit {0}} (Err e) names told now → Touches {A = Unit {0}} (Err e) (noded names at answer).named (noded names at answer).acts told now
+    → Gives {A = Unit {0}} (Err e) names told now → Touches {A = Unit {0}} (Err e) (node_verdict names at answer).named (node_verdict names at answer).acts told now
 part_given {A} said e names at answer told now gets so gives =
     elim gets [
-      | inl by_input ↦ subst (λ (a : Result (List Turn) Fault). Touches {A = Unit {0}} (Err e) (noded names at a).named (noded names at a).acts told now) (sym (so (sym by_input))) gives
+      | inl by_input ↦ subst (λ (a : Result (List Turn) Fault). Touches {A = Unit {0}} (Err e) (node_verdict names at a).named (node_verdict names at a).acts told now) (sym (so (sym by_input))) gives
       | inr outside ↦ inr (came_outside {A = A} e (Err e) refl outside, early_given names answer (gave_first {A = Unit {0}} (Err e) names told now gives))
     ]
   where
-    early_given : (names : List (List ℕ)) (answer : Result (List Turn) Fault) → LooksUpFirst told now names → LeavesFirst told now (noded names at answer).named (noded names at answer).acts
+    early_given : (names : List (List ℕ)) (answer : Result (List Turn) Fault) → LooksUpFirst told now names → LeavesFirst told now (node_verdict names at answer).named (node_verdict names at answer).acts
     early_given names (Ok turns) first = first_more told now (map looked_up names) (created (acts_of turns)) [] (acts_of turns) first
     early_given names (Err cause) first = first
 
@@ -192,7 +192,7 @@ no_profile_given told Rule kind profile script at turns now e nodes gets gives =
     let arrivals = some_arrive told.wire in
     let names = names_by (profile_in gets.0) profile script in
     let answer = turns gets.0 s.0 readings.0 arrivals.0 in (
-      noded names at answer,
+      node_verdict names at answer,
       nodes.verdict gets.0 s.0 gets.1 s.1 readings.0 readings.1 arrivals.0 arrivals.1,
       part_given (profile_in gets.0) e names at answer told.files now gets.2 (nodes.no_profile gets.0 s.0 readings.0 arrivals.0 e)
           (profile_names gets.0 e profile script told.files now gets.2 gives),
@@ -224,7 +224,7 @@ no_script_given told Rule kind profile script at turns mid now by e nodes passes
     let answer = turns passes.0 gets.0 readings.0 arrivals.0 in
     let given = subst (λ (says : Result Profile Fault). Gives {A = Unit {0}} (Err e) (names_by says profile script) told.files now) (sym is)
     (script_names told.files mid now profile script by e looked second) in (
-      noded names at answer,
+      node_verdict names at answer,
       nodes.verdict passes.0 gets.0 passes.1 of_script readings.0 readings.1 arrivals.0 arrivals.1,
       part_given (events_in kind gets.0) e names at answer told.files now gets.2 (nodes.no_events passes.0 gets.0 readings.0 arrivals.0 by e is) given,
     )
@@ -234,7 +234,7 @@ no_script_given told Rule kind profile script at turns mid now by e nodes passes
 -- both were read: by what is to come, the verdict is that of these turns
 pub record Passed (told : Outside) (Rule : Verdict → Type 0) (profile script : List ℕ) (at : Address) (turns : List ℕ → List (Option Parcel) → List Turn) : Type 0 where
   pub is : (readings : List ℕ) → ToRead told.clock readings → (arrivals : List (Option Parcel)) → ToArrive told.wire arrivals
-      → Rule (noded (profile ∷ script ∷ []) at (Ok (turns readings arrivals)))
+      → Rule (node_verdict (profile ∷ script ∷ []) at (Ok (turns readings arrivals)))
 
 passed_so : (told : Outside) (Rule : Verdict → Type 0) (kind : ScriptKind) (profile script : List ℕ) (at : Address) (turns : TurnsBy) (now_turns : List ℕ → List (Option Parcel) → List Turn)
     (mid : Option Told) (by : Profile) (events : List Event)
@@ -245,24 +245,24 @@ passed_so : (told : Outside) (Rule : Verdict → Type 0) (kind : ScriptKind) (pr
 passed_so told Rule kind profile script at turns now_turns mid by events nodes passes gives gets same = record {
   is = λ readings to_read arrivals to_arrive.
       let of_script = same_held told.files mid (profile ∷ []) script gets.0 (gave by (profile ∷ []) told.files mid gives) gets.1 in
-      subst (λ (says : Result Profile Fault). Rule (noded (names_by says profile script) at (Ok (now_turns readings arrivals)))) (got_ok (profile_in passes.0) by passes.2)
-      (subst (λ (answer : Result (List Turn) Fault). Rule (noded (names_by (profile_in passes.0) profile script) at answer)) (same readings arrivals)
+      subst (λ (says : Result Profile Fault). Rule (node_verdict (names_by says profile script) at (Ok (now_turns readings arrivals)))) (got_ok (profile_in passes.0) by passes.2)
+      (subst (λ (answer : Result (List Turn) Fault). Rule (node_verdict (names_by (profile_in passes.0) profile script) at answer)) (same readings arrivals)
       (nodes.verdict passes.0 gets.0 passes.1 of_script readings to_read arrivals to_arrive));
 }
 
 pub serve_passed : (told : Outside) (profile script : List ℕ) (at : Address) (mid : Option Told) (by : Profile) (events : List Event)
     → GetsFrom profile_in told.files profile (Ok by) → Gives (Ok by) (profile ∷ []) told.files mid → GetsFrom (events_in kinds.Serve) mid script (Ok events)
-    → Passed told (IsServed told profile script at) profile script at (turns_of most_turns server_rules (new_node (new_server by places) events))
+    → Passed told (IsServeVerdict told profile script at) profile script at (turns_of most_turns server_rules (new_node (new_server by places) events))
 serve_passed told profile script at mid by events passes gives gets =
-    passed_so told (IsServed told profile script at) kinds.Serve profile script at served (turns_of most_turns server_rules (new_node (new_server by places) events)) mid by events
+    passed_so told (IsServeVerdict told profile script at) kinds.Serve profile script at served (turns_of most_turns server_rules (new_node (new_server by places) events)) mid by events
     (serves told profile script at) passes gives gets
     (λ readings arrivals. served_so passes.0 gets.0 by events readings arrivals (got_ok (profile_in passes.0) by passes.2) (got_ok (events_in kinds.Serve gets.0) events gets.2))
 
 pub join_passed : (told : Outside) (profile script : List ℕ) (at server : Address) (mid : Option Told) (by : Profile) (events : List Event) (end : ClientEnd) → client_of by server events ≡ Some end
     → GetsFrom profile_in told.files profile (Ok by) → Gives (Ok by) (profile ∷ []) told.files mid → GetsFrom (events_in kinds.Join) mid script (Ok events)
-    → Passed told (IsJoined told profile script at server) profile script at (turns_of most_turns client_rules (new_node end events))
+    → Passed told (IsJoinVerdict told profile script at server) profile script at (turns_of most_turns client_rules (new_node end events))
 join_passed told profile script at server mid by events end client passes gives gets =
-    passed_so told (IsJoined told profile script at server) kinds.Join profile script at (joined server) (turns_of most_turns client_rules (new_node end events)) mid by events
+    passed_so told (IsJoinVerdict told profile script at server) kinds.Join profile script at (joined server) (turns_of most_turns client_rules (new_node end events)) mid by events
     (joins told profile script at server) passes gives gets
     (λ readings arrivals. joined_so server passes.0 gets.0 by events readings arrivals end (got_ok (profile_in passes.0) by passes.2) (got_ok (events_in kinds.Join gets.0) events gets.2) client)
 
@@ -281,7 +281,7 @@ arrive_bound (Some traffic) at arrivals to = to
 
 -- the verdict of a node that has these turns
 abbrev of_turns : List ℕ → List ℕ → Address → List Turn → Verdict
-of_turns profile script at turns = noded (profile ∷ script ∷ []) at (Ok turns)
+of_turns profile script at turns = node_verdict (profile ∷ script ∷ []) at (Ok turns)
 
 -- turns after others are those of all
 text_last : (turns first rest : List Turn) (last : Turn) → turns ≡ first ++ last ∷ rest → text_of turns ≡ (text_of first ++ text_of (last ∷ [])) ++ text_of rest

@@ -22,7 +22,7 @@ use Rattle.q3_runs.specs.declared.fault.Fault.TheVariants as faults
 use Rattle.q3_runs.specs.Faults.{index_fault, seek_fault}
 use Rattle.q3_runs.specs.Input.{Holds, looked_up, LooksUpTold, Gives}
 use Rattle.q3_runs.specs.Verdict.{profile_in, GetsFrom}
-use Rattle.q3_runs.specs.Run.{PrintsAll, EndsSought, EndsAsPlays}
+use Rattle.q3_runs.specs.Run.{PrintsAll, EndsWithPlayedState, SeekEndsWithPlayedState}
 use Rattle.q3_runs.proofs.Looking.{got_ok, gave}
 use Rattle.q3_runs.proofs.Early.{outside_of}
 use Rattle.q3_runs.proofs.Numbered.{two_found}
@@ -98,11 +98,11 @@ found_made told t1 t2 t3 profile demo index first second number by p files other
 
 -- ---- how a seek ends then
 
-is_early : (by : Profile) (bytes : List ℕ) (number : ℕ) (old now : Option Written) (e : Fault) → (e ≡ faults.NoMemory) ⊎ (e ≡ faults.Read) → EndsSought by bytes number old now (Err e)
+is_early : (by : Profile) (bytes : List ℕ) (number : ℕ) (old now : Option Written) (e : Fault) → (e ≡ faults.NoMemory) ⊎ (e ≡ faults.Read) → EndsWithPlayedState by bytes number old now (Err e)
 is_early by bytes number old now e outside = inr (elim outside [ inl memory ↦ inl (ap Err memory) | inr read ↦ inr (ap Err read) ])
 
 pub plays_early : (told : Option Told) (profile demo index : List ℕ) (number : ℕ) (old now : Option Written) (e : Fault) → (e ≡ faults.NoMemory) ⊎ (e ≡ faults.Read)
-    → EndsAsPlays told profile demo index number old now (Err e)
+    → SeekEndsWithPlayedState told profile demo index number old now (Err e)
 plays_early told profile demo index number old now e outside =
     λ files by version bytes made is says of_demo of_index long tells whole few. is_early by bytes number old now e outside
 
@@ -110,7 +110,7 @@ not_both : {A : Type 0} (x : A) (e : Fault) (says : Result A Fault) → says ≡
 not_both x e says done refused = cc
 
 pub plays_unprofiled : (told : Option Told) (profile demo index : List ℕ) (number : ℕ) (old now : Option Written) (e : Fault) → GetsFrom profile_in told profile (Err e)
-    → EndsAsPlays told profile demo index number old now (Err e)
+    → SeekEndsWithPlayedState told profile demo index number old now (Err e)
 plays_unprofiled told profile demo index number old now e gets =
     λ files by version bytes made is says of_demo of_index long tells whole few.
     let holds : contents_of files.files profile ≡ gets.0 = subst (λ (t : Option Told). Holds t profile gets.0) is gets.1 in
@@ -125,7 +125,7 @@ not_refused whole heads e done refused = cc
 pub plays_unopened : (told t1 t2 t3 : Option Told) (profile demo index : List ℕ) (number : ℕ) (by : Profile) (first second : ℕ) (old now : Option Written) (e : IndexError)
     → Premises told t1 t2 t3 profile demo index first second by
     → ((now : Told) → t3 ≡ Some now → Opens first second (open_at (length (contents_at now first)) by.mark by.entity.number_bits (contents_at now second)) (Err e))
-    → EndsAsPlays told profile demo index number old now (Err (index_fault e))
+    → SeekEndsWithPlayedState told profile demo index number old now (Err (index_fault e))
 plays_unopened told t1 t2 t3 profile demo index number by first second old now e p opens =
     λ files other version bytes made is says of_demo of_index long tells whole few.
     let so = found_made told t1 t2 t3 profile demo index first second number by p files other version bytes made is says of_demo of_index long tells whole few in
@@ -158,7 +158,7 @@ pub plays_refused : (told t1 t2 t3 t4 : Option Told) (profile demo index : List 
     → Premises told t1 t2 t3 profile demo index first second by
     → ((now : Told) → t3 ≡ Some now → Opens first second (open_at (length (contents_at now first)) by.mark by.entity.number_bits (contents_at now second)) (Ok state)) → OnlyAsks t3 t4
     → ((now : Told) → t4 ≡ Some now → Seeks by state (contents_at now state.demo) (contents_at now state.index) number (Err e))
-    → EndsAsPlays told profile demo index number old now (Err (seek_fault e))
+    → SeekEndsWithPlayedState told profile demo index number old now (Err (seek_fault e))
 plays_refused told t1 t2 t3 t4 profile demo index number by first second state old now e p opens asks sought =
     λ files other version bytes made is says of_demo of_index long tells whole few.
     let so = found_made told t1 t2 t3 profile demo index first second number by p files other version bytes made is says of_demo of_index long tells whole few in
@@ -175,7 +175,7 @@ pub plays_printed : (told t1 t2 t3 t4 : Option Told) (profile demo index : List 
     (ended : Result (Unit {0}) Fault) → Premises told t1 t2 t3 profile demo index first second by
     → ((now : Told) → t3 ≡ Some now → Opens first second (open_at (length (contents_at now first)) by.mark by.entity.number_bits (contents_at now second)) (Ok state)) → OnlyAsks t3 t4
     → ((now : Told) → t4 ≡ Some now → Seeks by state (contents_at now state.demo) (contents_at now state.index) number (Ok left)) → PrintsAll (state_text left number) old now ended
-    → EndsAsPlays told profile demo index number old now ended
+    → SeekEndsWithPlayedState told profile demo index number old now ended
 plays_printed told t1 t2 t3 t4 profile demo index number by first second state left old now ended p opens asks sought prints =
     λ files other version bytes made is says of_demo of_index long tells whole few.
     let so = found_made told t1 t2 t3 profile demo index first second number by p files other version bytes made is says of_demo of_index long tells whole few in

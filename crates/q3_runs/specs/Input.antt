@@ -1,5 +1,5 @@
 -- The files of a run: what it reads of each, which names it gives, and what it leaves.
-use Rattle.std.specs.Prelude.{◌≡◌, ◌⊎◌, ℕ, ◌≤◌, List, [], ◌∷◌, ◌++◌, length, map, Option, Some, None, Result, Ok, Err}
+use Rattle.std.specs.Prelude.{◌≡◌, ◌⊎◌, ℕ, ◌+◌, ◌*◌, ◌==◌, ◌||◌, ◌≤◌, Bool, List, [], ◌∷◌, ◌++◌, length, map, count_by, Option, Some, None, Result, Ok, Err}
 use Rattle.std.specs.Global.{Vec}
 use Rattle.q3_demo.specs.Running.{HasFrom}
 use Rattle.q3_io.specs.declared.sink.Failed.{Failed}
@@ -53,6 +53,23 @@ ReadsPieces most file None now result = (now ≡ None) × (contents : List ℕ) 
 ReadsPieces most file (Some told) now result =
     (asked : List ℕ) × (now ≡ Some (record told { asked = asked })) × ReadsWhole most (contents_at told file) result
 
+-- ---- what a profile's document may take
+
+-- a byte that may begin a table, `.`, `[` or `{`, and one that may end a key, `=`
+abbrev pub may_begin_table : ℕ → Bool
+may_begin_table byte = byte == 46 || byte == 91 || byte == 123
+
+abbrev pub may_end_key : ℕ → Bool
+may_end_key byte = byte == 61
+
+-- how many bytes of memory its tables and its keys may take
+abbrev pub document_memory : List ℕ → ℕ
+document_memory bytes = 1280 * count_by may_begin_table bytes + 224 * count_by may_end_key bytes
+
+-- and how many they may at most
+abbrev pub most_memory : ℕ
+most_memory = 33554432
+
 -- ---- what becomes of the files
 
 abbrev pub looked_up : List ℕ → Named
@@ -94,8 +111,10 @@ Touches ended named acts told now = LeavesTold told now named acts ⊎ (IsEarly 
 abbrev pub LooksUpTold : Option Told → Option Told → List (List ℕ) → Type 0
 LooksUpTold told now names = LeavesTold told now (map looked_up names) []
 
+-- or the first of them
 abbrev pub LooksUpFirst : Option Told → Option Told → List (List ℕ) → Type 0
 LooksUpFirst told now names = LeavesFirst told now (map looked_up names) []
 
+-- all of them, or, where something from outside ended it early, the first
 abbrev pub Gives : {A : Type 0} → Result A Fault → List (List ℕ) → Option Told → Option Told → Type 0
-Gives ended names told now = Touches ended (map looked_up names) [] told now
+Gives ended names told now = LooksUpTold told now names ⊎ (IsEarly ended × LooksUpFirst told now names)

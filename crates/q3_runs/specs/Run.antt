@@ -15,25 +15,25 @@ use Rattle.q3_index.specs.declared.opening.Version.{Version}
 use Rattle.q3_index.specs.Text.{Tells, index_by}
 use Rattle.q3_runs.specs.Faults.{node_fault}
 use Rattle.q3_runs.specs.Input.{IsFront, LeavesTold, Touches}
-use Rattle.q3_runs.specs.Verdict.{Place, Nowhere, First, Anywhere, Stops, Verdict, Outside, profile_in}
+use Rattle.q3_runs.specs.Verdict.{StopPlace, Nowhere, First, Anywhere, Stops, Verdict, Outside, profile_in}
 use Rattle.q3_runs.specs.declared.fault.Fault.{Fault}
 use Rattle.q3_runs.specs.declared.fault.Fault.TheVariants.{NoMemory, Read, Write, FileWrite, Wire}
 
 -- ---- how a command ends
 
 -- something may come at such a place
-abbrev pub Comes : Place → Type 0
+abbrev pub Comes : StopPlace → Type 0
 Comes Nowhere = ⊥
 Comes place = Unit {0}
 
 -- and so much of a text is printed by then
-abbrev pub ComesAfter : Place → List ℕ → List ℕ → Type 0
+abbrev pub ComesAfter : StopPlace → List ℕ → List ℕ → Type 0
 ComesAfter Nowhere printed text = ⊥
 ComesAfter First printed text = printed ≡ []
 ComesAfter Anywhere printed text = IsFront printed text
 
 -- where a fault from outside may stop a command; the sink is told of apart
-abbrev pub place_of : Stops → Fault → Place
+abbrev pub place_of : Stops → Fault → StopPlace
 place_of stops NoMemory = stops.memory
 place_of stops Read = stops.reads
 place_of stops FileWrite = stops.writes
@@ -41,8 +41,8 @@ place_of stops Wire = stops.wire
 place_of stops other = Nowhere
 
 -- how a command ends, and what it printed before any fault line: as its verdict says, or stopped early
-abbrev pub Ends : Verdict → Result (Unit {0}) Fault → List ℕ → Type 0
-Ends verdict ended printed =
+abbrev pub EndsAs : Verdict → Result (Unit {0}) Fault → List ℕ → Type 0
+EndsAs verdict ended printed =
     ((ended ≡ verdict.ending) × (printed ≡ verdict.text))
     ⊎ ((fault : Fault) × (ended ≡ Err fault) × ComesAfter (place_of verdict.stops fault) printed verdict.text)
 
@@ -50,14 +50,14 @@ Ends verdict ended printed =
 abbrev pub Executes : (Verdict → Type 0) → Option Written → Option Written → Result (Unit {0}) Fault → Type 0
 Executes Rule old now ended =
     (verdict : Verdict) × Rule verdict
-    × (((printed : List ℕ) × Ends verdict ended printed × Wrote old now printed true)
+    × (((printed : List ℕ) × EndsAs verdict ended printed × Wrote old now printed true)
     ⊎ ((ended ≡ Err Write) × Wrote old now verdict.text false))
 
 -- what a command has done with the files by then: as its verdict says, or the first of it
 abbrev pub LeavesFiles : (Verdict → Type 0) → Option Told → Option Told → Result (Unit {0}) Fault → Type 0
 LeavesFiles Rule told now ended = (verdict : Verdict) × Rule verdict × Touches ended verdict.named verdict.acts told now
 
--- a text of the program's own
+-- a text was printed whole, or the sink failed and took a front of it
 abbrev pub PrintsAll : List ℕ → Option Written → Option Written → Result (Unit {0}) Fault → Type 0
 PrintsAll text old now ended = ((ended ≡ Ok tt) × Wrote old now text true) ⊎ ((ended ≡ Err Write) × Wrote old now text false)
 
@@ -114,7 +114,7 @@ FailsBy (Some at) turns told old now left = EndsEarly turns at told old now left
 abbrev pub ExecutesWired : (Verdict → Type 0) → Outside → Option Written → Option Written → Left → Result (Unit {0}) Fault → Type 0
 ExecutesWired Rule told old now left ended =
     (verdict : Verdict) × Rule verdict
-    × (((printed : List ℕ) × Ends verdict ended printed × WiredBy verdict.at verdict ended printed told old now left × Wrote old now printed true
+    × (((printed : List ℕ) × EndsAs verdict ended printed × WiredBy verdict.at verdict ended printed told old now left × Wrote old now printed true
     × HandedOn verdict.at old now)
     ⊎ ((ended ≡ Err Write) × Wrote old now verdict.text false × FailsBy verdict.at verdict.turns told old now left))
 
@@ -125,18 +125,18 @@ MayBind Rule = (verdict : Verdict) × Rule verdict × (at : Address) × (verdict
 -- ---- a demo that is sought in
 
 -- where it is sought by an index of either version that was made of the demo, by the same profile
-abbrev pub OfMadeIndex : Option Told → (profile demo index : List ℕ) → ℕ → (ProfileValue → List ℕ → ℕ → Type 0) → Type 0
-OfMadeIndex told profile demo index records So =
+abbrev pub WhereIndexWasMade : Option Told → (profile demo index : List ℕ) → ℕ → (ProfileValue → List ℕ → ℕ → Type 0) → Type 0
+WhereIndexWasMade told profile demo index records So =
     (files : Told) (by : ProfileValue) (version : Version) (bytes made : List ℕ) → told ≡ Some files → profile_in (contents_of files.files profile) ≡ Ok by
     → contents_of files.files demo ≡ Some bytes → contents_of files.files index ≡ Some made → length bytes < 2 ^ 64 → Tells version by.entity.number_bits → index_by version by bytes ≡ Ok made
     → records ≤ length (records_of by bytes) → So by bytes records
 
 -- what so many of a demo's records leave is what playing them leaves, and is printed; only want of memory, a read that
 -- fails and a write that does come before that
-abbrev pub EndsSought : ProfileValue → List ℕ → ℕ → Option Written → Option Written → Result (Unit {0}) Fault → Type 0
-EndsSought by demo records old now ended =
+abbrev pub EndsWithPlayedState : ProfileValue → List ℕ → ℕ → Option Written → Option Written → Result (Unit {0}) Fault → Type 0
+EndsWithPlayedState by demo records old now ended =
     ((played : Played) × (play_state by demo records ≡ Ok played) × PrintsAll (state_text played.state records) old now ended)
     ⊎ ((ended ≡ Err NoMemory) ⊎ (ended ≡ Err Read))
 
-abbrev pub EndsAsPlays : Option Told → (profile demo index : List ℕ) → ℕ → Option Written → Option Written → Result (Unit {0}) Fault → Type 0
-EndsAsPlays told profile demo index records old now ended = OfMadeIndex told profile demo index records (λ by bytes records. EndsSought by bytes records old now ended)
+abbrev pub SeekEndsWithPlayedState : Option Told → (profile demo index : List ℕ) → ℕ → Option Written → Option Written → Result (Unit {0}) Fault → Type 0
+SeekEndsWithPlayedState told profile demo index records old now ended = WhereIndexWasMade told profile demo index records (λ by bytes records. EndsWithPlayedState by bytes records old now ended)

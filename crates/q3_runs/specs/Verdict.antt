@@ -34,17 +34,17 @@ use Rattle.q3_runs.specs.declared.fault.Fault.{Fault}
 use Rattle.q3_runs.specs.declared.fault.Fault.TheVariants.{Read, Profile, Script, Turns}
 
 -- where something from outside may stop a command: nowhere, before its first line alone, or anywhere in its text
-pub data Place : Type 0 where
-  Nowhere : Place
-  First : Place
-  Anywhere : Place
+pub data StopPlace : Type 0 where
+  Nowhere : StopPlace
+  First : StopPlace
+  Anywhere : StopPlace
 
 -- where it may want memory, where a read may fail, where a write of a file that it makes may, and where the wire may
 pub record Stops : Type 0 where
-  pub memory : Place
-  pub reads : Place
-  pub writes : Place
-  pub wire : Place
+  pub memory : StopPlace
+  pub reads : StopPlace
+  pub writes : StopPlace
+  pub wire : StopPlace
 
 -- what a command prints before any fault line; how it ends, done or by the first cause that its input decides; the names that it gives,
 -- each with its call; what it does to files, one act after the other; the address that it binds, if it binds one, and the turns that it has then;
@@ -80,13 +80,13 @@ abbrev pub goes_on_reading : Stops
 goes_on_reading = record { memory = First; reads = Anywhere; writes = Nowhere; wire = Nowhere }
 
 -- where a write of files may fail: anywhere, if something is done to them
-abbrev pub writes_by : List FileAct → Place
+abbrev pub writes_by : List FileAct → StopPlace
 writes_by [] = Nowhere
 writes_by (act ∷ acts) = Anywhere
 
 -- and what goes on over a wire: it has all its memory before its first line, unless one of its turns wants some, and it writes files, if it
 -- does something to them
-abbrev pub memory_by : Bool → Place
+abbrev pub memory_by : Bool → StopPlace
 memory_by true = Anywhere
 memory_by false = First
 
@@ -125,15 +125,15 @@ ending_of true = Ok tt
 ending_of false = Err Turns
 
 -- of a node at an address with these turns; of none, by a cause
-abbrev pub noded : List (List ℕ) → Address → Result (List Turn) Fault → Verdict
-noded names at (Ok turns) =
+abbrev pub node_verdict : List (List ℕ) → Address → Result (List Turn) Fault → Verdict
+node_verdict names at (Ok turns) =
     record (printing (goes_on_wire turns) names (text_of turns) (ending_of (did_end turns))) {
       named = map looked_up names ++ created (acts_of turns);
       acts = acts_of turns;
       at = Some at;
       turns = turns;
     }
-noded names at (Err cause) = printing reads_first names [] (Err cause)
+node_verdict names at (Err cause) = printing reads_first names [] (Err cause)
 
 -- the turns of a server by the script in one file and the profile in another, where these readings and arrivals are to come
 abbrev pub served : Option (List ℕ) → Option (List ℕ) → List ℕ → List (Option Parcel) → Result (List Turn) Fault
@@ -180,9 +180,9 @@ indexing_in by demo = do
   indexing_of by bytes
 
 -- and of the file of a name, where it is told
-abbrev pub Indexes : Option Told → ProfileValue → List ℕ → Result Indexing DemoError → Type 0
-Indexes None by demo answer = ⊤
-Indexes (Some told) by demo answer = answer ≡ indexing_in by (contents_of told.files demo)
+abbrev pub AnswersIndex : Option Told → ProfileValue → List ℕ → Result Indexing DemoError → Type 0
+AnswersIndex None by demo answer = ⊤
+AnswersIndex (Some told) by demo answer = answer ≡ indexing_in by (contents_of told.files demo)
 
 -- its file is made, empty, and then has it, unless the demo is refused
 abbrev pub index_acts : List ℕ → Result Indexing DemoError → List FileAct
@@ -203,23 +203,23 @@ demo_indexed names name answer =
     }
 
 -- by a profile that passed
-abbrev pub IsIndexedBy : Option Told → Result ProfileValue Fault → (profile demo index : List ℕ) → Verdict → Type 0
-IsIndexedBy told (Ok by) profile demo index verdict =
-    (answer : Result Indexing DemoError) × Indexes told by demo answer × (verdict ≡ demo_indexed (profile ∷ demo ∷ []) index answer)
-IsIndexedBy told (Err cause) profile demo index verdict = verdict ≡ printing reads_first (profile ∷ []) [] (Err cause)
+abbrev pub IsIndexVerdictBy : Option Told → Result ProfileValue Fault → (profile demo index : List ℕ) → Verdict → Type 0
+IsIndexVerdictBy told (Ok by) profile demo index verdict =
+    (answer : Result Indexing DemoError) × AnswersIndex told by demo answer × (verdict ≡ demo_indexed (profile ∷ demo ∷ []) index answer)
+IsIndexVerdictBy told (Err cause) profile demo index verdict = verdict ≡ printing reads_first (profile ∷ []) [] (Err cause)
 
 -- what so many records of a demo leave, by the bytes of an index
-abbrev pub sought_in : ProfileValue → List ℕ → List ℕ → ℕ → Result demos.Played Fault
-sought_in by demo index number = do
+abbrev pub seek_played : ProfileValue → List ℕ → List ℕ → ℕ → Result demos.Played Fault
+seek_played by demo index number = do
   heads ← result_map_both (λ heads. heads) index_fault (open_at (length demo) by.mark by.entity.number_bits index)
   result_map_both (λ played. played) seek_fault (seek_at by demo index heads.records heads.checkpoints number)
 
 -- and what is printed, by the demo in one file and the index in another
-abbrev pub sought : ProfileValue → Option (List ℕ) → Option (List ℕ) → ℕ → Result (List ℕ) Fault
-sought by demo index number = do
+abbrev pub seek_text : ProfileValue → Option (List ℕ) → Option (List ℕ) → ℕ → Result (List ℕ) Fault
+seek_text by demo index number = do
   bytes ← ok_or demo Read
   index_bytes ← ok_or index Read
-  played ← sought_in by bytes index_bytes number
+  played ← seek_played by bytes index_bytes number
   Ok (state_text played.state number)
 
 -- what opening an index and seeking in it may be refused for
@@ -227,14 +227,14 @@ abbrev pub IsSeekFault : Fault → Type 0
 IsSeekFault fault = ((e : IndexError) × (fault ≡ index_fault e)) ⊎ ((e : SeekError) × (fault ≡ seek_fault e))
 
 -- of the files of two names, where they are told
-abbrev pub Sought : Option Told → ProfileValue → (demo index : List ℕ) → ℕ → Result (List ℕ) Fault → Type 0
-Sought None by demo index number answer = IfErr answer IsSeekFault
-Sought (Some told) by demo index number answer = answer ≡ sought by (contents_of told.files demo) (contents_of told.files index) number
+abbrev pub AnswersSeek : Option Told → ProfileValue → (demo index : List ℕ) → ℕ → Result (List ℕ) Fault → Type 0
+AnswersSeek None by demo index number answer = IfErr answer IsSeekFault
+AnswersSeek (Some told) by demo index number answer = answer ≡ seek_text by (contents_of told.files demo) (contents_of told.files index) number
 
-abbrev pub IsSoughtBy : Option Told → Result ProfileValue Fault → (profile demo index : List ℕ) → ℕ → Verdict → Type 0
-IsSoughtBy told (Ok by) profile demo index number verdict =
-    (answer : Result (List ℕ) Fault) × Sought told by demo index number answer × (verdict ≡ settled all_first (profile ∷ demo ∷ index ∷ []) answer)
-IsSoughtBy told (Err cause) profile demo index number verdict = verdict ≡ printing reads_first (profile ∷ []) [] (Err cause)
+abbrev pub IsSeekVerdictBy : Option Told → Result ProfileValue Fault → (profile demo index : List ℕ) → ℕ → Verdict → Type 0
+IsSeekVerdictBy told (Ok by) profile demo index number verdict =
+    (answer : Result (List ℕ) Fault) × AnswersSeek told by demo index number answer × (verdict ≡ settled all_first (profile ∷ demo ∷ index ∷ []) answer)
+IsSeekVerdictBy told (Err cause) profile demo index number verdict = verdict ≡ printing reads_first (profile ∷ []) [] (Err cause)
 
 -- what is told of the outside: of the files, of the wire, and of the clock
 pub record Outside : Type 0 where
@@ -248,34 +248,34 @@ outside files wire clock = record { files = files; wire = wire; clock = clock }
 -- ---- the rule that the verdict of a command meets, by what the files hold that it names
 
 -- of a demo that is played
-abbrev pub IsPlayed : Option Told → (profile demo : List ℕ) → Verdict → Type 0
-IsPlayed told profile demo verdict =
+abbrev pub IsPlayVerdict : Option Told → (profile demo : List ℕ) → Verdict → Type 0
+IsPlayVerdict told profile demo verdict =
     (of_profile : Option (List ℕ)) × (of_demo : Option (List ℕ)) × Holds told profile of_profile × Holds told demo of_demo
     × (verdict ≡ demo_played (names_by (profile_in of_profile) profile demo) (played of_profile of_demo))
 
 -- of an index that is made
-abbrev pub IsIndexed : Option Told → (profile demo index : List ℕ) → Verdict → Type 0
-IsIndexed told profile demo index verdict =
-    (of_profile : Option (List ℕ)) × Holds told profile of_profile × IsIndexedBy told (profile_in of_profile) profile demo index verdict
+abbrev pub IsIndexVerdict : Option Told → (profile demo index : List ℕ) → Verdict → Type 0
+IsIndexVerdict told profile demo index verdict =
+    (of_profile : Option (List ℕ)) × Holds told profile of_profile × IsIndexVerdictBy told (profile_in of_profile) profile demo index verdict
 
 -- of a demo that is sought in
-abbrev pub IsSought : Option Told → (profile demo index : List ℕ) → ℕ → Verdict → Type 0
-IsSought told profile demo index records verdict =
-    (of_profile : Option (List ℕ)) × Holds told profile of_profile × IsSoughtBy told (profile_in of_profile) profile demo index records verdict
+abbrev pub IsSeekVerdict : Option Told → (profile demo index : List ℕ) → ℕ → Verdict → Type 0
+IsSeekVerdict told profile demo index records verdict =
+    (of_profile : Option (List ℕ)) × Holds told profile of_profile × IsSeekVerdictBy told (profile_in of_profile) profile demo index records verdict
 
 -- of a server, by what is to come over the wire and of the clock, too
-abbrev pub IsServed : Outside → (profile script : List ℕ) → Address → Verdict → Type 0
-IsServed told profile script at verdict =
+abbrev pub IsServeVerdict : Outside → (profile script : List ℕ) → Address → Verdict → Type 0
+IsServeVerdict told profile script at verdict =
     (of_profile : Option (List ℕ)) × (of_script : Option (List ℕ)) × Holds told.files profile of_profile × Holds told.files script of_script
     × (readings : List ℕ) × ToRead told.clock readings × (arrivals : List (Option Parcel)) × ToArrive told.wire arrivals
-    × (verdict ≡ noded (names_by (profile_in of_profile) profile script) at (served of_profile of_script readings arrivals))
+    × (verdict ≡ node_verdict (names_by (profile_in of_profile) profile script) at (served of_profile of_script readings arrivals))
 
 -- and of a client
-abbrev pub IsJoined : Outside → (profile script : List ℕ) → (at server : Address) → Verdict → Type 0
-IsJoined told profile script at server verdict =
+abbrev pub IsJoinVerdict : Outside → (profile script : List ℕ) → (at server : Address) → Verdict → Type 0
+IsJoinVerdict told profile script at server verdict =
     (of_profile : Option (List ℕ)) × (of_script : Option (List ℕ)) × Holds told.files profile of_profile × Holds told.files script of_script
     × (readings : List ℕ) × ToRead told.clock readings × (arrivals : List (Option Parcel)) × ToArrive told.wire arrivals
-    × (verdict ≡ noded (names_by (profile_in of_profile) profile script) at (joined server of_profile of_script readings arrivals))
+    × (verdict ≡ node_verdict (names_by (profile_in of_profile) profile script) at (joined server of_profile of_script readings arrivals))
 
 -- ---- what a part reads
 

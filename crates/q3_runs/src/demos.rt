@@ -8,8 +8,8 @@ ghost use Rattle.q3_demo.specs.Report.{state_text};
 ghost use Rattle.q3_index.specs.Text.{spacing};
 ghost use Rattle.q3_runs.specs.Faults.{build_fault, ReadCause, WriteCause, FileCause};
 ghost use Rattle.q3_runs.specs.Input.{as_told};
-ghost use Rattle.q3_runs.specs.Verdict.{IsPlayed, IsIndexed, IsSought, indexed_text};
-ghost use Rattle.q3_runs.specs.Run.{EndsAsPlays, Executes, LeavesFiles, PrintsAll};
+ghost use Rattle.q3_runs.specs.Verdict.{IsPlayVerdict, IsIndexVerdict, IsSeekVerdict, indexed_text};
+ghost use Rattle.q3_runs.specs.Run.{SeekEndsWithPlayedState, Executes, LeavesFiles, PrintsAll};
 
 use crate::fault::Fault;
 use crate::input::{find_file, load_profile};
@@ -29,9 +29,9 @@ pub fn play<F: Files, O: Sink>(
     files: &mut F,
     out: &mut O,
 ) -> Result<(), Fault>
-    ensures executes { Executes (IsPlayed (F.told files.old) profile.now demo.now) (O.written out.old)
+    ensures executes { Executes (IsPlayVerdict (F.told files.old) profile.now demo.now) (O.written out.old)
         (O.written out.new) result }
-    ensures gives { LeavesFiles (IsPlayed (F.told files.old) profile.now demo.now) (F.told files.old)
+    ensures gives { LeavesFiles (IsPlayVerdict (F.told files.old) profile.now demo.now) (F.told files.old)
         (F.told files.new) result }
     ensures writes { F.write_faults files.new ≡ F.write_faults files.old }
     ensures read_cause { ReadCause (F.faults files.old) (F.faults files.new) result }
@@ -54,9 +54,9 @@ pub fn index<F: Files, O: Sink>(
     out: &mut O,
 ) -> Result<(), Fault>
     requires other { index.now ≢ demo.now }
-    ensures executes { Executes (IsIndexed (F.told files.old) profile.now demo.now index.now) (O.written out.old)
+    ensures executes { Executes (IsIndexVerdict (F.told files.old) profile.now demo.now index.now) (O.written out.old)
         (O.written out.new) result }
-    ensures gives { LeavesFiles (IsIndexed (F.told files.old) profile.now demo.now index.now) (F.told files.old)
+    ensures gives { LeavesFiles (IsIndexVerdict (F.told files.old) profile.now demo.now index.now) (F.told files.old)
         (F.told files.new) result }
     ensures file_cause { FileCause (F.write_faults files.old) (F.write_faults files.new) result }
     ensures read_cause { ReadCause (F.faults files.old) (F.faults files.new) result }
@@ -127,11 +127,11 @@ pub fn seek<F: Files, O: Sink>(
     files: &mut F,
     out: &mut O,
 ) -> Result<(), Fault>
-    ensures executes { Executes (IsSought (F.told files.old) profile.now demo.now index.now records)
+    ensures executes { Executes (IsSeekVerdict (F.told files.old) profile.now demo.now index.now records)
         (O.written out.old) (O.written out.new) result }
-    ensures gives { LeavesFiles (IsSought (F.told files.old) profile.now demo.now index.now records)
+    ensures gives { LeavesFiles (IsSeekVerdict (F.told files.old) profile.now demo.now index.now records)
         (F.told files.old) (F.told files.new) result }
-    ensures sought { EndsAsPlays (F.told files.old) profile.now demo.now index.now records (O.written out.old)
+    ensures sought { SeekEndsWithPlayedState (F.told files.old) profile.now demo.now index.now records (O.written out.old)
         (O.written out.new) result }
     ensures writes { F.write_faults files.new ≡ F.write_faults files.old }
     ensures read_cause { ReadCause (F.faults files.old) (F.faults files.new) result }

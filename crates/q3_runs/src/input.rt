@@ -3,11 +3,11 @@
 ghost use Rattle.std.specs.Prelude.{◌≡◌, ◌⊎◌, ◌+◌, ◌<◌, ◌≤◌, ◌^◌, [], ◌∷◌, All, length, Ok, Err, IfOk, OnOk, MatchResult};
 ghost use Rattle.q3_io.specs.Told.{LooksUp};
 ghost use Rattle.q3_profile.specs.declared.error.ProfileError.TheVariants as errors;
-ghost use Rattle.q3_profile.specs.Profile.{IsProfile, checked};
+ghost use Rattle.q3_profile.specs.Profile.{IsProfile, checked, longest_profile};
 ghost use Rattle.q3_script.specs.Grammar.{IsEventOf, AreOrdered};
 ghost use Rattle.q3_script.specs.Script.{most_events};
 ghost use Rattle.q3_runs.specs.Faults.{ReadCause};
-ghost use Rattle.q3_runs.specs.Input.{ReadsFile, ReadsPieces, Finds, Gives, as_told, with_items};
+ghost use Rattle.q3_runs.specs.Input.{ReadsFile, ReadsPieces, Finds, Gives, as_told, with_items, may_begin_table, document_memory, most_memory};
 ghost use Rattle.q3_runs.specs.Verdict.{GetsFrom, profile_in, events_in, with_events};
 
 use crate::fault::Fault;
@@ -45,6 +45,8 @@ fn parse_profile(alloc: Global, bytes: &[u8]) -> Result<Profile, ProfileError>
     ensures exact { MatchResult result (λ profile. checked bytes.now ≡ Ok profile)
         (λ e. (e ≡ errors.NoMemory) ⊎ (checked bytes.now ≡ Err e)) }
     ensures is_profile { IfOk result IsProfile }
+    ensures large { length bytes.now ≤ longest_profile → most_memory < document_memory bytes.now
+        → result ≡ Err errors.NoMemory }
 {
     if bytes.len() <= LONGEST_PROFILE && memory_of(bytes) > MOST_MEMORY {
         return Err(ProfileError::NoMemory);
@@ -52,18 +54,21 @@ fn parse_profile(alloc: Global, bytes: &[u8]) -> Result<Profile, ProfileError>
     read_profile(alloc, bytes)
 }
 
+/// Whether a byte may begin a table.
+fn may_begin_table(byte: u8) -> bool
+    ensures { result ≡ may_begin_table byte }
+{
+    byte == b'.' || byte == b'[' || byte == b'{'
+}
+
 /// How much memory a document may take: each of these bytes may begin a table, or end a key, or stand in a text or a comment.
-fn memory_of(bytes: &[u8]) -> usize {
-    let mut most: usize = 0;
-    for byte in bytes {
-        let more = match byte {
-            b'.' | b'[' | b'{' => TABLE,
-            b'=' => KEY,
-            _ => 0,
-        };
-        most = most.saturating_add(more);
-    }
-    most
+fn memory_of(bytes: &[u8]) -> usize
+    requires { length bytes.now ≤ longest_profile }
+    ensures { result ≡ document_memory bytes.now }
+{
+    let tables = bytes.iter().filter(|byte| may_begin_table(**byte)).count();
+    let keys = bytes.iter().filter(|byte| **byte == b'=').count();
+    TABLE * tables + KEY * keys
 }
 
 /// Reads the script of this name, of a kind.
@@ -86,7 +91,7 @@ pub fn load_events<F: Files>(
 }
 
 /// The number of the file of this name. `Read` comes where the files' count of faults rose.
-pub fn find_file<F: Files>(name: &str, files: &mut F) -> Result<usize, Fault>
+pub(crate) fn find_file<F: Files>(name: &str, files: &mut F) -> Result<usize, Fault>
     ensures given { IfOk result (λ file. file < F.given files.new) }
     ensures more { OnOk result (F.given files.old ≤ F.given files.new) }
     ensures looks { LooksUp (F.told files.old) (F.told files.new) name.now (as_told result) }
@@ -103,7 +108,7 @@ pub fn find_file<F: Files>(name: &str, files: &mut F) -> Result<usize, Fault>
 
 /// The bytes of the file of this name: all of them, or a front that is longer than the limit.
 /// `Read` comes where the files' count of faults rose, and `NoMemory` is want of memory.
-pub fn read_file<F: Files>(
+pub(crate) fn read_file<F: Files>(
     alloc: Global,
     name: &str,
     most: usize,

@@ -9,5 +9,5 @@ pub mod nodes;
 
 pub use demos::{index, play, seek};
 pub use fault::Fault;
-pub use input::{find_file, load_events, load_profile, read_file};
+pub use input::{load_events, load_profile};
 pub use nodes::{join, serve};

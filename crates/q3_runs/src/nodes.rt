@@ -2,7 +2,7 @@
 
 ghost use Rattle.std.specs.Prelude.{◌≡◌, true, false};
 ghost use Rattle.q3_runs.specs.Faults.{ReadCause, WriteCause, FileCause, WireCause};
-ghost use Rattle.q3_runs.specs.Verdict.{outside, IsServed, IsJoined};
+ghost use Rattle.q3_runs.specs.Verdict.{outside, IsServeVerdict, IsJoinVerdict};
 ghost use Rattle.q3_runs.specs.Run.{left_so, ExecutesWired, LeavesFiles, MayBind};
 
 use crate::fault::Fault;
@@ -25,12 +25,12 @@ pub fn serve<F: Files, W: Wire, C: Clock, O: Sink>(
     out: &mut O,
 ) -> Result<(), Fault>
     requires unbound { W.bound wire.old ≡ false }
-    ensures executes { ExecutesWired (IsServed (outside (F.told files.old) (W.told wire.old) (C.readings clock.old))
+    ensures executes { ExecutesWired (IsServeVerdict (outside (F.told files.old) (W.told wire.old) (C.readings clock.old))
         profile.now script.now at) (outside (F.told files.old) (W.told wire.old) (C.readings clock.old))
         (O.written out.old) (O.written out.new) (left_so (W.told wire.new) (F.told files.new)) result }
-    ensures gives { LeavesFiles (IsServed (outside (F.told files.old) (W.told wire.old) (C.readings clock.old))
+    ensures gives { LeavesFiles (IsServeVerdict (outside (F.told files.old) (W.told wire.old) (C.readings clock.old))
         profile.now script.now at) (F.told files.old) (F.told files.new) result }
-    ensures binds { W.bound wire.new ≡ true → MayBind (IsServed
+    ensures binds { W.bound wire.new ≡ true → MayBind (IsServeVerdict
         (outside (F.told files.old) (W.told wire.old) (C.readings clock.old)) profile.now script.now at) }
     ensures unbound { W.bound wire.new ≡ false → clock.new ≡ clock.old }
     ensures writes { F.write_faults files.new ≡ F.write_faults files.old }
@@ -60,12 +60,12 @@ pub fn join<F: Files, W: Wire, C: Clock, O: Sink>(
     out: &mut O,
 ) -> Result<(), Fault>
     requires unbound { W.bound wire.old ≡ false }
-    ensures executes { ExecutesWired (IsJoined (outside (F.told files.old) (W.told wire.old) (C.readings clock.old))
+    ensures executes { ExecutesWired (IsJoinVerdict (outside (F.told files.old) (W.told wire.old) (C.readings clock.old))
         profile.now script.now at server) (outside (F.told files.old) (W.told wire.old) (C.readings clock.old))
         (O.written out.old) (O.written out.new) (left_so (W.told wire.new) (F.told files.new)) result }
-    ensures gives { LeavesFiles (IsJoined (outside (F.told files.old) (W.told wire.old) (C.readings clock.old))
+    ensures gives { LeavesFiles (IsJoinVerdict (outside (F.told files.old) (W.told wire.old) (C.readings clock.old))
         profile.now script.now at server) (F.told files.old) (F.told files.new) result }
-    ensures binds { W.bound wire.new ≡ true → MayBind (IsJoined
+    ensures binds { W.bound wire.new ≡ true → MayBind (IsJoinVerdict
         (outside (F.told files.old) (W.told wire.old) (C.readings clock.old)) profile.now script.now at server) }
     ensures unbound { W.bound wire.new ≡ false → clock.new ≡ clock.old }
     ensures file_cause { FileCause (F.write_faults files.old) (F.write_faults files.new) result }

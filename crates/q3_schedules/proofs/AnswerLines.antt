@@ -27,8 +27,8 @@ use Rattle.q3_report.specs.declared.answer.TakeRefused.TheVariants as refused
 use Rattle.q3_report.specs.Answers.{Taking, Showing, ShowsNobody, ShowsNothing, ShowsNewest, Answered, Given, Served, SentOut, Took, Untaken, Shown, Bytes}
 use Rattle.q3_report.specs.AnswerLines.{out_of_range_text, baseline_refused_text, type_refused_text, move_refused_text, record_refused_text, stop_refused_text, handed_lines, front_text, untaken_text, taking_text, showing_text, bytes_text, lines_of}
 use Rattle.q3_words.specs.Words.{words_of}
-use Rattle.q3_world.specs.declared.counts.Counts.{Counts}
-use Rattle.q3_world.specs.Counts.{no_counts, one_event, made_served, made_sent, lines_in}
+use Rattle.q3_counts.specs.declared.counts.Counts.{Counts}
+use Rattle.q3_counts.specs.Counts.{no_counts, one_event, made_served, made_sent, lines_in}
 use Rattle.q3_schedules.specs.ReportLines.{is_under, has_datagram, taken_by, names_datagram}
 use Rattle.q3_schedules.proofs.PlainTexts.{lacks, lacks_both, lacks-decimal, number, hexed, indexed}
 use Rattle.q3_schedules.proofs.SpelledLines.{Spelled, in_front, newline, last}

@@ -4,8 +4,8 @@ use Rattle.std.specs.List.{flat_map, sum_by}
 use Rattle.std.proofs.lemmas.List.Sums.{sum_by-cons, sum_by-append}
 use Rattle.q3_report.specs.Answers.{Answered}
 use Rattle.q3_report.specs.AnswerLines.{lines_of}
-use Rattle.q3_world.specs.declared.counts.Counts.{Counts}
-use Rattle.q3_world.specs.Counts.{no_counts, lines_in, more, with_lines, counted, counted_all, counts_of}
+use Rattle.q3_counts.specs.declared.counts.Counts.{Counts}
+use Rattle.q3_counts.specs.Counts.{no_counts, lines_in, more, with_lines, counted, counted_all, counts_of}
 use Rattle.q3_world.specs.World.{opening, answers as answers_of}
 use Rattle.q3_world.specs.Report.{report}
 use Rattle.q3_schedules.specs.ReportLines.{text_lines, Placed, placed, lines_by_kind, counts_in, CountsAreLines, ReplayIsCounted}

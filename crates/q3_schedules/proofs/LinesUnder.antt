@@ -15,8 +15,8 @@ use Rattle.q3_clstate.specs.declared.applied.SnapOutcome.TheVariants.{NoSnap, Ac
 use Rattle.q3_clstate.specs.Report.{cause_text, outcome_text, game_text}
 use Rattle.q3_report.specs.ServerLines.{entered_text, owed_text}
 use Rattle.q3_report.specs.AnswerLines.{ended_text}
-use Rattle.q3_world.specs.declared.counts.Counts.{Counts}
-use Rattle.q3_world.specs.Counts.{no_counts, accepted_in, skipped_in}
+use Rattle.q3_counts.specs.declared.counts.Counts.{Counts}
+use Rattle.q3_counts.specs.Counts.{no_counts, accepted_in, skipped_in}
 use Rattle.q3_schedules.specs.ReportLines.{begins, is_under, has_datagram, taken_by}
 use Rattle.q3_schedules.proofs.PlainTexts.{lacks, lacks_both, number, signed, quote}
 use Rattle.q3_schedules.proofs.SpelledLines.{Spelled, nothing, join, each}

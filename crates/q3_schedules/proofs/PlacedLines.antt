@@ -6,8 +6,8 @@ use Rattle.std.proofs.lemmas.List.{map-append}
 use Rattle.std.proofs.lemmas.List.Sums.{sum_by-cons, sum_by-append}
 use Rattle.std.proofs.lemmas.List.Splits.{slice_split_at, slice_split_none}
 use Rattle.q3_words.specs.Words.{words_of}
-use Rattle.q3_world.specs.declared.counts.Counts.{Counts}
-use Rattle.q3_world.specs.Counts.{no_counts, one_event}
+use Rattle.q3_counts.specs.declared.counts.Counts.{Counts}
+use Rattle.q3_counts.specs.Counts.{no_counts, one_event}
 use Rattle.q3_schedules.specs.ReportLines.{begins, is_under, has_datagram, Placed, placed, is_event, is_datagram, is_accepted, is_skipped, is_server_command, is_client_command, is_move}
 use Rattle.q3_schedules.proofs.PlainTexts.{lacks, without, lacks-decimal}
 

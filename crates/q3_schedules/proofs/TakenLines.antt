@@ -21,8 +21,8 @@ use Rattle.q3_report.specs.ClientLines.{took_text, client_text}
 use Rattle.q3_report.specs.Answers.{Taking, ByClient, ByServer}
 use Rattle.q3_report.specs.AnswerLines.{ended_text, taking_text}
 use Rattle.q3_words.specs.Words.{words_of}
-use Rattle.q3_world.specs.declared.counts.Counts.{Counts}
-use Rattle.q3_world.specs.Counts.{no_counts, one_event, accepted_in, skipped_in, lines_of_client, lines_of_server, lines_of_taking}
+use Rattle.q3_counts.specs.declared.counts.Counts.{Counts}
+use Rattle.q3_counts.specs.Counts.{no_counts, one_event, accepted_in, skipped_in, lines_of_client, lines_of_server, lines_of_taking}
 use Rattle.q3_schedules.specs.ReportLines.{is_under, taken_by}
 use Rattle.q3_schedules.proofs.PlainTexts.{lacks, number}
 use Rattle.q3_schedules.proofs.SpelledLines.{Spelled, in_front, newline, join, last}

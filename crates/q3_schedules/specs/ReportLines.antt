@@ -7,8 +7,8 @@ use Rattle.q3_script.specs.declared.event.Event.{Event}
 use Rattle.q3_words.specs.Words.{words_of}
 use Rattle.q3_report.specs.Answers.{Answered}
 use Rattle.q3_report.specs.AnswerLines.{lines_of}
-use Rattle.q3_world.specs.declared.counts.Counts.{Counts}
-use Rattle.q3_world.specs.Counts.{no_counts, with_lines, counts_of}
+use Rattle.q3_counts.specs.declared.counts.Counts.{Counts}
+use Rattle.q3_counts.specs.Counts.{no_counts, with_lines, counts_of}
 use Rattle.q3_world.specs.World.{opening, answers}
 use Rattle.q3_world.specs.Report.{report}
 

@@ -29,8 +29,8 @@ use Rattle.q3_world.specs.declared.told.StepError.{StepError}
 use Rattle.q3_world.specs.declared.told.StepError.TheVariants.{NoMemory, WriteFault, FileFault}
 use Rattle.q3_world.specs.Ends.{Ends, place_at, recording_at, with_place, client_takes, game_step, hand_server_of, join, joined, line_of, server_takes, set_port_of, step_in, to_client}
 use Rattle.q3_io.specs.Written.{Written}
-use Rattle.q3_world.specs.declared.counts.Counts.{Counts}
-use Rattle.q3_world.specs.Counts.{Counting}
+use Rattle.q3_counts.specs.declared.counts.Counts.{Counts}
+use Rattle.q3_world.specs.Counting.{Counting}
 use Rattle.q3_world.specs.Doing.{EndsDo, LeavesRecordings, Tells}
 use Rattle.q3_world.specs.Ends.{EndsStep}
 use Rattle.q3_world.specs.Files.{AreNumbered, DoesFiles, line_acts, deliver_acts, take_acts}

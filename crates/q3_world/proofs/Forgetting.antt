@@ -1,9 +1,11 @@
 -- Lines do alike, whatever datagrams were forgotten that none of them names.
-use Rattle.std.proofs.Common.{◌≡◌, ◌≢◌, ℕ, ◌+◌, ◌-◌, ◌<◌, ◌≤◌, List, [], ◌∷◌, ◌++◌, length, get_or, set, drop, Option, Some, None, Result, Ok, Err, refl, sym, ap, subst, ◌∙◌, inl, inr, arith}
-use Rattle.std.specs.Prelude.{All, IfSome, slice_get, option_map}
-use Rattle.std.proofs.lemmas.Bool.{cases_eq}
-use Rattle.std.proofs.lemmas.List.{length-append, length-set, length-drop, get_or-drop, get_or-set_same, get_or-set_other, get_or_default}
-use Rattle.std.proofs.lemmas.List.Elements.{All-head, All-tail}
+use Rattle.std.proofs.Common.{◌≡◌, ◌≢◌, ◌⊎◌, ℕ, ◌+◌, ◌-◌, ◌<◌, ◌≤◌, List, [], ◌∷◌, ◌++◌, length, get_or, set, take, drop, drop_of_length-le, append-nil, Option, Some, None, Ok, Err, refl, sym, ap, subst, ◌∙◌, inl, inr, arith}
+use Rattle.std.specs.Prelude.{All, IfSome, SomeIff, slice_get, option_map}
+use Rattle.std.specs.Option.{option_map_or}
+use Rattle.std.proofs.lemmas.Bool.{cases_eq, cases_lt}
+use Rattle.std.proofs.lemmas.List.{length-append, length-set, length-drop, get_or-drop, get_or-set_same, get_or-set_other, get_or_default, take_all}
+use Rattle.std.proofs.lemmas.List.Elements.{All-head, All-tail, All-cons}
+use Rattle.std.proofs.lemmas.Option.{slice_get_past}
 use Rattle.circular_buffer.proofs.Places.{slice_get-push, slice_get-last, slice_get-set_other}
 use Rattle.q3_profile.specs.declared.profile.Profile.{Profile}
 use Rattle.q3_script.specs.declared.event.Event.{Event}
@@ -12,14 +14,15 @@ use Rattle.q3_chan.specs.Sending.{Piece}
 use Rattle.q3_server.specs.Server as serves
 use Rattle.q3_client.specs.Sending.{emit_at}
 use Rattle.q3_ends.specs.Recording.{asking}
-use Rattle.q3_report.specs.Answers.{Answered, Served, SentOut, Bytes}
+use Rattle.q3_report.specs.Answers.{Served, SentOut, Bytes}
 use Rattle.q3_world.specs.declared.made.Direction.{Direction}
 use Rattle.q3_world.specs.declared.made.Direction.TheVariants.{ToClient, ToServer}
 use Rattle.q3_world.specs.declared.places.Place.{Place}
-use Rattle.q3_world.specs.Ends.{Ends, EndsStep, place_at, Line, Hands, Serves, Sends, Delivers, TellsBytes, HandsBytes, line_of}
+use Rattle.q3_world.specs.Ends.{Ends, place_at, Line, Hands, Serves, Sends, Delivers, TellsBytes, HandsBytes, line_of}
 use Rattle.q3_world.specs.Kept.{SentBytes, Kept, datagrams_after, deliver_at, kept_send, kept_line, kept_step}
-use Rattle.q3_world.specs.Files.{acts_of, line_acts, deliver_acts}
-use Rattle.q3_world.specs.Forgetting.{named_by, forget_at, forgotten, with_forgotten, AreAlike, AreSilentOf, noted, TellsLast}
+use Rattle.q3_world.specs.Files.{acts_of, deliver_acts}
+use Rattle.q3_world.specs.Counting.{Counting}
+use Rattle.q3_world.specs.Forgetting.{named_by, forgotten, with_forgotten, AreAlike, AreSilentOf, TellsLast, AreWanted, LetsGo}
 
 -- the same datagram is at a place
 abbrev pub AreSameAt : List SentBytes → List SentBytes → ℕ → Type 0
@@ -177,14 +180,18 @@ alike_itself all kept = record { profile = refl; ends = refl; many = refl; named
 
 -- ---- a datagram is forgotten
 
-forgotten_many : (datagrams : List SentBytes) (at : ℕ) (found : Option SentBytes) → length (forget_at datagrams at found) ≡ length datagrams
+-- the datagrams, where what was found at a place has no bytes any more
+abbrev let_go : List SentBytes → ℕ → Option SentBytes → List SentBytes
+let_go datagrams at found = option_map_or (λ (sent : SentBytes). set datagrams at (record sent { bytes = [] })) found datagrams
+
+forgotten_many : (datagrams : List SentBytes) (at : ℕ) (found : Option SentBytes) → length (let_go datagrams at found) ≡ length datagrams
 forgotten_many datagrams at None = refl
 forgotten_many datagrams at (Some sent) = length-set datagrams at (record sent { bytes = [] })
 
 pub many_stay : (datagrams : List SentBytes) (at : ℕ) → length (forgotten datagrams at) ≡ length datagrams
 many_stay datagrams at = forgotten_many datagrams at (slice_get datagrams at)
 
-other_stays : (datagrams : List SentBytes) (at : ℕ) (found : Option SentBytes) (k : ℕ) → k ≢ at → slice_get (forget_at datagrams at found) k ≡ slice_get datagrams k
+other_stays : (datagrams : List SentBytes) (at : ℕ) (found : Option SentBytes) (k : ℕ) → k ≢ at → slice_get (let_go datagrams at found) k ≡ slice_get datagrams k
 other_stays datagrams at None k not = refl
 other_stays datagrams at (Some sent) k not = slice_get-set_other datagrams at k (record sent { bytes = [] }) not
 
@@ -202,30 +209,41 @@ forgets_alike at all one other silent alike = record {
 
 -- ---- which datagrams later lines name
 
-unnamed : (last : List ℕ) (at done j : ℕ) (named : Option ℕ) → get_or last at 0 ≤ done → at < length last → IfSome named (λ a. a < length last → done + j < get_or last a 0) → named ≢ Some at
-unnamed last at done j None le lt tells = λ e. absurd cc
-unnamed last at done j (Some a) le lt tells = λ e.
-    let is : a ≡ at = cc in
-    let more : at < length last → done + j < get_or last at 0 = subst (λ b. b < length last → done + j < get_or last b 0) is tells in
-    let below = more lt in
-    omega (arith, le, below)
-
-pub silent_of : (last : List ℕ) (all : List Event) (at done : ℕ) → at < length last → get_or last at 0 ≤ done → TellsLast last all → AreSilentOf (drop done all) at
-silent_of last all at done lt le tells = λ j event there.
+-- the last line that names it is among those that are left
+named_after : (last : List ℕ) (all : List Event) (at done : ℕ) (event : Event) → at < length last → done < get_or last at 0 → TellsLast last all → AreSilentOf (drop done all) at → ⊥
+named_after last all at done event lt more tells silent =
+    let told = tells.names at event lt (omega (arith, more)) in
+    let within = told.0 in
     let long = length-drop done all in
-    let within : done + j < length all = omega (arith, long, there) in
-    subst (λ (e : Event). named_by e ≢ Some at) (sym (get_or-drop done all j event))
-    (unnamed last at done j (named_by (get_or all (done + j) event)) le lt (tells (done + j) event within))
+    let there : get_or last at 0 - 1 - done < length (drop done all) = omega (arith, long, within, more) in
+    let place : done + (get_or last at 0 - 1 - done) ≡ get_or last at 0 - 1 = omega (arith, more) in
+    let line = get_or-drop done all (get_or last at 0 - 1 - done) event ∙ ap (λ (j : ℕ). get_or all j event) place in
+    silent (get_or last at 0 - 1 - done) event there (ap (λ (e : Event). named_by e) line ∙ told.1)
+
+pub named_of : (last : List ℕ) (all : List Event) (at done : ℕ) → at < length last → done < get_or last at 0 → TellsLast last all → AreSilentOf (drop done all) at → ⊥
+named_of last [] at done lt more tells silent = let none : length last ≡ 0 = tells.many in omega (arith, lt, none)
+named_of last (event ∷ all) at done lt more tells silent = named_after last (event ∷ all) at done event lt more tells silent
 
 -- the first so many lines
-abbrev pub TellsFirst : List ℕ → List Event → ℕ → Type 0
-TellsFirst last all done = (k : ℕ) (event : Event) → k < done → k < length all → IfSome (named_by (get_or all k event)) (λ at. at < length last → k < get_or last at 0)
+pub record TellsFirst (last : List ℕ) (all : List Event) (done : ℕ) : Type 0 where
+  pub many : length last ≡ length all
+  pub after : (k : ℕ) (event : Event) → k < done → k < length all → IfSome (named_by (get_or all k event)) (λ at. at < length last → k < get_or last at 0)
+  pub names : (at : ℕ) (event : Event) → at < length last → 0 < get_or last at 0
+      → (get_or last at 0 ≤ length all) × (named_by (get_or all (get_or last at 0 - 1) event) ≡ Some at)
+
+-- with one more line, with which so many are done
+abbrev with_line : List ℕ → Option ℕ → ℕ → List ℕ
+with_line last named done = option_map_or (λ (at : ℕ). set last at done) named last
 
 abbrev IsTold : List ℕ → ℕ → Option ℕ → Type 0
 IsTold last k named = IfSome named (λ at. at < length last → k < get_or last at 0)
 
-pub tells_none : (last : List ℕ) (all : List Event) → TellsFirst last all 0
-tells_none last all = λ k event lt there. absurd (omega (arith, lt))
+abbrev IsLastOf : List Event → Event → ℕ → ℕ → Type 0
+IsLastOf all event at many = (many ≤ length all) × (named_by (get_or all (many - 1) event) ≡ Some at)
+
+pub with_line-many : (last : List ℕ) (named : Option ℕ) (done : ℕ) → length (with_line last named done) ≡ length last
+with_line-many last None done = refl
+with_line-many last (Some at) done = length-set last at done
 
 set_told : (last : List ℕ) (at done k a : ℕ) → k < done → (a < length last → k < get_or last a 0) → a < length (set last at done) → k < get_or (set last at done) a 0
 set_told last at done k a lt was within =
@@ -243,33 +261,138 @@ set_told last at done k a lt was within =
           )
     ]
 
-noted_told : (last : List ℕ) (named : Option ℕ) (done k : ℕ) (other : Option ℕ) → k < done → IsTold last k other → IsTold (noted last named done) k other
-noted_told last None done k other lt was = was
-noted_told last (Some at) done k None lt was = tt
-noted_told last (Some at) done k (Some a) lt was = set_told last at done k a lt was
+line_told : (last : List ℕ) (named : Option ℕ) (done k : ℕ) (other : Option ℕ) → k < done → IsTold last k other → IsTold (with_line last named done) k other
+line_told last None done k other lt was = was
+line_told last (Some at) done k None lt was = tt
+line_told last (Some at) done k (Some a) lt was = set_told last at done k a lt was
 
-noted_here : (last : List ℕ) (named : Option ℕ) (done : ℕ) → IsTold (noted last named (done + 1)) done named
-noted_here last None done = tt
-noted_here last (Some at) done = λ within.
+line_here : (last : List ℕ) (named : Option ℕ) (done : ℕ) → IsTold (with_line last named (done + 1)) done named
+line_here last None done = tt
+line_here last (Some at) done = λ within.
     let long = length-set last at (done + 1) in
     let there : at < length last = omega (arith, long, within) in
     let same = get_or-set_same last at (done + 1) 0 there in
     omega (arith, same)
 
-pub tells_more : (last : List ℕ) (all : List Event) (done : ℕ) (event : Event) → event ≡ get_or all done event → done < length all → TellsFirst last all done
-    → TellsFirst (noted last (named_by event) (done + 1)) all (done + 1)
-tells_more last all done event is within tells = λ k e lt there.
-    let now = noted last (named_by event) (done + 1) in
-    elim (cases_eq k done) [
+line_last : (last : List ℕ) (all : List Event) (done : ℕ) (event : Event) (named : Option ℕ) → done < length all → named_by (get_or all done event) ≡ named
+    → ((at : ℕ) → at < length last → 0 < get_or last at 0 → IsLastOf all event at (get_or last at 0))
+    → (at : ℕ) → at < length (with_line last named (done + 1)) → 0 < get_or (with_line last named (done + 1)) at 0
+    → IsLastOf all event at (get_or (with_line last named (done + 1)) at 0)
+line_last last all done event None lt is had at within some = had at within some
+line_last last all done event (Some a) lt is had at within some =
+    let long = length-set last a (done + 1) in
+    let there : at < length last = omega (arith, long, within) in
+    elim (cases_eq at a) [
       | inl here ↦ (
-          let same : get_or all k e ≡ event = ap (λ (j : ℕ). get_or all j e) here ∙ (get_or_default all done e event within ∙ sym is) in
-          subst (λ (x : Event). IsTold now k (named_by x)) (sym same) (subst (λ (j : ℕ). IsTold now j (named_by event)) (sym here) (noted_here last (named_by event) done))
+          let same : get_or (set last a (done + 1)) at 0 ≡ done + 1 =
+          ap (λ (b : ℕ). get_or (set last a (done + 1)) b 0) here ∙ get_or-set_same last a (done + 1) 0 (subst (λ (b : ℕ). b < length last) here there) in
+          let back : done + 1 - 1 ≡ done = omega arith in
+          let within_all : done + 1 ≤ length all = omega (arith, lt) in
+          subst (IsLastOf all event at) (sym same)
+          (within_all, ap (λ (j : ℕ). named_by (get_or all j event)) back ∙ (is ∙ ap (λ n. Some n) (sym here)))
           )
       | inr not ↦ (
-          let before : k < done = omega (arith, lt, not) in
-          noted_told last (named_by event) (done + 1) k (named_by (get_or all k e)) lt (tells k e before there)
+          let same = get_or-set_other last a at (done + 1) 0 not in
+          subst (IsLastOf all event at) (sym same) (had at there (subst (λ (n : ℕ). 0 < n) same some))
           )
     ]
 
-pub tells_all : (last : List ℕ) (all : List Event) (done : ℕ) → length all ≤ done → TellsFirst last all done → TellsLast last all
-tells_all last all done le tells = λ k event lt. tells k event (omega (arith, le, lt)) lt
+pub tells_more : (last : List ℕ) (all : List Event) (done : ℕ) (event : Event) → event ≡ get_or all done event → done < length all → TellsFirst last all done
+    → TellsFirst (option_map_or (λ (at : ℕ). set last at (done + 1)) (named_by event) last) all (done + 1)
+tells_more last all done event is within tells =
+    let now = with_line last (named_by event) (done + 1) in
+    let line : (d : Event) → get_or all done d ≡ event = λ d. get_or_default all done d event within ∙ sym is in
+    record {
+      many = with_line-many last (named_by event) (done + 1) ∙ tells.many;
+      after = λ k e lt there. elim (cases_eq k done) [
+        | inl here ↦ (
+            let same : get_or all k e ≡ event = ap (λ (j : ℕ). get_or all j e) here ∙ line e in
+            subst (λ (x : Event). IsTold now k (named_by x)) (sym same) (subst (λ (j : ℕ). IsTold now j (named_by event)) (sym here) (line_here last (named_by event) done))
+            )
+        | inr not ↦ (
+            let before : k < done = omega (arith, lt, not) in
+            line_told last (named_by event) (done + 1) k (named_by (get_or all k e)) lt (tells.after k e before there)
+            )
+      ];
+      names = λ at d lt some. line_last last all done d (named_by event) within (ap (λ (e : Event). named_by e) (line d)) (λ a. tells.names a d) at lt some;
+    }
+
+-- what a slice of a whole list leaves in it
+pub written_back : (new items : List ℕ) (many : ℕ) → many ≡ length items → length new ≡ length items → take many (new ++ drop (length new) items) ≡ new
+written_back new items many is long =
+    let all : length items ≤ length new = omega (arith, long) in
+    let within : length new ≤ many = omega (arith, is, long) in
+    ap (λ (left : List ℕ). take many (new ++ left)) (drop_of_length-le items all) ∙ (ap (take many) (append-nil new) ∙ take_all many new within)
+
+-- ---- what is let go
+
+abbrev without_bytes : SentBytes → SentBytes
+without_bytes sent = record sent { bytes = [] }
+
+-- a datagram at a place is as it was, or has lost its bytes
+abbrev IsLost : Option SentBytes → Option SentBytes → Type 0
+IsLost old now = (now ≡ old) ⊎ (now ≡ option_map without_bytes old)
+
+abbrev pub IsEmpty : Option SentBytes → Type 0
+IsEmpty found = IfSome found (λ (sent : SentBytes). sent.bytes ≡ [])
+
+lost_is_empty : (old : Option SentBytes) → IsEmpty (option_map without_bytes old)
+lost_is_empty None = tt
+lost_is_empty (Some sent) = refl
+
+empty_stays : (old now : Option SentBytes) → IsLost old now → IsEmpty old → IsEmpty now
+empty_stays old now lost empty = elim lost [
+  | inl same ↦ subst IsEmpty (sym same) empty
+  | inr gone ↦ subst IsEmpty (sym gone) (lost_is_empty old)
+]
+
+-- the datagram at a place is let go, if none of the lines that are left names it
+abbrev pub IsGone : List Event → ℕ → List SentBytes → Option ℕ → Type 0
+IsGone all done datagrams place = IfSome place (λ at. at < length all → AreSilentOf (drop done all) at → IsEmpty (slice_get datagrams at))
+
+gone_at : (all : List Event) (done : ℕ) (datagrams : List SentBytes) (place : Option ℕ) (at : ℕ) → place ≡ Some at → IsGone all done datagrams place → at < length all → AreSilentOf (drop done all) at → IsEmpty (slice_get datagrams at)
+gone_at all done datagrams place at is gone =
+    let here : at < length all → AreSilentOf (drop done all) at → IsEmpty (slice_get datagrams at) = subst (IsGone all done datagrams) is gone in
+    here
+
+is_or_not : (named : Option ℕ) (at : ℕ) → (named ≡ Some at) ⊎ (named ≢ Some at)
+is_or_not None at = inr (λ e. absurd cc)
+is_or_not (Some a) at = elim (cases_eq a at) [
+  | inl is ↦ inl (ap (λ n. Some n) is)
+  | inr not ↦ inr (λ e. let is : a ≡ at = cc in not is)
+]
+
+pub newest_is : (newest : Option ℕ) (many at : ℕ) → SomeIff newest (1 ≤ many) (many - 1) → at + 1 ≡ many → newest ≡ Some at
+newest_is None many at told is = absurd (told (omega (arith, is)))
+newest_is (Some newest) many at told is = let before : many - 1 ≡ at = omega (arith, is) in ap (λ n. Some n) (told.1 ∙ before)
+
+-- after the datagram that a line named, and the newest one, only such have bytes as the lines that are left name
+pub wanted_left : (last : List ℕ) (done : ℕ) (old mid now : Counting) (all : List Event) (event : Event) (newest : Option ℕ)
+    → LetsGo last done old mid → LetsGo last done mid now
+    → IsGone all done mid.kept.datagrams (named_by event) → IsGone all done now.kept.datagrams newest
+    → ((at : ℕ) → at + 1 ≡ length old.kept.datagrams → newest ≡ Some at)
+    → length old.kept.datagrams ≤ length all
+    → ((at : ℕ) → at + 1 < length old.kept.datagrams → AreSilentOf (event ∷ drop done all) at → IsEmpty (slice_get old.kept.datagrams at))
+    → AreWanted (drop done all) now.kept.datagrams
+wanted_left last done old mid now all event newest first second gone newest_gone is_newest within had = λ at silent.
+    let many : length now.kept.datagrams ≡ length old.kept.datagrams = second.many ∙ first.many in
+    elim (cases_lt at (length old.kept.datagrams)) [
+      | inl lt ↦ (
+          let there : at < length all = omega (arith, lt, within) in
+          elim (cases_eq (at + 1) (length old.kept.datagrams)) [
+            | inl here ↦ gone_at all done now.kept.datagrams newest at (is_newest at here) newest_gone there silent
+            | inr before ↦ (
+                let lower : at + 1 < length old.kept.datagrams = omega (arith, lt, before) in
+                empty_stays (slice_get mid.kept.datagrams at) (slice_get now.kept.datagrams at) (second.lost at) (elim (is_or_not (named_by event) at) [
+                  | inl named ↦ gone_at all done mid.kept.datagrams (named_by event) at named gone there silent
+                  | inr other ↦ empty_stays (slice_get old.kept.datagrams at) (slice_get mid.kept.datagrams at) (first.lost at)
+                      (had at lower (All-cons (λ (e : Event). named_by e ≢ Some at) event (drop done all) other silent))
+                ])
+                )
+          ]
+          )
+      | inr past ↦ (
+          let beyond : length now.kept.datagrams ≤ at = omega (arith, many, past) in
+          subst IsEmpty (sym (slice_get_past now.kept.datagrams at beyond)) tt
+          )
+    ]

@@ -9,7 +9,7 @@ use Rattle.q3_world.specs.declared.made.Direction.{Direction}
 use Rattle.q3_world.specs.declared.made.Direction.TheVariants.{ToClient, ToServer}
 use Rattle.q3_world.specs.declared.places.Place.{Place}
 use Rattle.q3_world.specs.Kept.{SentBytes, Kept, KeptStep, datagrams_after, kept_serve, kept_send}
-use Rattle.q3_world.specs.Counts.{Counting}
+use Rattle.q3_world.specs.Counting.{Counting}
 use Rattle.q3_world.specs.Doing.{Tells, Does}
 use Rattle.q3_world.specs.declared.told.StepError.{StepError}
 use Rattle.q3_io.specs.Written.{Written}

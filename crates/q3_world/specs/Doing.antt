@@ -5,13 +5,14 @@ use Rattle.q3_client.specs.Client.{Taken}
 use Rattle.q3_report.specs.declared.answer.Front.{Front}
 use Rattle.q3_report.specs.Answers.{Answered}
 use Rattle.q3_report.specs.AnswerLines.{lines_of}
-use Rattle.q3_world.specs.declared.counts.Counts.{Counts}
+use Rattle.q3_counts.specs.declared.counts.Counts.{Counts}
 use Rattle.q3_world.specs.declared.told.StepError.{StepError}
 use Rattle.q3_world.specs.declared.told.StepError.TheVariants.{NoMemory, FileFault}
 use Rattle.q3_ends.specs.AtClient.{taken_by_client}
 use Rattle.q3_ends.specs.Recording.{note_taken}
 use Rattle.q3_world.specs.declared.places.Place.{Place}
-use Rattle.q3_world.specs.Counts.{Counting, counted}
+use Rattle.q3_world.specs.Counting.{Counting}
+use Rattle.q3_counts.specs.Counts.{counted}
 use Rattle.q3_world.specs.Ends.{Ends, EndsStep, place_at, recording_at}
 use Rattle.q3_world.specs.Kept.{KeptStep}
 use Rattle.q3_world.specs.Outcome.{Prints, HasStepCause}

@@ -1,8 +1,10 @@
 -- What a replay may forget: the bytes of a datagram that no later line names.
-use Rattle.std.specs.Prelude.{◌≡◌, ◌≢◌, ℕ, ◌-◌, ◌<◌, List, [], ◌∷◌, length, get_or, set, All, Option, Some, None, IfSome, slice_get}
+use Rattle.std.specs.Prelude.{◌≡◌, ◌≢◌, ◌⊎◌, ℕ, ◌-◌, ◌<◌, ◌≤◌, List, [], ◌∷◌, length, get_or, set, drop, All, Option, Some, None, IfSome, option_map, slice_get}
+use Rattle.std.specs.Option.{option_map_or}
 use Rattle.q3_script.specs.declared.event.Event.{Event}
 use Rattle.q3_script.specs.declared.event.Event.TheVariants as events
 use Rattle.q3_world.specs.Kept.{Kept, SentBytes, kept_step}
+use Rattle.q3_world.specs.Counting.{Counting}
 use Rattle.q3_world.specs.Files.{acts_of}
 
 -- the place, from 0 on, of the datagram that a line names, if it names one
@@ -12,12 +14,8 @@ named_by (events.Bytes number) = Some (number - 1)
 named_by other = None
 
 -- the datagrams, where that at a place has no bytes any more
-abbrev pub forget_at : List SentBytes → ℕ → Option SentBytes → List SentBytes
-forget_at datagrams at None = datagrams
-forget_at datagrams at (Some sent) = set datagrams at (record sent { bytes = [] })
-
 abbrev pub forgotten : List SentBytes → ℕ → List SentBytes
-forgotten datagrams at = forget_at datagrams at (slice_get datagrams at)
+forgotten datagrams at = option_map_or (λ (sent : SentBytes). set datagrams at (record sent { bytes = [] })) (slice_get datagrams at) datagrams
 
 abbrev pub with_forgotten : Kept → ℕ → Kept
 with_forgotten kept at = record kept { datagrams = forgotten kept.datagrams at }
@@ -45,11 +43,23 @@ pub record ForgettingIsAlike : Type 0 where
 
 -- ---- which datagrams later lines name
 
--- for each datagram how many lines there are up to the last that names it: one more line of which so many are done
-abbrev pub noted : List ℕ → Option ℕ → ℕ → List ℕ
-noted last None done = last
-noted last (Some at) done = set last at done
+-- for each datagram that a script may make, how many of its lines there are up to the last that names it, 0 where none does
+pub record TellsLast (last : List ℕ) (all : List Event) : Type 0 where
+  pub many : length last ≡ length all
+  pub after : (k : ℕ) (event : Event) → k < length all → IfSome (named_by (get_or all k event)) (λ at. at < length last → k < get_or last at 0)
+  pub names : (at : ℕ) (event : Event) → at < length last → 0 < get_or last at 0
+      → (get_or last at 0 ≤ length all) × (named_by (get_or all (get_or last at 0 - 1) event) ≡ Some at)
 
--- a line that names a datagram isn't after the last that names it
-abbrev pub TellsLast : List ℕ → List Event → Type 0
-TellsLast last all = (k : ℕ) (event : Event) → k < length all → IfSome (named_by (get_or all k event)) (λ at. at < length last → k < get_or last at 0)
+-- ---- what is let go
+
+-- only datagrams that one of these lines names have bytes
+abbrev pub AreWanted : List Event → List SentBytes → Type 0
+AreWanted all datagrams = (at : ℕ) → AreSilentOf all at → IfSome (slice_get datagrams at) (λ sent. sent.bytes ≡ [])
+
+-- what is let go after so many lines: datagrams lose their bytes, and nothing else is another
+pub record LetsGo (last : List ℕ) (done : ℕ) (old now : Counting) : Type 0 where
+  pub alike : (all : List Event) (other : Kept) → TellsLast last all → AreAlike (drop done all) old.kept other → AreAlike (drop done all) now.kept other
+  pub many : length now.kept.datagrams ≡ length old.kept.datagrams
+  pub lost : (at : ℕ) → (slice_get now.kept.datagrams at ≡ slice_get old.kept.datagrams at)
+      ⊎ (slice_get now.kept.datagrams at ≡ option_map (λ (sent : SentBytes). record sent { bytes = [] }) (slice_get old.kept.datagrams at))
+  pub others : now ≡ record old { kept = record old.kept { datagrams = now.kept.datagrams } }

@@ -1,7 +1,7 @@
 pub mod Layers
 pub mod Apart
 pub mod Ends
-pub mod Counts
+pub mod Counting
 pub mod Kept
 pub mod Files
 pub mod Moves

@@ -10,7 +10,6 @@ ghost use Rattle.q3_ends.specs.AtServer.{server_line};
 ghost use Rattle.q3_ends.specs.Recording.{new_recording, HasFile};
 ghost use Rattle.q3_world.specs.Ends.{recording_at};
 
-use crate::counts::Counts;
 use crate::made::{Direction, Made, keep};
 use crate::places::{Place, no_places, put_place};
 use crate::told::{StepError, tell};
@@ -18,6 +17,7 @@ use q3_bits::NoMemory;
 use q3_chan::{DATAGRAM_ROOM, Datagram};
 use q3_clmsg::Move;
 use q3_clstate::Log;
+use q3_counts::Counts;
 use q3_ends::client::show;
 use q3_ends::recording::Recording;
 use q3_ends::server::{server_line, server_takes};

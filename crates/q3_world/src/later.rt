@@ -1,8 +1,9 @@
 //! Which datagrams the lines name that a replay hasn't done yet.
 
-ghost use Rattle.std.specs.Prelude.{◌≡◌, ◌<◌, ◌^◌, List, drop, length, set, true, IfOk};
+ghost use Rattle.std.specs.Prelude.{◌≡◌, ◌<◌, ◌^◌, ℕ, List, drop, length, set, true, false, IfOk};
+ghost use Rattle.std.specs.Option.{option_map_or};
 ghost use Rattle.q3_script.specs.declared.event.Event.{Event as EventValue};
-ghost use Rattle.q3_world.specs.Forgetting.{named_by, noted, TellsLast, AreSilentOf};
+ghost use Rattle.q3_world.specs.Forgetting.{named_by, TellsLast, AreSilentOf};
 
 use q3_bits::NoMemory;
 use q3_script::Event;
@@ -40,7 +41,10 @@ impl Later {
 
     /// Whether no line after the first so many names the datagram at a place, as far as that is known.
     pub(crate) fn is_silent(&self, at: usize, done: usize) -> bool
-        ensures { result ≡ true → (all : List EventValue) → TellsLast self.now all → AreSilentOf (drop done all) at }
+        ensures silent { result ≡ true → (all : List EventValue) → TellsLast self.now all
+            → AreSilentOf (drop done all) at }
+        ensures named { result ≡ false → (all : List EventValue) → TellsLast self.now all → at < length all
+            → AreSilentOf (drop done all) at → ⊥ }
     {
         match self.last.get(at) {
             Some(last) => *last as usize <= done,
@@ -49,9 +53,9 @@ impl Later {
     }
 }
 
-/// Notes which datagram a line names, after which so many lines are done.
+/// Notes which datagram a line names, with which so many lines are done.
 fn note(last: &mut [u32], event: &Event, done: u32)
-    ensures { last.new ≡ noted last.old (named_by event.now) done }
+    ensures { last.new ≡ option_map_or (λ (at : ℕ). set last.old at done) (named_by event.now) last.old }
 {
     if let Some(at) = named(event) {
         put(last, at, done);

@@ -1,7 +1,6 @@
 //! Both ends over a schedule, and what they print.
 #![tactic(auto)]
 
-pub mod counts;
 mod ends;
 pub mod later;
 pub mod laws;
@@ -10,7 +9,6 @@ mod places;
 pub mod told;
 pub mod world;
 
-pub use counts::Counts;
 pub use later::Later;
 pub use told::StepError;
 pub use world::World;

@@ -5,13 +5,13 @@ ghost use Rattle.q3_chan.specs.Sending.{HandsOut};
 ghost use Rattle.q3_client.specs.Sending.{emit_at};
 ghost use Rattle.q3_server.specs.Server.{places};
 
-use crate::counts::Counts;
 use crate::told::{StepError, tell};
 use q3_bits::NoMemory;
 use q3_chan::Datagram;
 use q3_client::{Client, Sent};
 use q3_clmsg::Move;
 use q3_clstate::Log;
+use q3_counts::Counts;
 use q3_ends::client::{add_move, type_text};
 use q3_ends::recording::{Recording, begin, emit, stop, take};
 use q3_io::{Address, Failed, Files, Sink};

@@ -3,7 +3,7 @@
 ghost use Rattle.q3_report.specs.Tellings.{answered_of};
 ghost use Rattle.q3_world.specs.Doing.{Tells};
 
-use crate::counts::{Counts, lines_in};
+use q3_counts::{Counts, lines_in};
 use q3_io::{Failed, Sink};
 use q3_report::{Answer, print_answer};
 

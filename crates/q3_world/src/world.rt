@@ -1,6 +1,6 @@
 //! Both ends over a schedule of events: the world of a replay.
 
-ghost use Rattle.std.specs.Prelude.{◌≡◌, ◌+◌, ◌-◌, ◌<◌, ◌≤◌, ℕ, List, Option, drop, length, slice_get, option_map, IfOk, IfSome, IsSome, OnOk, IsErrOf};
+ghost use Rattle.std.specs.Prelude.{◌≡◌, ◌+◌, ◌-◌, ◌<◌, ◌≤◌, ℕ, List, [], ◌∷◌, Option, drop, length, slice_get, option_map, IfOk, IfSome, IsSome, OnOk, IsErrOf};
 ghost use Rattle.q3_profile.specs.declared.profile.Profile.{Profile as ProfileValue};
 ghost use Rattle.q3_profile.specs.Profile.{IsProfile, IsCodec};
 ghost use Rattle.q3_script.specs.Grammar.{IsReplayEvent};
@@ -8,16 +8,15 @@ ghost use Rattle.q3_io.specs.Written.{NothingWaits};
 ghost use Rattle.q3_server.specs.Server.{places, emit_at};
 ghost use Rattle.q3_report.specs.AnswerLines.{lines_of};
 ghost use Rattle.q3_report.specs.Answers.{Bytes};
-ghost use Rattle.q3_world.specs.Counts.{no_counts, counted};
-ghost use Rattle.q3_world.specs.Forgetting.{AreAlike, TellsLast};
+ghost use Rattle.q3_counts.specs.Counts.{no_counts, counted};
+ghost use Rattle.q3_world.specs.Forgetting.{TellsLast, AreSilentOf, AreWanted, LetsGo};
 ghost use Rattle.q3_script.specs.declared.event.Event.{Event as EventValue};
 ghost use Rattle.q3_world.specs.Ends.{place_at, step_in, line_of};
-ghost use Rattle.q3_world.specs.Kept.{Kept as KeptValue, most_datagrams, opening_kept, deliver_at, kept_bytes, kept_ends, kept_serve, kept_send, kept_step};
+ghost use Rattle.q3_world.specs.Kept.{most_datagrams, opening_kept, deliver_at, kept_bytes, kept_ends, kept_serve, kept_send, kept_step};
 ghost use Rattle.q3_world.specs.World.{Whole, opening, step as step_of};
 ghost use Rattle.q3_world.specs.StandsFor.{StandsFor};
 ghost use Rattle.q3_world.specs.Outcome.{TakesMemory, Prints, HasStepCause};
 
-use crate::counts::Counts;
 use crate::ends::Ends;
 use crate::later::{Later, named};
 use crate::laws;
@@ -25,6 +24,7 @@ use crate::made::{Made, forget_at, room_for_one};
 use crate::told::{StepError, tell};
 use q3_bits::NoMemory;
 use q3_clstate::Log;
+use q3_counts::Counts;
 use q3_io::{Failed, Files, Sink};
 use q3_profile::Profile;
 use q3_report::Answer;
@@ -57,7 +57,7 @@ pub struct World {
 
 impl Model for World {
     ghost use Rattle.q3_profile.specs.Profile.{IsProfile};
-    ghost use Rattle.q3_world.specs.Counts.{Counting};
+    ghost use Rattle.q3_world.specs.Counting.{Counting};
 
     ghost Value = { Counting };
 
@@ -312,41 +312,28 @@ impl World {
     /// After a line of a script, with which so many of its lines are done: the datagram that it named, and the newest one, are let go, each if
     /// none of the others names it. Those do then as they would have done.
     pub fn forget_unnamed(&mut self, later: &Later, event: &Event, done: usize)
-        ensures alike { (all : List EventValue) (other : KeptValue) → TellsLast later.now all
-            → AreAlike (drop done all) self.old.kept other → AreAlike (drop done all) self.new.kept other }
-        ensures many { length self.new.kept.datagrams ≡ length self.old.kept.datagrams }
-        ensures others { self.new ≡ record self.old
-            { kept = record self.old.kept { datagrams = self.new.kept.datagrams } } }
+        ensures lets_go { LetsGo later.now done self.old self.new }
+        ensures wanted { (all : List EventValue) → TellsLast later.now all
+            → length self.old.kept.datagrams ≤ length all
+            → ((at : ℕ) → at + 1 < length self.old.kept.datagrams → AreSilentOf (event.now ∷ drop done all) at
+            → IfSome (slice_get self.old.kept.datagrams at) (λ sent. sent.bytes ≡ []))
+            → AreWanted (drop done all) self.new.kept.datagrams }
     {
-        self.forget_named(later, event, done);
-        let made = self.datagrams.len();
-        if made > 0 {
-            self.forget(later, made - 1, done);
-        }
+        self.forget(later, named(event), done);
+        let newest = self.datagrams.len().checked_sub(1);
+        self.forget(later, newest, done);
     }
 
-    /// The same of the datagram that a line named alone.
-    fn forget_named(&mut self, later: &Later, event: &Event, done: usize)
-        ensures alike { (all : List EventValue) (other : KeptValue) → TellsLast later.now all
-            → AreAlike (drop done all) self.old.kept other → AreAlike (drop done all) self.new.kept other }
-        ensures many { length self.new.kept.datagrams ≡ length self.old.kept.datagrams }
-        ensures others { self.new ≡ record self.old
-            { kept = record self.old.kept { datagrams = self.new.kept.datagrams } } }
+    /// The bytes of the datagram at a place, if one is told, are let go, if no line after so many names it.
+    fn forget(&mut self, later: &Later, at: Option<usize>, done: usize)
+        ensures lets_go { LetsGo later.now done self.old self.new }
+        ensures gone { (all : List EventValue) → TellsLast later.now all
+            → IfSome at (λ at. at < length all → AreSilentOf (drop done all) at
+            → IfSome (slice_get self.new.kept.datagrams at) (λ sent. sent.bytes ≡ [])) }
     {
-        if let Some(at) = named(event) {
-            self.forget(later, at, done);
-        }
-    }
-
-    /// The bytes of the datagram at a place are let go, if no line after so many names it.
-    fn forget(&mut self, later: &Later, at: usize, done: usize)
-        ensures alike { (all : List EventValue) (other : KeptValue) → TellsLast later.now all
-            → AreAlike (drop done all) self.old.kept other → AreAlike (drop done all) self.new.kept other }
-        ensures many { length self.new.kept.datagrams ≡ length self.old.kept.datagrams }
-        ensures others { self.new ≡ record self.old
-            { kept = record self.old.kept { datagrams = self.new.kept.datagrams } } }
-    {
-        laws::forgetting_is_alike();
+        let Some(at) = at else {
+            return;
+        };
         if later.is_silent(at, done) {
             forget_at(&mut self.datagrams, at);
         }

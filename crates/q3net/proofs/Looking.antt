@@ -16,10 +16,10 @@ use Rattle.q3_command.specs.Command.{Command, Help, Version, Replay, Make, Trial
 use Rattle.q3_runs.specs.Faults.{IsOutside, IsEarly}
 use Rattle.q3_runs.specs.Input.{looked_up, created, LeavesFirst, LooksUpFirst, Gives}
 use Rattle.q3_runs.specs.Lines.{fault_status, ending_status}
-use Rattle.q3_runs.specs.Verdict.{Stops, Verdict, Outside, stops_nowhere, takes_memory, reads_first, all_first, settled, names_by, noded, client_turns, played, demo_played, IsIndexedBy, IsSoughtBy, profile_in, events_in}
+use Rattle.q3_runs.specs.Verdict.{Stops, Verdict, Outside, stops_nowhere, takes_memory, reads_first, all_first, settled, names_by, node_verdict, client_turns, played, demo_played, IsIndexVerdictBy, IsSeekVerdictBy, profile_in, events_in}
 use Rattle.q3_runs.specs.Run.{LeavesFiles}
 use Rattle.q3net.specs.Lines.{help_text, version_text}
-use Rattle.q3net.specs.Verdict.{IsVerdict, Schedule, replay_done, tried, IsTried}
+use Rattle.q3net.specs.Verdict.{IsVerdict, Schedule, replay_done, tried, IsTrialVerdict}
 use Rattle.q3net.specs.Run.{HasLeft, Touched}
 use Rattle.q3_runs.proofs.Acting.{first_more}
 use Rattle.q3_runs.proofs.Loading.{held}
@@ -49,7 +49,7 @@ settled_named told now command stops names (Err cause) so first = subst (λ (z :
 
 -- a node's names are those of its command where it has turns
 turns_named : (told now : Option Told) (command : Option Command) (profile script : List ℕ) (at : Address) (answer : Result (List Turn) Fault) → files_of command ≡ profile ∷ script ∷ []
-    → IsNamed told now command (noded (profile ∷ script ∷ []) at answer)
+    → IsNamed told now command (node_verdict (profile ∷ script ∷ []) at answer)
 unfolding created
 turns_named told now command profile script at (Ok turns) is first =
     subst (λ (names : List (List ℕ)). LeavesFirst told now (map looked_up names ++ created (acts_of turns)) (acts_of turns)) (sym is) first
@@ -58,7 +58,7 @@ turns_named told now command profile script at (Err cause) is first =
     (subst (λ (names : List (List ℕ)). LooksUpFirst told now names) (sym is) first)
 
 noded_named : (told now : Option Told) (command : Option Command) (profile script : List ℕ) (at : Address) (says : Result Profile Fault) (then : Profile → Result (List Turn) Fault)
-    → files_of command ≡ profile ∷ script ∷ [] → IsNamed told now command (noded (names_by says profile script) at (says >>= then))
+    → files_of command ≡ profile ∷ script ∷ [] → IsNamed told now command (node_verdict (names_by says profile script) at (says >>= then))
 unfolding created
 noded_named told now command profile script at (Ok by) then is first = turns_named told now command profile script at (then by) is first
 noded_named told now command profile script at (Err cause) then is first =
@@ -87,14 +87,14 @@ replay_named told now profile script (Ok by) then first = done_named told now pr
 replay_named told now profile script (Err cause) then first = names_more (Err cause) profile script told now first
 
 -- of an index, and of a seek in it, by what the profile's file says
-indexed_named : (told now : Option Told) (profile demo index : List ℕ) (says : Result Profile Fault) (verdict : Verdict) → IsIndexedBy told says profile demo index verdict
+indexed_named : (told now : Option Told) (profile demo index : List ℕ) (says : Result Profile Fault) (verdict : Verdict) → IsIndexVerdictBy told says profile demo index verdict
     → IsNamed told now (Some (Index profile demo index)) verdict
 indexed_named told now profile demo index (Ok by) verdict is = subst (IsNamed told now (Some (Index profile demo index))) (sym is.2) (λ first. first)
 indexed_named told now profile demo index (Err cause) verdict is =
     subst (IsNamed told now (Some (Index profile demo index))) (sym is)
     (settled_named told now (Some (Index profile demo index)) reads_first (profile ∷ []) (Err cause) (λ first. first_more told now (looked_up profile ∷ []) (looked_up demo ∷ []) [] [] first))
 
-sought_named : (told now : Option Told) (profile demo index : List ℕ) (number : ℕ) (says : Result Profile Fault) (verdict : Verdict) → IsSoughtBy told says profile demo index number verdict
+sought_named : (told now : Option Told) (profile demo index : List ℕ) (number : ℕ) (says : Result Profile Fault) (verdict : Verdict) → IsSeekVerdictBy told says profile demo index number verdict
     → IsNamed told now (Some (Seek profile demo index number)) verdict
 sought_named told now profile demo index number (Ok by) verdict is =
     subst (IsNamed told now (Some (Seek profile demo index number))) (sym is.2)
@@ -173,7 +173,7 @@ text_given command told stops text ended is = (settled stops [] (Ok text), is, i
 
 -- a profile was looked up, and nothing else
 pub trial_given : {A : Type 0} (told now : Option Told) (profile : List ℕ) (draws : Draws) (ended : Result (Unit {0}) Fault) (got : Result A Fault)
-    → (Gives got (profile ∷ []) told now → Gives ended (profile ∷ []) told now) → Gives got (profile ∷ []) told now → LeavesFiles (IsTried told profile draws) told now ended
+    → (Gives got (profile ∷ []) told now → Gives ended (profile ∷ []) told now) → Gives got (profile ∷ []) told now → LeavesFiles (IsTrialVerdict told profile draws) told now ended
 trial_given told now profile draws ended got so gives =
     let file = held told profile in (
       settled reads_first (profile ∷ []) (tried file.0 draws),
@@ -183,10 +183,10 @@ trial_given told now profile draws ended got so gives =
 
 -- none passed
 pub trial_gives : (told now : Option Told) (profile : List ℕ) (draws : Draws) (e : Fault) → Gives {A = Unit {0}} (Err e) (profile ∷ []) told now
-    → LeavesFiles (IsTried told profile draws) told now (Err e)
+    → LeavesFiles (IsTrialVerdict told profile draws) told now (Err e)
 trial_gives told now profile draws e gives = trial_given {A = Unit {0}} told now profile draws (Err e) (Err e) (λ all. all) gives
 
 -- one did
 pub trial_gave : {A : Type 0} (told now : Option Told) (profile : List ℕ) (draws : Draws) (by : A) (ended : Result (Unit {0}) Fault) → Gives (Ok by) (profile ∷ []) told now
-    → LeavesFiles (IsTried told profile draws) told now ended
+    → LeavesFiles (IsTrialVerdict told profile draws) told now ended
 trial_gave told now profile draws by ended gives = trial_given told now profile draws ended (Ok by) (λ all. inl (gave by (profile ∷ []) told now all)) gives

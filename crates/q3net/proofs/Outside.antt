@@ -33,7 +33,7 @@ use Rattle.q3_runs.specs.declared.fault.Fault.TheVariants as faults
 use Rattle.q3_command.specs.Command.{Command, Help, Version, Replay, Make, Trial, Serve, Join, Play, Index, Seek}
 use Rattle.q3_runs.specs.Faults.{demo_fault, build_fault, index_fault, seek_fault, ReadCause, WriteCause, FileCause, WireCause}
 use Rattle.q3_runs.specs.Lines.{fault_status, ending_status}
-use Rattle.q3_runs.specs.Verdict.{Stops, Verdict, Outside, stops_nowhere, takes_memory, reads_first, all_first, settled, profile_in, events_in, names_by, ending_of, noded, served, client_turns, joined, played, demo_played, Indexing, demo_indexed, IsIndexedBy, sought, sought_in, IsSeekFault, Sought, IsSoughtBy}
+use Rattle.q3_runs.specs.Verdict.{Stops, Verdict, Outside, stops_nowhere, takes_memory, reads_first, all_first, settled, profile_in, events_in, names_by, ending_of, node_verdict, served, client_turns, joined, played, demo_played, Indexing, demo_indexed, IsIndexVerdictBy, seek_text, seek_played, IsSeekFault, AnswersSeek, IsSeekVerdictBy}
 use Rattle.q3_runs.specs.Run.{Left, left_so, Comes, ComesAfter, place_of, Executes, WiredBy, HandedOn, FailsBy, ExecutesWired}
 use Rattle.q3net.specs.Lines.{help_text, version_text}
 use Rattle.q3net.specs.Verdict.{IsVerdict, Schedule, replayed, replay_done, summary, tried}
@@ -80,11 +80,11 @@ ended_of_input : (ended : Bool) → OfInput (ending_of ended)
 ended_of_input true = tt
 ended_of_input false = tt
 
-noded_of_input : (names : List (List ℕ)) (at : Address) (answer : Result (List Turn) Fault) → OfInput answer → OfInput (noded names at answer).ending
+noded_of_input : (names : List (List ℕ)) (at : Address) (answer : Result (List Turn) Fault) → OfInput answer → OfInput (node_verdict names at answer).ending
 noded_of_input names at (Ok turns) so = ended_of_input (did_end turns)
 noded_of_input names at (Err e) so = so
 
-node_of_input : (verdict : Verdict) (names : List (List ℕ)) (at : Address) (answer : Result (List Turn) Fault) → verdict ≡ noded names at answer → OfInput answer → OfInput verdict.ending
+node_of_input : (verdict : Verdict) (names : List (List ℕ)) (at : Address) (answer : Result (List Turn) Fault) → verdict ≡ node_verdict names at answer → OfInput answer → OfInput verdict.ending
 node_of_input verdict names at answer is so = subst (λ (v : Verdict). OfInput v.ending) (sym is) (noded_of_input names at answer so)
 
 -- and of a demo
@@ -134,28 +134,28 @@ file_of_input : (file : Option (List ℕ)) → OfInput (ok_or file faults.Read)
 file_of_input None = tt
 file_of_input (Some bytes) = tt
 
-sought_in_of_input : (by : ProfileValue) (demo index : List ℕ) (number : ℕ) → OfInput (sought_in by demo index number)
+sought_in_of_input : (by : ProfileValue) (demo index : List ℕ) (number : ℕ) → OfInput (seek_played by demo index number)
 sought_in_of_input by demo index number =
     bind_of_input (result_map_both (λ heads. heads) index_fault (open_at (length demo) by.mark by.entity.number_bits index))
     (λ heads. result_map_both (λ played. played) seek_fault (seek_at by demo index heads.records heads.checkpoints number)) (heads_of_input (open_at (length demo) by.mark by.entity.number_bits index))
     (λ heads. found_of_input (seek_at by demo index heads.records heads.checkpoints number))
 
-told_of_input : (by : ProfileValue) (demo index : Option (List ℕ)) (number : ℕ) → OfInput (sought by demo index number)
+told_of_input : (by : ProfileValue) (demo index : Option (List ℕ)) (number : ℕ) → OfInput (seek_text by demo index number)
 told_of_input by demo index number =
-    bind_of_input (ok_or demo faults.Read) (λ bytes. ok_or index faults.Read >>= λ index_bytes. sought_in by bytes index_bytes number >>= λ played. Ok (state_text played.state number)) (file_of_input demo)
-    (λ bytes. bind_of_input (ok_or index faults.Read) (λ index_bytes. sought_in by bytes index_bytes number >>= λ played. Ok (state_text played.state number)) (file_of_input index)
-    (λ index_bytes. bind_of_input (sought_in by bytes index_bytes number) (λ played. Ok (state_text played.state number)) (sought_in_of_input by bytes index_bytes number) (λ played. tt)))
+    bind_of_input (ok_or demo faults.Read) (λ bytes. ok_or index faults.Read >>= λ index_bytes. seek_played by bytes index_bytes number >>= λ played. Ok (state_text played.state number)) (file_of_input demo)
+    (λ bytes. bind_of_input (ok_or index faults.Read) (λ index_bytes. seek_played by bytes index_bytes number >>= λ played. Ok (state_text played.state number)) (file_of_input index)
+    (λ index_bytes. bind_of_input (seek_played by bytes index_bytes number) (λ played. Ok (state_text played.state number)) (sought_in_of_input by bytes index_bytes number) (λ played. tt)))
 
 untold_of_input : (answer : Result (List ℕ) Fault) → IfErr answer IsSeekFault → OfInput answer
 untold_of_input (Ok text) is = tt
 untold_of_input (Err e) is = elim is [ inl opens ↦ subst OfFault (sym opens.1) (index_of_fault opens.0) | inr finds ↦ subst OfFault (sym finds.1) (seek_of_fault finds.0) ]
 
-sought_of_input : (told : Option Told) (by : ProfileValue) (demo index : List ℕ) (number : ℕ) (answer : Result (List ℕ) Fault) → Sought told by demo index number answer → OfInput answer
+sought_of_input : (told : Option Told) (by : ProfileValue) (demo index : List ℕ) (number : ℕ) (answer : Result (List ℕ) Fault) → AnswersSeek told by demo index number answer → OfInput answer
 sought_of_input None by demo index number answer is = untold_of_input answer is
 sought_of_input (Some told) by demo index number answer is = subst OfInput (sym is) (told_of_input by (contents_of told.files demo) (contents_of told.files index) number)
 
 seek_of_input : (told : Option Told) (says : Result ProfileValue Fault) (profile demo index : List ℕ) (number : ℕ) (verdict : Verdict) → OfInput says
-    → IsSoughtBy told says profile demo index number verdict → OfInput verdict.ending
+    → IsSeekVerdictBy told says profile demo index number verdict → OfInput verdict.ending
 seek_of_input told (Ok by) profile demo index number verdict so is =
     ending_of_input verdict all_first (profile ∷ demo ∷ index ∷ []) is.0 is.2 (sought_of_input told by demo index number is.0 is.1)
 seek_of_input told (Err cause) profile demo index number verdict so is = subst (λ (v : Verdict). OfInput v.ending) (sym is) so
@@ -217,7 +217,7 @@ indexed_of_input : (names : List (List ℕ)) (index : List ℕ) (answer : Result
 indexed_of_input names index (Ok made) = tt
 indexed_of_input names index (Err e) = build_of_fault e
 
-index_of_input : (told : Option Told) (says : Result ProfileValue Fault) (profile demo index : List ℕ) (verdict : Verdict) → OfInput says → IsIndexedBy told says profile demo index verdict
+index_of_input : (told : Option Told) (says : Result ProfileValue Fault) (profile demo index : List ℕ) (verdict : Verdict) → OfInput says → IsIndexVerdictBy told says profile demo index verdict
     → OfBuilt verdict.ending
 index_of_input told (Ok by) profile demo index verdict so is = subst (λ (v : Verdict). OfBuilt v.ending) (sym is.2) (indexed_of_input (profile ∷ demo ∷ []) index is.0)
 index_of_input told (Err cause) profile demo index verdict so is = subst (λ (v : Verdict). OfBuilt v.ending) (sym is) (weaker cause so)
@@ -323,7 +323,7 @@ index_wire : (names : List (List ℕ)) (index : List ℕ) (answer : Result Index
 index_wire names index (Ok made) comes = comes
 index_wire names index (Err e) comes = comes
 
-by_index_wire : (told : Option Told) (says : Result ProfileValue Fault) (profile demo index : List ℕ) (verdict : Verdict) → IsIndexedBy told says profile demo index verdict → Comes verdict.stops.wire → ⊥
+by_index_wire : (told : Option Told) (says : Result ProfileValue Fault) (profile demo index : List ℕ) (verdict : Verdict) → IsIndexVerdictBy told says profile demo index verdict → Comes verdict.stops.wire → ⊥
 by_index_wire told (Ok by) profile demo index verdict is comes = index_wire (profile ∷ demo ∷ []) index is.0 (subst (λ (v : Verdict). Comes v.stops.wire) is.2 comes)
 by_index_wire told (Err cause) profile demo index verdict is comes = subst (λ (v : Verdict). Comes v.stops.wire) is comes
 
@@ -332,7 +332,7 @@ index_wires_nothing told profile demo index verdict is =
     (never_built told (Index profile demo index) verdict faults.Wire is (λ none. none), by_index_wire told.files (profile_in is.0) profile demo index verdict is.2)
 
 -- and sought in
-seek_stops : (told : Option Told) (says : Result ProfileValue Fault) (profile demo index : List ℕ) (number : ℕ) (verdict : Verdict) → IsSoughtBy told says profile demo index number verdict
+seek_stops : (told : Option Told) (says : Result ProfileValue Fault) (profile demo index : List ℕ) (number : ℕ) (verdict : Verdict) → IsSeekVerdictBy told says profile demo index number verdict
     → (Comes verdict.stops.wire → ⊥) × (Comes verdict.stops.writes → ⊥)
 seek_stops told (Ok by) profile demo index number verdict is =
     (no_wire verdict all_first (profile ∷ demo ∷ index ∷ []) is.0 is.2 (λ none. none), no_writes verdict all_first (profile ∷ demo ∷ index ∷ []) is.0 is.2 (λ none. none))
@@ -384,7 +384,7 @@ make_reads_nothing told draws verdict is = (
 usage_alone : (ending : Result (Unit {0}) Fault) → ending ≡ Err faults.Usage → ending ≡ Err faults.FileWrite → ⊥
 usage_alone ending usage ends = cc
 
-index_may_fail : (told : Option Told) (says : Result ProfileValue Fault) (profile demo index : List ℕ) (verdict : Verdict) → OfInput says → IsIndexedBy told says profile demo index verdict
+index_may_fail : (told : Option Told) (says : Result ProfileValue Fault) (profile demo index : List ℕ) (verdict : Verdict) → OfInput says → IsIndexVerdictBy told says profile demo index verdict
     → verdict.ending ≡ Err faults.FileWrite → Comes verdict.stops.writes
 index_may_fail told (Ok by) profile demo index verdict so is ends = subst (λ (v : Verdict). Comes v.stops.writes) (sym is.2) (indexed_writes (profile ∷ demo ∷ []) index is.0)
 index_may_fail told (Err cause) profile demo index verdict so is ends =
@@ -526,11 +526,11 @@ index_nowhere : (names : List (List ℕ)) (index : List ℕ) (answer : Result In
 index_nowhere names index (Ok made) = refl
 index_nowhere names index (Err e) = refl
 
-by_index_nowhere : (told : Option Told) (says : Result ProfileValue Fault) (profile demo index : List ℕ) (verdict : Verdict) → IsIndexedBy told says profile demo index verdict → verdict.at ≡ None
+by_index_nowhere : (told : Option Told) (says : Result ProfileValue Fault) (profile demo index : List ℕ) (verdict : Verdict) → IsIndexVerdictBy told says profile demo index verdict → verdict.at ≡ None
 by_index_nowhere told (Ok by) profile demo index verdict is = ap (λ (v : Verdict). v.at) is.2 ∙ index_nowhere (profile ∷ demo ∷ []) index is.0
 by_index_nowhere told (Err cause) profile demo index verdict is = ap (λ (v : Verdict). v.at) is
 
-by_seek_nowhere : (told : Option Told) (says : Result ProfileValue Fault) (profile demo index : List ℕ) (number : ℕ) (verdict : Verdict) → IsSoughtBy told says profile demo index number verdict → verdict.at ≡ None
+by_seek_nowhere : (told : Option Told) (says : Result ProfileValue Fault) (profile demo index : List ℕ) (number : ℕ) (verdict : Verdict) → IsSeekVerdictBy told says profile demo index number verdict → verdict.at ≡ None
 by_seek_nowhere told (Ok by) profile demo index number verdict is = settled_nowhere verdict all_first (profile ∷ demo ∷ index ∷ []) is.0 is.2
 by_seek_nowhere told (Err cause) profile demo index number verdict is = ap (λ (v : Verdict). v.at) is
 

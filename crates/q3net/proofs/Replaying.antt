@@ -29,7 +29,7 @@ use Rattle.q3_runs.specs.Input.{IsFront, Holds, looked_up, created, LeavesFirst,
 use Rattle.q3_runs.specs.Verdict.{Verdict, profile_in, events_in, names_by, GetsFrom}
 use Rattle.q3_runs.specs.Run.{Comes, Executes, LeavesFiles}
 use Rattle.q3net.specs.Faults.{step_fault}
-use Rattle.q3net.specs.Verdict.{Schedule, replayed, recorded, replay_done, IsReplayed}
+use Rattle.q3net.specs.Verdict.{Schedule, replayed, recorded, replay_done, IsReplayVerdict}
 use Rattle.q3net.specs.Run.{AddsLines, DoesFirst}
 use Rattle.q3_runs.proofs.Acting.{none_on, first_more, all_left, first_left}
 use Rattle.q3_runs.proofs.Loading.{held, same_held}
@@ -90,17 +90,17 @@ part_replayed follow Rule old names answer said e is so gets =
     ]
 
 pub profile_ended : (follow : TextsFollow) (told : Option Told) (profile script : List ℕ) (old : Option Written) (e : Fault) → GetsFrom profile_in told profile (Err e)
-    → Executes (IsReplayed told profile script) old old (Err e)
+    → Executes (IsReplayVerdict told profile script) old old (Err e)
 profile_ended follow told profile script old e gets =
     let s = held told script in
-    part_replayed follow (IsReplayed told profile script) old (names_by (profile_in gets.0) profile script) (replayed gets.0 s.0) (profile_in gets.0) e
+    part_replayed follow (IsReplayVerdict told profile script) old (names_by (profile_in gets.0) profile script) (replayed gets.0 s.0) (profile_in gets.0) e
     (gets.0, s.0, gets.1, s.1, refl) (no_profile gets.0 s.0 e) gets.2
 
 pub events_ended : (follow : TextsFollow) (told mid : Option Told) (profile script : List ℕ) (by : Profile) (old : Option Written) (e : Fault) → GetsFrom profile_in told profile (Ok by)
-    → Gives (Ok by) (profile ∷ []) told mid → GetsFrom (events_in kinds.Replay) mid script (Err e) → Executes (IsReplayed told profile script) old old (Err e)
+    → Gives (Ok by) (profile ∷ []) told mid → GetsFrom (events_in kinds.Replay) mid script (Err e) → Executes (IsReplayVerdict told profile script) old old (Err e)
 events_ended follow told mid profile script by old e passes gives gets =
     let of_script = same_held told mid (profile ∷ []) script gets.0 (gave by (profile ∷ []) told mid gives) gets.1 in
-    part_replayed follow (IsReplayed told profile script) old (names_by (profile_in passes.0) profile script) (replayed passes.0 gets.0) (events_in kinds.Replay gets.0) e
+    part_replayed follow (IsReplayVerdict told profile script) old (names_by (profile_in passes.0) profile script) (replayed passes.0 gets.0) (events_in kinds.Replay gets.0) e
     (passes.0, gets.0, passes.1, of_script, refl) (no_events passes.0 gets.0 by e (got_ok (profile_in passes.0) by passes.2)) gets.2
 
 -- both files were read
@@ -128,7 +128,7 @@ abbrev pub verdict_by : List ℕ → List ℕ → Profile → List Event → Ver
 verdict_by profile script by events = replay_done (profile ∷ script ∷ []) (schedules by events)
 
 verdict_of : (told : Option Told) (profile script : List ℕ) (by : Profile) (events : List Event) → BothRead told profile script by events
-    → IsReplayed told profile script (verdict_by profile script by events)
+    → IsReplayVerdict told profile script (verdict_by profile script by events)
 verdict_of told profile script by events read = (
   read.of_profile,
   read.of_script,
@@ -139,9 +139,9 @@ verdict_of told profile script by events read = (
 )
 
 pub memory_ended : (follow : TextsFollow) (told : Option Told) (profile script : List ℕ) (by : Profile) (events : List Event) (old : Option Written) → BothRead told profile script by events
-    → Executes (IsReplayed told profile script) old old (Err faults.NoMemory)
+    → Executes (IsReplayVerdict told profile script) old old (Err faults.NoMemory)
 memory_ended follow told profile script by events old read =
-    wants_memory follow (IsReplayed told profile script) old (verdict_by profile script by events) (verdict_of told profile script by events read) tt
+    wants_memory follow (IsReplayVerdict told profile script) old (verdict_by profile script by events) (verdict_of told profile script by events read) tt
 
 -- ---- its events
 
@@ -151,7 +151,7 @@ first_lines all k = (all_lines (drop k all), sym (lines-all all k))
 
 pub steps_ended : (told : Option Told) (profile script : List ℕ) (by : Profile) (events : List Event) (old now : Option Written) (e : StepError)
     → BothRead told profile script by events → AddsLines (answers by (opening by) events) old now (Err e) → (IsErr (by_files (Err e)) → acts_from (opening_kept by) events ≢ [])
-    → Executes (IsReplayed told profile script) old now (Err (step_fault e))
+    → Executes (IsReplayVerdict told profile script) old now (Err (step_fault e))
 unfolding report
 steps_ended told profile script by events old now step.NoMemory read adds some =
     let all = answers by (opening by) events in
@@ -164,7 +164,7 @@ steps_ended told profile script by events old now step.WriteFault read adds some
 
 pub steps_done : (told : Option Told) (profile script : List ℕ) (by : Profile) (events : List Event) (old now : Option Written)
     → BothRead told profile script by events → AddsLines (answers by (opening by) events) old now (Ok tt)
-    → Executes (IsReplayed told profile script) old now (Ok tt)
+    → Executes (IsReplayVerdict told profile script) old now (Ok tt)
 unfolding report
 steps_done told profile script by events old now read adds =
     (verdict_by profile script by events, verdict_of told profile script by events read, inl (report by events, inl (refl, refl), adds))
@@ -172,7 +172,7 @@ steps_done told profile script by events old now read adds =
 -- what comes after them couldn't be written
 pub finish_failed : (told : Option Told) (profile script : List ℕ) (by : Profile) (events : List Event) (old now : Option Written)
     → BothRead told profile script by events → AddsLines (answers by (opening by) events) old now (Ok tt) → acts_from (opening_kept by) events ≢ []
-    → Executes (IsReplayed told profile script) old now (Err faults.FileWrite)
+    → Executes (IsReplayVerdict told profile script) old now (Err faults.FileWrite)
 unfolding report
 finish_failed told profile script by events old now read adds some =
     (verdict_by profile script by events, verdict_of told profile script by events read, inl (report by events, inr (faults.FileWrite, refl, writes_some (acts_from (opening_kept by) events) (report by events) (report by events) some ([], append-nil (report by events))), adds))
@@ -193,7 +193,7 @@ part_left {A} said e names answer told now gets so gives =
     early_left names (Err cause) told now first = first
 
 pub profile_gives : (told now : Option Told) (profile script : List ℕ) (e : Fault) → GetsFrom profile_in told profile (Err e)
-    → Gives {A = Profile} (Err e) (profile ∷ []) told now → LeavesFiles (IsReplayed told profile script) told now (Err e)
+    → Gives {A = Profile} (Err e) (profile ∷ []) told now → LeavesFiles (IsReplayVerdict told profile script) told now (Err e)
 profile_gives told now profile script e gets gives =
     let s = held told script in
     let names = names_by (profile_in gets.0) profile script in (
@@ -204,7 +204,7 @@ profile_gives told now profile script e gets gives =
 
 pub script_gives : (told mid now : Option Told) (profile script : List ℕ) (by : Profile) (e : Fault) → GetsFrom profile_in told profile (Ok by)
     → Gives (Ok by) (profile ∷ []) told mid → GetsFrom (events_in kinds.Replay) mid script (Err e) → Gives {A = Unit {0}} (Err e) (script ∷ []) mid now
-    → LeavesFiles (IsReplayed told profile script) told now (Err e)
+    → LeavesFiles (IsReplayVerdict told profile script) told now (Err e)
 script_gives told mid now profile script by e passes first gets second =
     let looked = gave by (profile ∷ []) told mid first in
     let is = got_ok (profile_in passes.0) by passes.2 in
@@ -218,7 +218,7 @@ script_gives told mid now profile script by e passes first gets second =
 -- some of the acts were done
 acts_left : (told looked now : Option Told) (profile script : List ℕ) (by : Profile) (events : List Event) (done rest : List FileAct) (result : Result (Unit {0}) Failed) (e : Fault)
     → BothRead told profile script by events → LooksUpTold told looked (profile ∷ script ∷ []) → ActsOn looked now done result → acts_from (opening_kept by) events ≡ done ++ rest → IsOutside e
-    → LeavesFiles (IsReplayed told profile script) told now (Err e)
+    → LeavesFiles (IsReplayVerdict told profile script) told now (Err e)
 acts_left told looked now profile script by events done rest result e read names acts whole outside = (
   verdict_by profile script by events,
   verdict_of told profile script by events read,
@@ -227,7 +227,7 @@ acts_left told looked now profile script by events done rest result e read names
 
 -- none of them
 pub memory_left : (told looked : Option Told) (profile script : List ℕ) (by : Profile) (events : List Event)
-    → BothRead told profile script by events → LooksUpTold told looked (profile ∷ script ∷ []) → LeavesFiles (IsReplayed told profile script) told looked (Err faults.NoMemory)
+    → BothRead told profile script by events → LooksUpTold told looked (profile ∷ script ∷ []) → LeavesFiles (IsReplayVerdict told profile script) told looked (Err faults.NoMemory)
 memory_left told looked profile script by events read names =
     acts_left told looked looked profile script by events [] (acts_from (opening_kept by) events) (Ok tt) faults.NoMemory read names (none_on looked) refl tt
 
@@ -269,7 +269,7 @@ step_outside step.FileFault = tt
 -- a step failed
 pub steps_left : (told looked now : Option Told) (profile script : List ℕ) (by : Profile) (events : List Event) (kept : Kept) (last : List FileAct) (e : StepError)
     → BothRead told profile script by events → LooksUpTold told looked (profile ∷ script ∷ []) → StandsFor by kept (opening by) → DoesFirst looked now (acts_from kept events) last (Err e)
-    → LeavesFiles (IsReplayed told profile script) told now (Err (step_fault e))
+    → LeavesFiles (IsReplayVerdict told profile script) told now (Err (step_fault e))
 steps_left told looked now profile script by events kept last e read names stands does =
     acts_left told looked now profile script by events does.0 does.1 (by_files (Err e)) (step_fault e) read names does.3
     (ap (λ (k : Kept). acts_from k events) (sym (opens by kept stands)) ∙ does.2) (step_outside e)
@@ -282,14 +282,14 @@ finished_on looked mid now by events kept last result stands does ends =
 
 pub finish_left : (told looked mid now : Option Told) (profile script : List ℕ) (by : Profile) (events : List Event) (kept : Kept) (last : List FileAct) (e : Failed)
     → BothRead told profile script by events → LooksUpTold told looked (profile ∷ script ∷ []) → StandsFor by kept (opening by) → DoesFirst looked mid (acts_from kept events) last (Ok tt)
-    → ActsOn mid now last (Err e) → LeavesFiles (IsReplayed told profile script) told now (Err faults.FileWrite)
+    → ActsOn mid now last (Err e) → LeavesFiles (IsReplayVerdict told profile script) told now (Err faults.FileWrite)
 finish_left told looked mid now profile script by events kept last e read names stands does ends =
     let acts = acts_from (opening_kept by) events in
     acts_left told looked now profile script by events acts [] (Err e) faults.FileWrite read names (finished_on looked mid now by events kept last (Err e) stands does ends) (sym (append-nil acts)) tt
 
 pub all_done : (told looked mid now : Option Told) (profile script : List ℕ) (by : Profile) (events : List Event) (kept : Kept) (last : List FileAct)
     → BothRead told profile script by events → LooksUpTold told looked (profile ∷ script ∷ []) → StandsFor by kept (opening by) → DoesFirst looked mid (acts_from kept events) last (Ok tt)
-    → ActsOn mid now last (Ok tt) → LeavesFiles (IsReplayed told profile script) told now (Ok tt)
+    → ActsOn mid now last (Ok tt) → LeavesFiles (IsReplayVerdict told profile script) told now (Ok tt)
 all_done told looked mid now profile script by events kept last read names stands does ends = (
   verdict_by profile script by events,
   verdict_of told profile script by events read,

@@ -12,18 +12,18 @@ use Rattle.q3_runs.specs.declared.fault.Fault.TheVariants as faults
 use Rattle.q3_command.specs.Command.{Command, Seek}
 use Rattle.q3_runs.specs.Lines.{ending_line, ending_status}
 use Rattle.q3_runs.specs.Verdict.{Outside}
-use Rattle.q3_runs.specs.Run.{EndsSought}
-use Rattle.q3net.specs.Run.{Took, SeeksAsPlays, SoughtAsPlayed, OfMadeSeek, ReportsSought}
+use Rattle.q3_runs.specs.Run.{EndsWithPlayedState}
+use Rattle.q3net.specs.Run.{Took, SeekReportsPlayedState, CommandEndsWithPlayedState, WhereSeekIndexWasMade, ReportsPlayedState}
 
 -- of other commands nothing is said
 of_made : (command : Option Command) (told : Outside) (First Then : Profile → List ℕ → ℕ → Type 0) → ((by : Profile) (bytes : List ℕ) (number : ℕ) → First by bytes number → Then by bytes number)
-    → OfMadeSeek command told First → OfMadeSeek command told Then
+    → WhereSeekIndexWasMade command told First → WhereSeekIndexWasMade command told Then
 of_made (Some (Seek profile demo index number)) told First Then so first =
     λ files by version bytes made is says of_demo of_index long tells whole few. so by bytes number (first files by version bytes made is says of_demo of_index long tells whole few)
 of_made other told First Then so first = tt
 
 done_as : (follow : TextsFollow) (old mid now : Option Written) (status : ℕ) (by : Profile) (bytes : List ℕ) (number : ℕ) (played : demos.Played)
-    → demos.play_state by bytes number ≡ Ok played → Wrote old mid (state_text played.state number) true → Took (Ok tt) [] mid now status → ReportsSought by bytes number old now status
+    → demos.play_state by bytes number ≡ Ok played → Wrote old mid (state_text played.state number) true → Took (Ok tt) [] mid now status → ReportsPlayedState by bytes number old now status
 done_as follow old mid now status by bytes number played plays wrote took =
     elim took [
       | inl all ↦ inl (all.0, played, plays, (follow.more wrote all.1.0 (sym (append-nil (state_text played.state number))), all.1.1))
@@ -35,7 +35,7 @@ fault_as : (mid now : Option Written) (ended : Result (Unit {0}) Fault) (e : Fau
 fault_as mid now ended e status is took = elim took [ inl all ↦ inl (all.0 ∙ ap ending_status is) | inr failed ↦ inr failed.0 ]
 
 ended_as : (follow : TextsFollow) (old mid now : Option Written) (status : ℕ) (ended : Result (Unit {0}) Fault) → Took ended (ending_line ended) mid now status
-    → (by : Profile) (bytes : List ℕ) (number : ℕ) → EndsSought by bytes number old mid ended → ReportsSought by bytes number old now status
+    → (by : Profile) (bytes : List ℕ) (number : ℕ) → EndsWithPlayedState by bytes number old mid ended → ReportsPlayedState by bytes number old now status
 ended_as follow old mid now status ended took by bytes number ends =
     elim ends [
       | inl printed ↦ elim printed.2 [
@@ -49,6 +49,6 @@ ended_as follow old mid now status ended took by bytes number ends =
     ]
 
 pub seeks_as : (follow : TextsFollow) (command : Option Command) (told : Outside) (old mid now : Option Written) (ended : Result (Unit {0}) Fault) (status : ℕ)
-    → SoughtAsPlayed command told old mid ended → Took ended (ending_line ended) mid now status → SeeksAsPlays command told old now status
+    → CommandEndsWithPlayedState command told old mid ended → Took ended (ending_line ended) mid now status → SeekReportsPlayedState command told old now status
 seeks_as follow command told old mid now ended status ends took =
-    of_made command told (λ by bytes number. EndsSought by bytes number old mid ended) (λ by bytes number. ReportsSought by bytes number old now status) (ended_as follow old mid now status ended took) ends
+    of_made command told (λ by bytes number. EndsWithPlayedState by bytes number old mid ended) (λ by bytes number. ReportsPlayedState by bytes number old now status) (ended_as follow old mid now status ended took) ends

@@ -14,7 +14,7 @@ use Rattle.q3_world.specs.declared.told.StepError.TheVariants as errors
 use Rattle.q3_io.specs.Laws.{TextsFollow}
 use Rattle.q3_io.specs.Written.{Written, Wrote}
 use Rattle.q3_world.specs.Outcome.{Prints}
-use Rattle.q3_world.specs.Counts.{Counting}
+use Rattle.q3_world.specs.Counting.{Counting}
 use Rattle.q3_world.specs.World.{Whole, step, answers}
 use Rattle.q3_world.specs.StandsFor.{StandsFor}
 use Rattle.q3net.specs.Run.{AddsLines}

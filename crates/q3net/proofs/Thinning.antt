@@ -18,7 +18,7 @@ use Rattle.q3_io.specs.Laws.{TextsFollow}
 use Rattle.q3_io.specs.Told.{Told}
 use Rattle.q3_io.specs.Written.{Written, Wrote}
 use Rattle.q3_report.specs.AnswerLines.{lines_of}
-use Rattle.q3_world.specs.Counts.{Counting}
+use Rattle.q3_world.specs.Counting.{Counting}
 use Rattle.q3_world.specs.Outcome.{Prints}
 use Rattle.q3_world.specs.declared.told.StepError.{StepError}
 use Rattle.q3net.proofs.Acting.{HasActed, HasActed-begin}

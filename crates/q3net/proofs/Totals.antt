@@ -4,8 +4,9 @@ use Rattle.std.proofs.lemmas.List.{append-nil}
 use Rattle.q3_profile.specs.declared.profile.Profile.{Profile}
 use Rattle.q3_script.specs.declared.event.Event.{Event}
 use Rattle.q3_make.specs.Generated.{opening, DrawnState, rest_of, generated}
-use Rattle.q3_world.specs.declared.counts.Counts.{Counts}
-use Rattle.q3_world.specs.Counts.{Counting, counted, counted_all}
+use Rattle.q3_counts.specs.declared.counts.Counts.{Counts}
+use Rattle.q3_world.specs.Counting.{Counting}
+use Rattle.q3_counts.specs.Counts.{counted, counted_all}
 use Rattle.q3_world.specs.World.{Whole, step, answers}
 use Rattle.q3_world.specs.StandsFor.{StandsFor}
 use Rattle.q3net.specs.Trying.{CountsTo}

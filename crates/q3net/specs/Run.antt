@@ -18,7 +18,7 @@ use Rattle.q3_command.specs.Command.{Command, Seek, files_of}
 use Rattle.q3_runs.specs.Faults.{IsOutside, FileCause}
 use Rattle.q3_runs.specs.Input.{looked_up, created, LeavesTold, LeavesFirst}
 use Rattle.q3_runs.specs.Lines.{fault_status, ending_line, ending_status}
-use Rattle.q3_runs.specs.Run.{Comes, place_of, Ends, wire_by, Left, WiredBy, HandedOn, FailsBy, OfMadeIndex, EndsSought}
+use Rattle.q3_runs.specs.Run.{Comes, place_of, EndsAs, wire_by, Left, WiredBy, HandedOn, FailsBy, WhereIndexWasMade, EndsWithPlayedState}
 use Rattle.q3_runs.specs.Verdict.{Stops, Verdict, Outside}
 use Rattle.q3net.specs.Verdict.{IsVerdict}
 use Rattle.q3_runs.specs.declared.fault.Fault.{Fault}
@@ -40,7 +40,7 @@ Took ended text old now status = ((status ≡ ending_status ended) × HandsOn ol
 abbrev pub Prints : Option Command → Outside → ℕ → ℕ → Option Written → Option Written → Left → ℕ → Type 0
 Prints command told before after old now left status =
     (verdict : Verdict) × IsVerdict told command verdict × (ended : Result (Unit {0}) Fault) × FileCause before after ended
-    × (((printed : List ℕ) × (mid : Option Written) × Ends verdict ended printed × WiredBy verdict.at verdict ended printed told old mid left
+    × (((printed : List ℕ) × (mid : Option Written) × EndsAs verdict ended printed × WiredBy verdict.at verdict ended printed told old mid left
     × Wrote old mid printed true × HandedOn verdict.at old mid × Took ended (ending_line ended) mid now status)
     ⊎ ((ended ≡ Err Write) × (status ≡ 4) × Wrote old now verdict.text false × FailsBy verdict.at verdict.turns told old now left))
 
@@ -82,22 +82,22 @@ HasLeft command told now status =
 
 -- what so many of a demo's records leave is what playing them leaves, and is printed; only want of memory, a read that fails and a write that
 -- does come before that
-abbrev pub ReportsSought : ProfileValue → List ℕ → ℕ → Option Written → Option Written → ℕ → Type 0
-ReportsSought by demo records old now status =
+abbrev pub ReportsPlayedState : ProfileValue → List ℕ → ℕ → Option Written → Option Written → ℕ → Type 0
+ReportsPlayedState by demo records old now status =
     ((status ≡ 0) × (played : Played) × (play_state by demo records ≡ Ok played) × HandsOn old now (state_text played.state records))
     ⊎ ((status ≡ 1) ⊎ ((status ≡ 3) ⊎ (status ≡ 4)))
 
 -- where a command seeks by an index that was made of its demo
-abbrev pub OfMadeSeek : Option Command → Outside → (ProfileValue → List ℕ → ℕ → Type 0) → Type 0
-OfMadeSeek (Some (Seek profile demo index records)) told So = OfMadeIndex told.files profile demo index records So
-OfMadeSeek command told So = ⊤
+abbrev pub WhereSeekIndexWasMade : Option Command → Outside → (ProfileValue → List ℕ → ℕ → Type 0) → Type 0
+WhereSeekIndexWasMade (Some (Seek profile demo index records)) told So = WhereIndexWasMade told.files profile demo index records So
+WhereSeekIndexWasMade command told So = ⊤
 
-abbrev pub SeeksAsPlays : Option Command → Outside → Option Written → Option Written → ℕ → Type 0
-SeeksAsPlays command told old now status = OfMadeSeek command told (λ by bytes records. ReportsSought by bytes records old now status)
+abbrev pub SeekReportsPlayedState : Option Command → Outside → Option Written → Option Written → ℕ → Type 0
+SeekReportsPlayedState command told old now status = WhereSeekIndexWasMade command told (λ by bytes records. ReportsPlayedState by bytes records old now status)
 
--- and how the command itself ends then
-abbrev pub SoughtAsPlayed : Option Command → Outside → Option Written → Option Written → Result (Unit {0}) Fault → Type 0
-SoughtAsPlayed command told old now ended = OfMadeSeek command told (λ by bytes records. EndsSought by bytes records old now ended)
+-- how a command that seeks so ends, before its status
+abbrev pub CommandEndsWithPlayedState : Option Command → Outside → Option Written → Option Written → Result (Unit {0}) Fault → Type 0
+CommandEndsWithPlayedState command told old now ended = WhereSeekIndexWasMade command told (λ by bytes records. EndsWithPlayedState by bytes records old now ended)
 
 -- the names of the command's words are looked up, once each and in this order, and then the files that the verdict makes are created, or
 -- the first of these; its acts are done, or the first of them, and every other file stays

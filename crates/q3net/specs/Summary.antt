@@ -1,7 +1,7 @@
 -- What a trial prints: how much of each kind the report of its replay has.
 use Rattle.std.specs.Prelude.{ℕ, List, [], ◌∷◌, codes, decimal}
 use Rattle.std.specs.List.{concat}
-use Rattle.q3_world.specs.declared.counts.Counts.{Counts}
+use Rattle.q3_counts.specs.declared.counts.Counts.{Counts}
 
 -- a line for each count
 unfoldable pub summary_text : Counts → List ℕ

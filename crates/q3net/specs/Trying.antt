@@ -2,8 +2,9 @@
 use Rattle.std.specs.Prelude.{◌≡◌, List}
 use Rattle.q3_profile.specs.declared.profile.Profile.{Profile}
 use Rattle.q3_script.specs.declared.event.Event.{Event}
-use Rattle.q3_world.specs.declared.counts.Counts.{Counts}
-use Rattle.q3_world.specs.Counts.{Counting, counted_all}
+use Rattle.q3_counts.specs.declared.counts.Counts.{Counts}
+use Rattle.q3_world.specs.Counting.{Counting}
+use Rattle.q3_counts.specs.Counts.{counted_all}
 use Rattle.q3_world.specs.World.{Whole, answers}
 use Rattle.q3_world.specs.StandsFor.{StandsFor}
 

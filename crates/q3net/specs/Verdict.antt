@@ -12,17 +12,17 @@ use Rattle.q3_world.specs.World.{opening, answers}
 use Rattle.q3_world.specs.Kept.{opening_kept}
 use Rattle.q3_world.specs.Files.{acts_from}
 use Rattle.q3_world.specs.Report.{report}
-use Rattle.q3_world.specs.Counts.{counts_of}
+use Rattle.q3_counts.specs.Counts.{counts_of}
 use Rattle.q3_command.specs.declared.command.Draws.{Draws}
 use Rattle.q3_command.specs.Command.{Command, Help, Version, Replay, Make, Trial, Serve, Join, Play, Index, Seek}
 use Rattle.q3_runs.specs.Input.{Holds, looked_up, created}
-use Rattle.q3_runs.specs.Verdict.{Stops, Verdict, stops_nowhere, takes_memory, reads_first, writes_by, printing, settled, profile_in, events_in, names_by, Outside, outside, IsPlayed, IsIndexed, IsSought, IsServed, IsJoined}
+use Rattle.q3_runs.specs.Verdict.{Stops, Verdict, stops_nowhere, takes_memory, reads_first, writes_by, printing, settled, profile_in, events_in, names_by, Outside, outside, IsPlayVerdict, IsIndexVerdict, IsSeekVerdict, IsServeVerdict, IsJoinVerdict}
 use Rattle.q3net.specs.Lines.{help_text, version_text}
 use Rattle.q3net.specs.Summary.{summary_text}
 use Rattle.q3_runs.specs.declared.fault.Fault.{Fault}
 use Rattle.q3_runs.specs.declared.fault.Fault.TheVariants.{Usage}
 
--- and of what reads all that it reads before its first line, and then writes files, if it does something to them
+-- where a command may be stopped that reads all before its first line and then writes files, if it does something to them
 abbrev pub goes_on_writing : List FileAct → Stops
 goes_on_writing acts = record reads_first { writes = writes_by acts }
 
@@ -66,18 +66,18 @@ abbrev pub of_files : Option Told → Outside
 of_files files = outside files None None
 
 -- the rule that the verdict of a replay meets, by what the files hold that it names
-abbrev pub IsReplayed : Option Told → (profile script : List ℕ) → Verdict → Type 0
-IsReplayed told profile script verdict =
+abbrev pub IsReplayVerdict : Option Told → (profile script : List ℕ) → Verdict → Type 0
+IsReplayVerdict told profile script verdict =
     (of_profile : Option (List ℕ)) × (of_script : Option (List ℕ)) × Holds told profile of_profile × Holds told script of_script
     × (verdict ≡ replay_done (names_by (profile_in of_profile) profile script) (replayed of_profile of_script))
 
 -- of a script that is made
-abbrev pub IsMade : Draws → Verdict → Type 0
-IsMade draws verdict = verdict ≡ settled takes_memory [] (Ok (script_text (generated draws.number draws.seed)))
+abbrev pub IsMakeVerdict : Draws → Verdict → Type 0
+IsMakeVerdict draws verdict = verdict ≡ settled takes_memory [] (Ok (script_text (generated draws.number draws.seed)))
 
 -- and of a trial
-abbrev pub IsTried : Option Told → (profile : List ℕ) → Draws → Verdict → Type 0
-IsTried told profile draws verdict =
+abbrev pub IsTrialVerdict : Option Told → (profile : List ℕ) → Draws → Verdict → Type 0
+IsTrialVerdict told profile draws verdict =
     (of_profile : Option (List ℕ)) × Holds told profile of_profile × (verdict ≡ settled reads_first (profile ∷ []) (tried of_profile draws))
 
 -- the verdict of a command, by what the files hold that it names, and by what is to come over the wire and of the clock
@@ -85,11 +85,11 @@ abbrev pub IsVerdict : Outside → Option Command → Verdict → Type 0
 IsVerdict told None verdict = verdict ≡ settled stops_nowhere [] (Err Usage)
 IsVerdict told (Some Help) verdict = verdict ≡ settled stops_nowhere [] (Ok help_text)
 IsVerdict told (Some Version) verdict = verdict ≡ settled stops_nowhere [] (Ok version_text)
-IsVerdict told (Some (Replay profile script)) verdict = IsReplayed told.files profile script verdict
-IsVerdict told (Some (Make draws)) verdict = IsMade draws verdict
-IsVerdict told (Some (Trial profile draws)) verdict = IsTried told.files profile draws verdict
-IsVerdict told (Some (Serve profile script at)) verdict = IsServed told profile script at verdict
-IsVerdict told (Some (Join profile script at server)) verdict = IsJoined told profile script at server verdict
-IsVerdict told (Some (Play profile demo)) verdict = IsPlayed told.files profile demo verdict
-IsVerdict told (Some (Index profile demo index)) verdict = IsIndexed told.files profile demo index verdict
-IsVerdict told (Some (Seek profile demo index records)) verdict = IsSought told.files profile demo index records verdict
+IsVerdict told (Some (Replay profile script)) verdict = IsReplayVerdict told.files profile script verdict
+IsVerdict told (Some (Make draws)) verdict = IsMakeVerdict draws verdict
+IsVerdict told (Some (Trial profile draws)) verdict = IsTrialVerdict told.files profile draws verdict
+IsVerdict told (Some (Serve profile script at)) verdict = IsServeVerdict told profile script at verdict
+IsVerdict told (Some (Join profile script at server)) verdict = IsJoinVerdict told profile script at server verdict
+IsVerdict told (Some (Play profile demo)) verdict = IsPlayVerdict told.files profile demo verdict
+IsVerdict told (Some (Index profile demo index)) verdict = IsIndexVerdict told.files profile demo index verdict
+IsVerdict told (Some (Seek profile demo index records)) verdict = IsSeekVerdict told.files profile demo index records verdict

@@ -12,7 +12,7 @@ ghost use Rattle.q3_world.specs.StandsFor.{StandsFor};
 ghost use Rattle.q3_runs.specs.Faults.{ReadCause, WriteCause, FileCause};
 ghost use Rattle.q3_runs.specs.Run.{Executes, LeavesFiles};
 ghost use Rattle.q3net.specs.Faults.{step_fault};
-ghost use Rattle.q3net.specs.Verdict.{IsReplayed};
+ghost use Rattle.q3net.specs.Verdict.{IsReplayVerdict};
 ghost use Rattle.q3net.specs.Run.{AddsLines, DoesFirst};
 
 use q3_io::{Files, Sink};
@@ -29,9 +29,9 @@ pub fn replay<F: Files, O: Sink>(
     files: &mut F,
     out: &mut O,
 ) -> Result<(), Fault>
-    ensures executes { Executes (IsReplayed (F.told files.old) profile.now script.now) (O.written out.old)
+    ensures executes { Executes (IsReplayVerdict (F.told files.old) profile.now script.now) (O.written out.old)
         (O.written out.new) result }
-    ensures gives { LeavesFiles (IsReplayed (F.told files.old) profile.now script.now) (F.told files.old)
+    ensures gives { LeavesFiles (IsReplayVerdict (F.told files.old) profile.now script.now) (F.told files.old)
         (F.told files.new) result }
     ensures file_cause { FileCause (F.write_faults files.old) (F.write_faults files.new) result }
     ensures read_cause { ReadCause (F.faults files.old) (F.faults files.new) result }

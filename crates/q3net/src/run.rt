@@ -10,7 +10,7 @@ ghost use Rattle.q3_runs.specs.Lines.{fault_line, ending_line, ending_status};
 ghost use Rattle.q3_runs.specs.Verdict.{outside};
 ghost use Rattle.q3_runs.specs.Run.{PrintsAll, left_so, ExecutesWired, LeavesFiles, MayBind};
 ghost use Rattle.q3net.specs.Verdict.{IsVerdict};
-ghost use Rattle.q3net.specs.Run.{SeeksAsPlays, SoughtAsPlayed, Took, Prints, Reports, FilesFail, IsDecided, IsComplete, HasLeft, Touched, Settles};
+ghost use Rattle.q3net.specs.Run.{SeekReportsPlayedState, CommandEndsWithPlayedState, Took, Prints, Reports, FilesFail, IsDecided, IsComplete, HasLeft, Touched, Settles};
 
 use crate::generated::{make, trial};
 use crate::replay::replay;
@@ -72,7 +72,7 @@ pub fn run<F: Files, W: Wire, C: Clock, O: Sink>(
     ensures unbound { W.bound wire.new ≡ false → clock.new ≡ clock.old }
 
     // What is sought in a demo by the index that was made of it is what playing leaves, and such an index is never refused.
-    ensures sought { SeeksAsPlays (command_of (map string_bytes words.now))
+    ensures sought { SeekReportsPlayedState (command_of (map string_bytes words.now))
         (outside (F.told files.old) (W.told wire.old) (C.readings clock.old)) (O.written out.old)
         (O.written out.new) result }
 
@@ -123,7 +123,7 @@ fn execute<F: Files, W: Wire, C: Clock, O: Sink>(
         (C.readings clock.old)) (command_of (map string_bytes words.now)))
         (outside (F.told files.old) (W.told wire.old) (C.readings clock.old)) (O.written out.old) (O.written out.new)
         (left_so (W.told wire.new) (F.told files.new)) result }
-    ensures sought { SoughtAsPlayed (command_of (map string_bytes words.now))
+    ensures sought { CommandEndsWithPlayedState (command_of (map string_bytes words.now))
         (outside (F.told files.old) (W.told wire.old) (C.readings clock.old)) (O.written out.old)
         (O.written out.new) result }
     ensures gives { LeavesFiles (IsVerdict (outside (F.told files.old) (W.told wire.old) (C.readings clock.old))

@@ -1,7 +1,7 @@
 use Rattle.std.proofs.Common.{◌≡◌, ◌+◌, ◌-◌, ◌≤◌, length, None}
 use Rattle.q3_profile.specs.declared.profile.Profile.{Profile}
 use Rattle.q3_make.specs.Generated.{rest_of}
-use Rattle.q3_world.specs.declared.counts.Counts.{Counts}
+use Rattle.q3_counts.specs.declared.counts.Counts.{Counts}
 use Rattle.q3_world.specs.Files.{AreNumbered}
 use Rattle.q3net.specs.Trying.{CountsTo}
 use Rattle.q3net.proofs.generated.step_drawn.Given as goal

@@ -1,7 +1,7 @@
 use Rattle.std.proofs.Common.{◌+◌, ◌≤◌, List, ◌++◌, drop, length, None}
 use Rattle.q3_profile.specs.declared.profile.Profile.{Profile}
 use Rattle.q3_script.specs.declared.event.Event.{Event}
-use Rattle.q3_world.specs.declared.counts.Counts.{Counts}
+use Rattle.q3_counts.specs.declared.counts.Counts.{Counts}
 use Rattle.q3_world.specs.Files.{AreNumbered}
 use Rattle.q3net.specs.Trying.{CountsTo}
 use Rattle.q3net.proofs.generated.step_part.Given as goal

@@ -1,7 +1,7 @@
 use Rattle.std.proofs.Common.{ap, ◌∙◌, arith, refl}
 use Rattle.std.proofs.lemmas.Result.{err_from_is_err_and}
 use Rattle.q3_make.specs.Generated.{generated}
-use Rattle.q3_world.specs.Counts.{counted_all}
+use Rattle.q3_counts.specs.Counts.{counted_all}
 use Rattle.q3_world.specs.World.{opening, answers}
 use Rattle.q3net.specs.Summary.{summary_text}
 use Rattle.q3net.proofs.Looking.{trial_gives, trial_gave}

@@ -73,7 +73,7 @@ loop-event-preserved g c =
     let replayed : IsReplayEvent event = subst IsReplayEvent (sym c.event-item.is) (c.requires.events index event c.loop-event-test.true) in
     let does = does_alike c.forgetting_is_alike.ensures start.kept c.loop-event.world.kept c.args.events.now index event c.event-item.is c.loop-event-test.true c.loop-event.invariant.7 in
     let done = c.in_ok-step.ensures in
-    let gone = c.forget_unnamed.ensures in
+    let gone = c.forget_unnamed.ensures.lets_go in
     let same : c.loop-event.done + 1 ≡ index + 1 = ap (λ (n : ℕ). n + 1) c.loop-event.invariant.8 in
     let left : AreAlike (drop (index + 1) c.args.events.now) c.step.new.self.kept (full_at start.kept c.args.events.now (index + 1)) =
     subst (λ (kept : Kept). AreAlike (drop (index + 1) c.args.events.now) kept (full_at start.kept c.args.events.now (index + 1))) (sym done.kept) does.left in (

@@ -3,7 +3,7 @@
 ghost use Rattle.std.specs.Prelude.{◌≡◌};
 ghost use Rattle.q3_report.specs.ServerLines.{run_of};
 ghost use Rattle.q3_report.specs.Tellings.{answered_of};
-ghost use Rattle.q3_world.specs.Counts.{no_counts, made_served, made_sent, accepted_in, skipped_in, lines_of_client, lines_of_server, lines_in, with_lines};
+ghost use Rattle.q3_counts.specs.Counts.{no_counts, made_served, made_sent, accepted_in, skipped_in, lines_of_client, lines_of_server, lines_in, with_lines};
 
 use q3_client::{ClientTook, Sent};
 use q3_clstate::{Log, SnapOutcome};
@@ -31,7 +31,7 @@ pub struct Counts {
 
 impl Counts {
     /// Before the first event.
-    pub(crate) fn none() -> Counts
+    pub fn none() -> Counts
         ensures { result ≡ no_counts }
     {
         Counts {
@@ -96,7 +96,7 @@ impl Counts {
     }
 
     /// With these lines.
-    pub(crate) fn with(self, lines: Counts) -> Counts
+    pub fn with(self, lines: Counts) -> Counts
         ensures { result ≡ with_lines self lines }
     {
         Counts {
@@ -112,7 +112,7 @@ impl Counts {
 }
 
 /// The lines of an answer.
-pub(crate) fn lines_in(answer: &Answer) -> Counts
+pub fn lines_in(answer: &Answer) -> Counts
     ensures { result ≡ lines_in (answered_of answer.now) }
 {
     match answer {

@@ -13,14 +13,7 @@ use Rattle.q3_slot.specs.declared.taking.ServerTook.{ServerTook}
 use Rattle.q3_slot.specs.declared.taking.ServerTook.TheVariants.{Ran}
 use Rattle.q3_report.specs.ServerLines.{Run}
 use Rattle.q3_report.specs.Answers.{Taking, ByClient, ByServer, Answered, Served, SentOut, Took}
-use Rattle.q3_world.specs.declared.counts.Counts.{Counts}
-use Rattle.q3_world.specs.Kept.{Kept}
-
--- what the program's world keeps, what it counted, and the number of the file of each client's recording
-pub record Counting : Type 0 where
-  pub kept : Kept
-  pub counts : Counts
-  pub numbers : List ℕ
+use Rattle.q3_counts.specs.declared.counts.Counts.{Counts}
 
 -- before the first event
 abbrev pub no_counts : Counts
