@@ -22,7 +22,7 @@ use Rattle.q3_world.specs.Ends.{Ends, place_at, Line, Hands, Serves, Sends, Deli
 use Rattle.q3_world.specs.Kept.{SentBytes, Kept, datagrams_after, deliver_at, kept_send, kept_line, kept_step}
 use Rattle.q3_world.specs.Files.{acts_of, deliver_acts}
 use Rattle.q3_world.specs.Counting.{Counting}
-use Rattle.q3_world.specs.Forgetting.{named_by, forgotten, with_forgotten, AreAlike, AreSilentOf, TellsLast, AreWanted, LetsGo}
+use Rattle.q3_world.specs.Forgetting.{named_by, forgotten, with_forgotten, AreAlike, AreSilentOf, TellsLast, AreWanted, AreWantedBefore, LetsGo}
 
 -- the same datagram is at a place
 abbrev pub AreSameAt : List SentBytes → List SentBytes → ℕ → Type 0
@@ -324,6 +324,43 @@ written_back new items many is long =
     let within : length new ≤ many = omega (arith, is, long) in
     ap (λ (left : List ℕ). take many (new ++ left)) (drop_of_length-le items all) ∙ (ap (take many) (append-nil new) ∙ take_all many new within)
 
+-- no bytes are at a place
+abbrev pub IsEmpty : Option SentBytes → Type 0
+IsEmpty found = IfSome found (λ (sent : SentBytes). sent.bytes ≡ [])
+
+-- ---- what a line makes
+
+before_push : (all : List Event) (datagrams : List SentBytes) (sent : SentBytes) → AreWanted all datagrams → AreWantedBefore all (datagrams ++ sent ∷ [])
+before_push all datagrams sent wanted = λ at lt silent.
+    let long = length-append datagrams (sent ∷ []) in
+    let other : at ≢ length datagrams = λ is. absurd (omega (arith, long, lt, is)) in
+    subst IsEmpty (sym (slice_get-push datagrams sent at other)) (wanted at silent)
+
+before_after : (all : List Event) (datagrams : List SentBytes) (c : ℕ) (direction : Direction) (piece : Option Piece) → AreWanted all datagrams
+    → AreWantedBefore all (datagrams_after datagrams c direction piece)
+before_after all datagrams c direction None wanted = λ at lt silent. wanted at silent
+before_after all datagrams c direction (Some piece) wanted = before_push all datagrams (record { client = c; direction = direction; bytes = piece.bytes }) wanted
+
+before_send : (all : List Event) (profile : Profile) (ends : Ends) (datagrams : List SentBytes) (c : ℕ) (found : Option Place) → AreWanted all datagrams
+    → AreWantedBefore all (kept_send (kept_of profile ends datagrams) c found).kept.datagrams
+before_send all profile ends datagrams c None wanted = λ at lt silent. wanted at silent
+before_send all profile ends datagrams c (Some place) wanted =
+    before_after all datagrams c (ToServer place.address) (emit_at (asking place.client place.recording)).piece wanted
+
+before_line : (all : List Event) (profile : Profile) (ends : Ends) (datagrams : List SentBytes) (line : Line) → AreWanted all datagrams
+    → AreWantedBefore all (kept_line (kept_of profile ends datagrams) line).kept.datagrams
+before_line all profile ends datagrams (Hands step) wanted = λ at lt silent. wanted at silent
+before_line all profile ends datagrams (HandsBytes c step) wanted = λ at lt silent. wanted at silent
+before_line all profile ends datagrams (Serves c) wanted = before_after all datagrams c ToClient (serves.emit_at ends.server c).piece wanted
+before_line all profile ends datagrams (Sends c) wanted = before_send all profile ends datagrams c (place_at ends c) wanted
+before_line all profile ends datagrams (Delivers number) wanted = λ at lt silent. wanted at silent
+before_line all profile ends datagrams (TellsBytes number) wanted = λ at lt silent. wanted at silent
+
+pub wanted_before : (event : Event) (all : List Event) (kept : Kept) → AreWanted (event ∷ all) kept.datagrams
+    → AreWantedBefore (event ∷ all) (kept_step kept event).kept.datagrams
+unfolding kept_step
+wanted_before event all kept wanted = before_line (event ∷ all) kept.profile kept.ends kept.datagrams (line_of kept.profile kept.ends event) wanted
+
 -- ---- what is let go
 
 abbrev without_bytes : SentBytes → SentBytes
@@ -332,9 +369,6 @@ without_bytes sent = record sent { bytes = [] }
 -- a datagram at a place is as it was, or has lost its bytes
 abbrev IsLost : Option SentBytes → Option SentBytes → Type 0
 IsLost old now = (now ≡ old) ⊎ (now ≡ option_map without_bytes old)
-
-abbrev pub IsEmpty : Option SentBytes → Type 0
-IsEmpty found = IfSome found (λ (sent : SentBytes). sent.bytes ≡ [])
 
 lost_is_empty : (old : Option SentBytes) → IsEmpty (option_map without_bytes old)
 lost_is_empty None = tt

@@ -1,5 +1,5 @@
 -- What a replay may forget: the bytes of a datagram that no later line names.
-use Rattle.std.specs.Prelude.{◌≡◌, ◌≢◌, ◌⊎◌, ℕ, ◌-◌, ◌<◌, ◌≤◌, List, [], ◌∷◌, length, get_or, set, drop, All, Option, Some, None, IfSome, option_map, slice_get}
+use Rattle.std.specs.Prelude.{◌≡◌, ◌≢◌, ◌⊎◌, ℕ, ◌+◌, ◌-◌, ◌<◌, ◌≤◌, List, [], ◌∷◌, length, get_or, set, drop, All, Option, Some, None, IfSome, option_map, slice_get}
 use Rattle.std.specs.Option.{option_map_or}
 use Rattle.q3_script.specs.declared.event.Event.{Event}
 use Rattle.q3_script.specs.declared.event.Event.TheVariants as events
@@ -31,8 +31,16 @@ pub record AreAlike (all : List Event) (one other : Kept) : Type 0 where
 abbrev pub AreSilentOf : List Event → ℕ → Type 0
 AreSilentOf all at = All (λ event. named_by event ≢ Some at) all
 
+-- only datagrams that one of these lines names have bytes
+abbrev pub AreWanted : List Event → List SentBytes → Type 0
+AreWanted all datagrams = (at : ℕ) → AreSilentOf all at → IfSome (slice_get datagrams at) (λ sent. sent.bytes ≡ [])
+
+-- and the same but for the last datagram
+abbrev pub AreWantedBefore : List Event → List SentBytes → Type 0
+AreWantedBefore all datagrams = (at : ℕ) → at + 1 < length datagrams → AreSilentOf all at → IfSome (slice_get datagrams at) (λ sent. sent.bytes ≡ [])
+
 -- what is kept is alike itself; each line answers the same, does the same to files, and leaves what is alike for the others; and so does
--- forgetting a datagram that none of them names
+-- forgetting a datagram that none of them names. A line makes one datagram at most, and gives no other one bytes
 pub record ForgettingIsAlike : Type 0 where
   pub itself : (all : List Event) (kept : Kept) → AreAlike all kept kept
   pub steps : (event : Event) (all : List Event) (one other : Kept) → AreAlike (event ∷ all) one other
@@ -40,6 +48,8 @@ pub record ForgettingIsAlike : Type 0 where
       × AreAlike all (kept_step one event).kept (kept_step other event).kept
   pub forgets : (at : ℕ) (all : List Event) (one other : Kept) → AreSilentOf all at → AreAlike all one other
       → AreAlike all (with_forgotten one at) other
+  pub makes : (event : Event) (all : List Event) (kept : Kept) → AreWanted (event ∷ all) kept.datagrams
+      → AreWantedBefore (event ∷ all) (kept_step kept event).kept.datagrams
 
 -- ---- which datagrams later lines name
 
@@ -51,10 +61,6 @@ pub record TellsLast (last : List ℕ) (all : List Event) : Type 0 where
       → (get_or last at 0 ≤ length all) × (named_by (get_or all (get_or last at 0 - 1) event) ≡ Some at)
 
 -- ---- what is let go
-
--- only datagrams that one of these lines names have bytes
-abbrev pub AreWanted : List Event → List SentBytes → Type 0
-AreWanted all datagrams = (at : ℕ) → AreSilentOf all at → IfSome (slice_get datagrams at) (λ sent. sent.bytes ≡ [])
 
 -- what is let go after so many lines: datagrams lose their bytes, and nothing else is another
 pub record LetsGo (last : List ℕ) (done : ℕ) (old now : Counting) : Type 0 where

@@ -82,7 +82,8 @@ pub fn slots_apart()
     layers();
 }
 
-/// Lines answer alike, and do alike to files, whatever datagrams were forgotten that none of them names.
+/// Lines answer alike, and do alike to files, whatever datagrams were forgotten that none of them names; and a line gives none but the
+/// datagram that it makes bytes.
 pub fn forgetting_is_alike()
     ensures { ForgettingIsAlike }
 {}

@@ -1,6 +1,6 @@
 //! Both ends over a schedule of events: the world of a replay.
 
-ghost use Rattle.std.specs.Prelude.{◌≡◌, ◌+◌, ◌-◌, ◌<◌, ◌≤◌, ℕ, List, [], ◌∷◌, Option, drop, length, slice_get, option_map, IfOk, IfSome, IsSome, OnOk, IsErrOf};
+ghost use Rattle.std.specs.Prelude.{◌≡◌, ◌-◌, ◌<◌, ◌≤◌, ℕ, List, [], ◌∷◌, Option, drop, length, slice_get, option_map, IfOk, IfSome, IsSome, OnOk, IsErrOf};
 ghost use Rattle.q3_profile.specs.declared.profile.Profile.{Profile as ProfileValue};
 ghost use Rattle.q3_profile.specs.Profile.{IsProfile, IsCodec};
 ghost use Rattle.q3_script.specs.Grammar.{IsReplayEvent};
@@ -9,7 +9,7 @@ ghost use Rattle.q3_server.specs.Server.{places, emit_at};
 ghost use Rattle.q3_report.specs.AnswerLines.{lines_of};
 ghost use Rattle.q3_report.specs.Answers.{Bytes};
 ghost use Rattle.q3_counts.specs.Counts.{no_counts, counted};
-ghost use Rattle.q3_world.specs.Forgetting.{TellsLast, AreSilentOf, AreWanted, LetsGo};
+ghost use Rattle.q3_world.specs.Forgetting.{TellsLast, AreSilentOf, AreWanted, AreWantedBefore, LetsGo};
 ghost use Rattle.q3_script.specs.declared.event.Event.{Event as EventValue};
 ghost use Rattle.q3_world.specs.Ends.{place_at, step_in, line_of};
 ghost use Rattle.q3_world.specs.Kept.{most_datagrams, opening_kept, deliver_at, kept_bytes, kept_ends, kept_serve, kept_send, kept_step};
@@ -315,8 +315,7 @@ impl World {
         ensures lets_go { LetsGo later.now done self.old self.new }
         ensures wanted { (all : List EventValue) → TellsLast later.now all
             → length self.old.kept.datagrams ≤ length all
-            → ((at : ℕ) → at + 1 < length self.old.kept.datagrams → AreSilentOf (event.now ∷ drop done all) at
-            → IfSome (slice_get self.old.kept.datagrams at) (λ sent. sent.bytes ≡ []))
+            → AreWantedBefore (event.now ∷ drop done all) self.old.kept.datagrams
             → AreWanted (drop done all) self.new.kept.datagrams }
     {
         self.forget(later, named(event), done);

@@ -1,7 +1,8 @@
 -- Stepping over events while datagrams are forgotten that no later one names: the world is alike the one that keeps them all.
-use Rattle.std.proofs.Common.{◌≡◌, ℕ, ◌+◌, ◌<◌, List, [], ◌∷◌, ◌++◌, length, get_or, take, drop, Option, Result, refl, sym, ap, subst, ◌∙◌}
-use Rattle.std.specs.Prelude.{true}
+use Rattle.std.proofs.Common.{◌≡◌, ℕ, ◌+◌, ◌<◌, ◌≤◌, List, [], ◌∷◌, ◌++◌, length, get_or, take, drop, Option, Result, refl, sym, ap, subst, ◌∙◌, arith}
+use Rattle.std.specs.Prelude.{true, Option, IfSome}
 use Rattle.std.proofs.lemmas.List.{drop_more}
+use Rattle.std.proofs.lemmas.Option.{slice_get_past}
 use Rattle.std.proofs.Math.Seq.{take-add}
 use Rattle.q3_profile.specs.declared.profile.Profile.{Profile}
 use Rattle.q3_script.specs.declared.event.Event.{Event}
@@ -10,8 +11,8 @@ use Rattle.q3_io.specs.Acts.{FileAct}
 use Rattle.q3_report.specs.Answers.{Answered}
 use Rattle.q3_world.specs.ByTags.{StepFollows}
 use Rattle.q3_world.specs.Files.{acts_of}
-use Rattle.q3_world.specs.Forgetting.{AreAlike, ForgettingIsAlike}
-use Rattle.q3_world.specs.Kept.{Kept, kept_step, kept_after}
+use Rattle.q3_world.specs.Forgetting.{AreAlike, AreWanted, AreWantedBefore, ForgettingIsAlike}
+use Rattle.q3_world.specs.Kept.{SentBytes, Kept, kept_step, kept_after}
 use Rattle.q3_world.specs.World.{Whole, step}
 use Rattle.q3_world.specs.StandsFor.{StandsFor}
 use Rattle.q3_io.specs.Laws.{TextsFollow}
@@ -105,3 +106,16 @@ module _ (law : StepFollows) (profile : Profile) (start now : Kept) (events : Li
   pub prints_full : (had after : Option Written) (result : Result (Unit {0}) StepError) → Prints had after (lines_of (kept_step now event).answer) result
       → (whole : Whole) → StandsFor profile (full_at start events k) whole → Prints had after (lines_of (step profile whole event).answer) result
   prints_full had after result printed whole stands = subst (λ (a : Answered). Prints had after (lines_of a) result) (answer_full whole stands) printed
+
+-- ---- what has bytes
+
+pub wanted_begin : (all : List Event) (datagrams : List SentBytes) → length datagrams ≡ 0 → AreWanted all datagrams
+wanted_begin all datagrams none = λ at silent.
+    let past : length datagrams ≤ at = omega (arith, none) in
+    subst (λ (found : Option SentBytes). IfSome found (λ (sent : SentBytes). sent.bytes ≡ [])) (sym (slice_get_past datagrams at past)) tt
+
+-- after the k-th event, and before what it leaves is let go
+pub wanted_more : ForgettingIsAlike → (now : Kept) (events : List Event) (k : ℕ) (event : Event) → event ≡ get_or events k event → k < length events
+    → AreWanted (drop k events) now.datagrams → AreWantedBefore (event ∷ drop (k + 1) events) (kept_step now event).kept.datagrams
+wanted_more law now events k event is lt wanted =
+    law.makes event (drop (k + 1) events) now (subst (λ (left : List Event). AreWanted left now.datagrams) (left_is events k event is lt) wanted)

@@ -1,11 +1,12 @@
 //! Replays the schedule of a script by a profile.
 
-ghost use Rattle.std.specs.Prelude.{◌≡◌, ◌+◌, ◌<◌, All, length};
+ghost use Rattle.std.specs.Prelude.{◌≡◌, ◌+◌, ◌<◌, [], All, IsOk, length};
 ghost use Rattle.q3_profile.specs.declared.profile.Profile.{Profile as ProfileValue};
 ghost use Rattle.q3_script.specs.Grammar.{IsReplayEvent};
 ghost use Rattle.q3_io.specs.Faults.{HasCause};
 ghost use Rattle.q3_world.specs.Files.{AreNumbered, acts_from, by_files, ending_acts};
 ghost use Rattle.q3_world.specs.Outcome.{HasStepCause};
+ghost use Rattle.q3_world.specs.Forgetting.{AreWanted};
 ghost use Rattle.q3_world.specs.Kept.{most_datagrams};
 ghost use Rattle.q3_world.specs.World.{Whole, answers};
 ghost use Rattle.q3_world.specs.StandsFor.{StandsFor};
@@ -80,6 +81,7 @@ fn step_all<F: Files, O: Sink>(
     ensures file_cause { HasCause (F.write_faults files.old) (F.write_faults files.new) (by_files result) }
     ensures reads { F.faults files.new ≡ F.faults files.old }
     ensures numbered { AreNumbered (F.told files.new) (F.given files.new) world.new.numbers world.new.kept.ends }
+    ensures forgets { length world.old.kept.datagrams ≡ 0 → IsOk result → AreWanted [] world.new.kept.datagrams }
 {
     q3_io::laws::texts_follow();
     laws::step_follows();

@@ -1,4 +1,4 @@
-use Rattle.std.proofs.Common.{◌≡◌, ◌≢◌, ℕ, List, [], drop, ◌+◌, Ok, Err, IsErr, refl, sym, ap, subst, arith, ◌∙◌}
+use Rattle.std.proofs.Common.{◌≡◌, ◌≢◌, ℕ, List, [], ◌∷◌, length, drop, drop_of_length-le, ◌+◌, ◌≤◌, Ok, Err, IsErr, refl, sym, ap, subst, arith, ◌∙◌}
 use Rattle.std.proofs.lemmas.Grind.{common_steps}
 use Rattle.std.proofs.lemmas.Result.{err_from_is_err_and}
 use Rattle.q3_script.specs.declared.event.Event.{Event}
@@ -6,13 +6,13 @@ use Rattle.q3_script.specs.Grammar.{IsReplayEvent}
 use Rattle.q3_io.specs.Acts.{FileAct, ActsOn}
 use Rattle.q3_world.specs.Ends.{Ends}
 use Rattle.q3_world.specs.Files.{AreNumbered, acts_by, acts_of, acts_from, by_files, ending_acts}
-use Rattle.q3_world.specs.Forgetting.{AreAlike}
+use Rattle.q3_world.specs.Forgetting.{AreAlike, AreWanted, AreWantedBefore}
 use Rattle.q3_world.specs.Kept.{Kept, kept_step}
 use Rattle.q3_runs.proofs.Acting.{none_on}
 use Rattle.q3net.specs.Run.{DoesFirst}
 use Rattle.q3net.proofs.Acting.{HasActed-more, HasActed-early, HasActed-all}
 use Rattle.q3net.proofs.Stepping.{HasStepped-more, HasStepped-early, HasStepped-all}
-use Rattle.q3net.proofs.Thinning.{full_at, full_of, IsAlike-begin, does_alike, DoesAlike, stepped_begin, acted_begin, stands_full, prints_full}
+use Rattle.q3net.proofs.Thinning.{full_at, full_of, IsAlike-begin, does_alike, DoesAlike, stepped_begin, acted_begin, stands_full, prints_full, wanted_begin, wanted_more}
 use Rattle.q3net.proofs.replay.step_all.Goals as goal
 
 pub returns-in_err-step-clause-adds : goal.returns-in_err-step-clause-adds
@@ -63,6 +63,7 @@ loop-event-init g c = (
   c.requires.numbered,
   IsAlike-begin c.forgetting_is_alike.ensures c.args.world.now.kept c.args.events.now,
   refl,
+  λ none. wanted_begin c.args.events.now c.args.world.now.kept.datagrams none,
 )
 
 pub loop-event-preserved : goal.loop-event-preserved
@@ -93,6 +94,15 @@ loop-event-preserved g c =
           (gone.alike c.args.events.now (full_at start.kept c.args.events.now (index + 1)) c.in-Ok.ensures
           (subst (λ (n : ℕ). AreAlike (drop n c.args.events.now) c.step.new.self.kept (full_at start.kept c.args.events.now (index + 1))) (sym same) left)),
       omega (arith, c.loop-event.invariant.8),
+      λ none. (
+          let events = c.args.events.now in
+          let before = wanted_more c.forgetting_is_alike.ensures c.loop-event.world.kept events index event c.event-item.is c.loop-event-test.true (c.loop-event.invariant.9 none) in
+          let within : length c.step.new.self.kept.datagrams ≤ length events = omega (arith, none, c.loop-event.invariant.1, done.few, c.loop-event-test.true) in
+          subst (λ (n : ℕ). AreWanted (drop n events) c.forget_unnamed.new.self.kept.datagrams) same
+          (c.forget_unnamed.ensures.wanted events c.in-Ok.ensures within
+          (subst (λ (n : ℕ). AreWantedBefore (event ∷ drop n events) c.step.new.self.kept.datagrams) (sym same)
+          (subst (λ (kept : Kept). AreWantedBefore (event ∷ drop (index + 1) events) kept.datagrams) (sym done.kept) before)))
+          ),
     )
 
 pub returns-clause-adds : goal.returns-clause-adds
@@ -105,3 +115,9 @@ returns-clause-files g c =
     let index = c.loop-event.event-index in
     subst (λ (ends : Ends). DoesFirst (g.F.Files.told c.args.files.now) (g.F.Files.told c.loop-event.files) (acts_from start c.args.events.now) (ending_acts ends) (Ok tt)) (sym c.loop-event.invariant.7.ends)
     (HasActed-all start (full_at start c.args.events.now index) (g.F.Files.told c.args.files.now) (g.F.Files.told c.loop-event.files) c.args.events.now index c.loop-event-test.false c.loop-event.invariant.3)
+
+pub returns-clause-forgets : goal.returns-clause-forgets
+returns-clause-forgets g c = λ none ok.
+    let events = c.args.events.now in
+    let all : length events ≤ c.loop-event.event-index = omega (arith, c.loop-event-test.false) in
+    subst (λ (left : List Event). AreWanted left c.loop-event.world.kept.datagrams) (drop_of_length-le events all) (c.loop-event.invariant.9 none)

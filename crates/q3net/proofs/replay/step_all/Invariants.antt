@@ -1,6 +1,7 @@
-use Rattle.std.proofs.Common.{◌≡◌, ◌+◌, ◌≤◌, length}
+use Rattle.std.proofs.Common.{◌≡◌, ◌+◌, ◌≤◌, length, drop}
 use Rattle.q3_profile.specs.declared.profile.Profile.{Profile}
 use Rattle.q3_world.specs.Files.{AreNumbered}
+use Rattle.q3_world.specs.Forgetting.{AreWanted}
 use Rattle.q3net.proofs.Acting.{HasActed}
 use Rattle.q3net.proofs.Stepping.{HasStepped}
 use Rattle.q3net.proofs.Thinning.{full_at, full_of, IsAlike}
@@ -17,3 +18,4 @@ invariant-loop-event g l =
     × AreNumbered (g.F.Files.told l.files) (g.F.Files.given l.files) l.world.numbers l.world.kept.ends
     × IsAlike l.initial.world.kept l.world.kept l.events l.event-index
     × (l.done ≡ l.event-index)
+    × (length l.initial.world.kept.datagrams ≡ 0 → AreWanted (drop l.event-index l.events) l.world.kept.datagrams)
