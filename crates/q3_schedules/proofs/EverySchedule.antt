@@ -52,7 +52,7 @@ use Rattle.q3_world.specs.ByTags.{kept_then, whole_then, BytesFollowTags}
 use Rattle.q3_world.specs.Answering.{outcome_of, applied_of, is_game, outcome_in}
 use Rattle.q3_schedules.specs.Schedules.{AcceptedWereBuilt, ShownWasBuilt, ShownIsNewest, AsksForAccepted, heard_of, Shows, AppliedWasBuilt, NewerIsAccepted, BasesWereAccepted, HeldIsAccepted, ViewsWereBuilt, ClientTookSo, StateIsOfGame}
 use Rattle.q3_world.proofs.Holding.{Holds, Has, has_client}
-use Rattle.q3_world.proofs.Agree.{Cited}
+use Rattle.q3_world.proofs.StepsByTags.{Cited}
 use Rattle.q3_world.proofs.ByTags.{cited_of}
 use Rattle.q3_world.proofs.Arriving.{IsFor, Named, names, is_sent, is_for, tag_is}
 use Rattle.q3_schedules.proofs.Stood.{Then, delivers_same, holds_of, of_each, of_there, place_of, step_own, stood}

@@ -29,7 +29,7 @@ use Rattle.q3_schedules.specs.Schedules.{SaysNoChange, StringsFollow}
 use Rattle.q3_world.specs.StandsFor.{IsChecked, acks_said, carried_built}
 use Rattle.q3_world.specs.World.{History, Played, Whole, after, built_at, history_at, no_history, opening, serve, step, with_built, with_history}
 use Rattle.q3_world.proofs.Holding.{Holds}
-use Rattle.q3_schedules.proofs.Follows.{Grew, Grew-none, HasHeard, IsFollowed, IsHeard, follows_nothing}
+use Rattle.q3_schedules.proofs.StringsSince.{Grew, Grew-none, HasHeard, IsFollowed, IsHeard, follows_nothing}
 use Rattle.q3_schedules.proofs.FollowsEvents.{follows_on, issued_count}
 use Rattle.q3_schedules.proofs.FollowsGiven.{At, state_in}
 use Rattle.q3_schedules.proofs.FollowsHeard.{BeginsSo, TellsOf, emits_so}

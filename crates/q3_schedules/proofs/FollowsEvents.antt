@@ -51,7 +51,7 @@ use Rattle.q3_world.specs.World.{History, Tag, Whole, arrive, deliver, deliver_a
 use Rattle.q3_world.specs.declared.made.Direction.{Direction}
 use Rattle.q3_world.specs.declared.made.Direction.TheVariants.{ToClient, ToServer}
 use Rattle.q3_world.proofs.Holding.{Holds, has_client, has_slot}
-use Rattle.q3_schedules.proofs.Follows.{follows_built}
+use Rattle.q3_schedules.proofs.StringsSince.{follows_built}
 use Rattle.q3_schedules.proofs.FollowsGiven.{At, Of, both_changed, configs, gives, history_changed, in_range_follows, joins, baselines, maps, noting, ports, records, same_map, same_state, says, state_in, stops, unnoted}
 use Rattle.q3_schedules.proofs.FollowsHeard.{BeginsSo, TellsOf, emits_so, hears_it, take_follows}
 

@@ -46,7 +46,7 @@ use Rattle.q3_ends.specs.AtServer.{ServerStep, in_range}
 use Rattle.q3_world.proofs.Ranged.{in_range_or}
 use Rattle.q3_world.proofs.Clients.{no_client}
 use Rattle.q3_world.proofs.Holding.{Holds, has_slot}
-use Rattle.q3_schedules.proofs.Follows.{Follows, follows_anew, follows_issued, follows_joined, no_commands, nothing_changes}
+use Rattle.q3_schedules.proofs.StringsSince.{Follows, follows_anew, follows_issued, follows_joined, no_commands, nothing_changes}
 use Rattle.q3_schedules.proofs.PiecesEnd.{none_leave, pieces_leave}
 use Rattle.q3_world.proofs.GamesParts.{cases_option}
 use Rattle.q3_world.proofs.Growth.{noted_same}

@@ -37,7 +37,7 @@ use Rattle.q3_world.specs.Games.{HasGames}
 use Rattle.q3_world.specs.StandsFor.{AreCommanded}
 use Rattle.q3_world.specs.World.{History, Played, built_at, texts_of, with_game, with_heard, with_taken}
 use Rattle.q3_world.proofs.Commanded.{client_hears}
-use Rattle.q3_schedules.proofs.Follows.{Follows, HasHeard, IsHeard, follows_taken}
+use Rattle.q3_schedules.proofs.StringsSince.{Follows, HasHeard, IsHeard, follows_taken}
 
 -- ---- a message is begun
 

@@ -50,7 +50,7 @@ use Rattle.q3_world.specs.ByTags.{StepFollows}
 use Rattle.q3_world.specs.Answering.{outcome_of, outcome_in}
 use Rattle.q3_schedules.specs.Schedules.{MayBecome, IsLegible, IsReadByClient, IsReadByServer, AlwaysLegible}
 use Rattle.q3_world.proofs.Holding.{Holds, has_slot, has_client}
-use Rattle.q3_world.proofs.Agree.{Cited}
+use Rattle.q3_world.proofs.StepsByTags.{Cited}
 use Rattle.q3_world.proofs.Arriving.{IsFor, IsOf, names, is_sent, is_for, is_of_client, slot_of_tag, said_hears}
 use Rattle.q3_schedules.proofs.EverySchedule.{outcome}
 use Rattle.q3_world.proofs.ByTags.{cited_of, stands_opening}

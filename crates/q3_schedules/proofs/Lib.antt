@@ -14,7 +14,7 @@ mod Prefixes
 mod Keys
 mod ServedShown
 mod PiecesEnd
-mod Follows
+mod StringsSince
 mod FollowsHeard
 mod FollowsGiven
 mod FollowsEvents

@@ -17,7 +17,7 @@ use Rattle.q3_world.specs.Layers.{Layers}
 use Rattle.q3_world.specs.StandsFor.{acks_said, carried_built}
 use Rattle.q3_world.specs.World.{History, Played, built_at, history_at, no_history, no_message}
 use Rattle.q3_world.proofs.GamesParts.{has_played, newest}
-use Rattle.q3_schedules.proofs.Follows.{HasHeard, IsHeard}
+use Rattle.q3_schedules.proofs.StringsSince.{HasHeard, IsHeard}
 use Rattle.q3_schedules.proofs.FollowsGiven.{At}
 use Rattle.q3_schedules.proofs.FollowsHeard.{built_last}
 use Rattle.q3_schedules.proofs.Following.{follows_along, follows_first, heard_of}

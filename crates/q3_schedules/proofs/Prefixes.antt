@@ -30,7 +30,7 @@ use Rattle.q3_world.specs.Layers.{Layers}
 use Rattle.q3_world.specs.ByTags.{kept_then, whole_then, BytesFollowTags}
 use Rattle.q3_schedules.specs.Schedules.{GoesOn, CommandsArePrefixes, ExecutedGoesOn}
 use Rattle.q3_world.proofs.Holding.{Holds, Has, has_client, has_slot}
-use Rattle.q3_world.proofs.Agree.{Cited}
+use Rattle.q3_world.proofs.StepsByTags.{Cited}
 use Rattle.q3_world.proofs.Arriving.{IsFor, IsOf, quiet_client, quiet_slot, client_of_tag, slot_of_tag, names, said_hears, is_sent, is_for, is_of_client}
 use Rattle.q3_world.proofs.ByTags.{cited_of}
 use Rattle.q3_world.proofs.OnePlace.{set_there}

@@ -30,7 +30,7 @@ use Rattle.q3_world.proofs.MoveLists.{stand_among}
 use Rattle.q3_world.proofs.Holding.{Holds, has_slot, Has}
 use Rattle.q3_world.proofs.Arriving.{is_sent, is_of_client, said_tag_is, runs_whole, said_hears, IsOf}
 use Rattle.q3_world.proofs.OnePlace.{set_there}
-use Rattle.q3_world.proofs.Agree.{seen, Cited}
+use Rattle.q3_world.proofs.StepsByTags.{seen, Cited}
 use Rattle.q3_schedules.proofs.EverySchedule.{tag_of, came_whole}
 use Rattle.q3_world.proofs.ByTags.{cited_of}
 use Rattle.q3_map.specs.Map.{MapState, is_other}

@@ -40,7 +40,7 @@ use Rattle.q3_schedules.specs.Schedules.{heard_of, history_then, ArePieces, deli
 use Rattle.q3_world.proofs.Growth.{noted_same}
 use Rattle.q3_world.proofs.Clients.{slot_begun}
 use Rattle.q3_world.proofs.Holding.{Holds, with_server_of, has_client}
-use Rattle.q3_world.proofs.Begun.{slot_handed, handed_tag}
+use Rattle.q3_world.proofs.HandedOut.{slot_handed, handed_tag}
 use Rattle.q3_schedules.proofs.EverySchedule.{shows}
 use Rattle.q3_schedules.proofs.InOrder.{reached_none, reached_all, both_are}
 use Rattle.q3_world.proofs.OnePlace.{set_there}

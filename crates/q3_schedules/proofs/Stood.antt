@@ -19,8 +19,8 @@ use Rattle.q3_world.specs.StandsFor.{AllJoined, Facts, IsChecked, IsClient, IsJo
 use Rattle.q3_world.proofs.StaysForeign.{sends_so, delivers_so}
 use Rattle.q3_world.specs.ByTags.{BytesFollowTags, IsOwn, kept_then, whole_then}
 use Rattle.q3_schedules.specs.Schedules.{IsScheduled}
-use Rattle.q3_world.proofs.Agree.{Cited, kept_of, seen}
-use Rattle.q3_world.proofs.Agreement.{kept_so}
+use Rattle.q3_world.proofs.StepsByTags.{Cited, kept_of, seen}
+use Rattle.q3_world.proofs.EachStep.{kept_so}
 use Rattle.q3_world.proofs.Arriving.{delivers_agree}
 use Rattle.q3_world.proofs.Holding.{Has, Holds, has_client}
 use Rattle.q3_world.proofs.OnePlace.{OfClient}

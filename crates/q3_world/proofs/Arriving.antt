@@ -64,7 +64,7 @@ use Rattle.q3_text.specs.declared.text.Command.{Command}
 use Rattle.q3_gamestate.specs.Values.{Gamestate}
 use Rattle.q3_slot.specs.declared.stage.ClientStage.TheVariants.{Connected, Primed, Active}
 use Rattle.q3_world.proofs.Came as taking
-use Rattle.q3_world.proofs.Agree.{Cited, kept_of, Agree, found_or}
+use Rattle.q3_world.proofs.StepsByTags.{Cited, kept_of, Agree, found_or}
 use Rattle.q3_clstate.specs.declared.applied.SnapOutcome.TheVariants.{Skipped}
 use Rattle.q3_map.specs.Map.{MapState, is_other}
 use Rattle.q3_slot.specs.declared.stage.ClientStage.{ClientStage}

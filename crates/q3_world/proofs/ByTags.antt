@@ -15,8 +15,8 @@ use Rattle.q3_world.specs.World.{Whole, opening, step, after, answers}
 use Rattle.q3_world.specs.StandsFor.{IsChecked, StandsFor}
 use Rattle.q3_world.specs.ByTags.{StepFollows, BytesFollowTags}
 use Rattle.q3_world.proofs.Holding.{Holds-opening}
-use Rattle.q3_world.proofs.Agree.{Cited}
-use Rattle.q3_world.proofs.Agreement.{stands_of, stands_next}
+use Rattle.q3_world.proofs.StepsByTags.{Cited}
+use Rattle.q3_world.proofs.EachStep.{stands_of, stands_next}
 
 -- what is cited of the layers below, of a profile that passed its check
 pub cited_of : Layers → (profile : Profile) → IsChecked profile → Cited profile

@@ -42,7 +42,7 @@ use Rattle.q3_world.specs.Moves.{TimesRise, AreConsecutive}
 use Rattle.q3_world.proofs.Growth.{was_built_more, each_more, messages_stay, messages_said_stay}
 use Rattle.q3_world.proofs.Bases.{accepted_has, if_some, found_base}
 use Rattle.q3_messages.proofs.Options.{if_some_then}
-use Rattle.q3_world.proofs.Beginning.{BeginsMessages-new, BeginsMessages-handed, BeginsMessages-started}
+use Rattle.q3_world.proofs.BegunStays.{BeginsMessages-new, BeginsMessages-handed, BeginsMessages-started}
 use Rattle.q3_world.proofs.MoveLists.{last_time-append, TimesRise-append, carried_consecutive, AreConsecutive-more, KeepsMoves-none, KeepsMoves-wiped, KeepsMoves-begun, KeepsMoves-push}
 
 -- ---- presence

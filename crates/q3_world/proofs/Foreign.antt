@@ -16,7 +16,7 @@ use Rattle.q3_world.specs.declared.places.Place.{Place}
 use Rattle.q3_world.specs.Ends.{EndsStep, place_at, Line, Hands, Serves, Sends, Delivers, TellsBytes, HandsBytes}
 use Rattle.q3_world.specs.Kept.{SentBytes, datagrams_after, deliver_at, kept_bytes, kept_ends, kept_said, kept_send, kept_serve, kept_line}
 use Rattle.q3_world.specs.World.{Tag, Whole, History, deliver_as, say, send, sent_after, sent_bytes, serve, whole_line, with_handed, bytes_of}
-use Rattle.q3_world.proofs.Agree.{kept_of, seen}
+use Rattle.q3_world.proofs.StepsByTags.{kept_of, seen}
 
 -- what an emission hands out
 made_seen : (sent : List Tag) (c : ℕ) (direction : Direction) (piece : Option Piece) → datagrams_after (map bytes_of sent) c direction piece ≡ map bytes_of (sent_after sent c direction piece)

@@ -65,7 +65,7 @@ use Rattle.q3_world.proofs.GamesBuilt.{AreMapped-new}
 use Rattle.q3_world.proofs.GamesMaps.{AreMapped-map, AreMapped-given, AreMapped-configured, AreMapped-baselined}
 use Rattle.q3_world.proofs.Mapped.{mapped_issued}
 use Rattle.q3_world.proofs.Issuing.{joined_told, Holds-spoken, Holds-typed}
-use Rattle.q3_world.proofs.Agree.{Cited, kept_of, Agree, found_or, unnoted, left_alone}
+use Rattle.q3_world.proofs.StepsByTags.{Cited, kept_of, Agree, found_or, unnoted, left_alone}
 
 -- ---- what the game hands in, or reads
 

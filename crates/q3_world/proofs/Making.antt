@@ -45,9 +45,9 @@ use Rattle.q3_world.proofs.Holding.{Holds, has_slot, has_client, same_server, Ha
 use Rattle.q3_world.proofs.OnePlace.{set_there}
 use Rattle.q3_world.proofs.Recorded.{holds_asking}
 use Rattle.q3_world.proofs.Given.{joined_stays}
-use Rattle.q3_world.proofs.Begun.{Holds-handed, Holds-begun, Holds-too_long, handed_tag, Holds-goes, Holds-said, said_tag, executed_by_slot}
+use Rattle.q3_world.proofs.HandedOut.{Holds-handed, Holds-begun, Holds-too_long, handed_tag, Holds-goes, Holds-said, said_tag, executed_by_slot}
 use Rattle.q3_world.proofs.GamesMaps.{AreMapped-begun}
-use Rattle.q3_world.proofs.Agree.{Cited, kept_of, Agree, found_or, unnoted, left_alone}
+use Rattle.q3_world.proofs.StepsByTags.{Cited, kept_of, Agree, found_or, unnoted, left_alone}
 use Rattle.q3_map.specs.Map.{begins_game}
 use Rattle.q3_slot.specs.declared.stage.ClientStage.TheVariants.{Primed}
 use Rattle.q3_world.proofs.Bases.{KeepsFrames-built, KeepsFrames-game, frames_begun, frames_of_game}

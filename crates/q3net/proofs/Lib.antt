@@ -1,10 +1,10 @@
-mod Acting
-mod Looking
+mod RunActs
+mod RunLooks
 mod Stepping
 mod Thinning
 mod Totals
-mod Ending
+mod RunEnds
 mod Outside
 mod Replaying
 mod Trying
-mod SoughtPlays
+mod RunSeeks

@@ -41,7 +41,7 @@ use Rattle.q3net.specs.Run.{FilesFail, IsEarlyStatus, IsDecided, IsComplete}
 use Rattle.q3_runs.proofs.Ending.{comes_after, settled_writes, settled_wire}
 use Rattle.q3_runs.proofs.Indexing.{indexed_writes}
 use Rattle.q3_runs.proofs.Refusing.{OfFault, OfInput, play_refuses, bind_of_input, profile_of_input, events_of_input}
-use Rattle.q3net.proofs.Looking.{schedules}
+use Rattle.q3net.proofs.RunLooks.{schedules}
 
 -- ---- what an input decides
 

@@ -35,8 +35,8 @@ use Rattle.q3_runs.proofs.Acting.{none_on, first_more, all_left, first_left}
 use Rattle.q3_runs.proofs.Loading.{held, same_held}
 use Rattle.q3_runs.proofs.Looking.{got_ok, gave, gave_first, came_outside, profile_names, script_names}
 use Rattle.q3_runs.proofs.Ending.{refused_so, wants_memory, fails_reading, writes_some}
-use Rattle.q3net.proofs.Acting.{acted_all}
-use Rattle.q3net.proofs.Looking.{schedules}
+use Rattle.q3net.proofs.RunActs.{acted_all}
+use Rattle.q3net.proofs.RunLooks.{schedules}
 use Rattle.q3net.proofs.Stepping.{all_lines, lines-all}
 
 -- ---- the verdict

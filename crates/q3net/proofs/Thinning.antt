@@ -22,7 +22,7 @@ use Rattle.q3_report.specs.AnswerLines.{lines_of}
 use Rattle.q3_world.specs.Counting.{Counting}
 use Rattle.q3_world.specs.Outcome.{Prints}
 use Rattle.q3_world.specs.declared.told.StepError.{StepError}
-use Rattle.q3net.proofs.Acting.{HasActed, HasActed-begin}
+use Rattle.q3net.proofs.RunActs.{HasActed, HasActed-begin}
 use Rattle.q3net.proofs.Stepping.{HasStepped, HasStepped-begin}
 
 -- what a world keeps that forgets nothing, after the first so many events

@@ -4,7 +4,7 @@ use Rattle.q3_make.specs.Generated.{generated}
 use Rattle.q3_counts.specs.Counts.{counted_all}
 use Rattle.q3_world.specs.World.{opening, answers}
 use Rattle.q3net.specs.Summary.{summary_text}
-use Rattle.q3net.proofs.Looking.{trial_gives, trial_gave}
+use Rattle.q3net.proofs.RunLooks.{trial_gives, trial_gave}
 use Rattle.q3net.proofs.Replaying.{nothing_sent}
 use Rattle.q3net.proofs.Trying.{trial_refused, trial_stopped, summed, trial_done}
 use Rattle.q3net.proofs.generated.trial.Goals as goal

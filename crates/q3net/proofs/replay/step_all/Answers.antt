@@ -10,7 +10,7 @@ use Rattle.q3_world.specs.Forgetting.{AreAlike, AreWanted, AreWantedBefore}
 use Rattle.q3_world.specs.Kept.{Kept, kept_step}
 use Rattle.q3_runs.proofs.Acting.{none_on}
 use Rattle.q3net.specs.Run.{DoesFirst}
-use Rattle.q3net.proofs.Acting.{HasActed-more, HasActed-early, HasActed-all}
+use Rattle.q3net.proofs.RunActs.{HasActed-more, HasActed-early, HasActed-all}
 use Rattle.q3net.proofs.Stepping.{HasStepped-more, HasStepped-early, HasStepped-all}
 use Rattle.q3net.proofs.Thinning.{full_at, full_of, IsAlike-begin, does_alike, DoesAlike, stepped_begin, acted_begin, stands_full, prints_full, wanted_begin, wanted_more}
 use Rattle.q3net.proofs.replay.step_all.Goals as goal

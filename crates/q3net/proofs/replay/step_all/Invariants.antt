@@ -2,7 +2,7 @@ use Rattle.std.proofs.Common.{◌≡◌, ◌+◌, ◌≤◌, length, drop}
 use Rattle.q3_profile.specs.declared.profile.Profile.{Profile}
 use Rattle.q3_world.specs.Files.{AreNumbered}
 use Rattle.q3_world.specs.Forgetting.{AreWanted}
-use Rattle.q3net.proofs.Acting.{HasActed}
+use Rattle.q3net.proofs.RunActs.{HasActed}
 use Rattle.q3net.proofs.Stepping.{HasStepped}
 use Rattle.q3net.proofs.Thinning.{full_at, full_of, IsAlike}
 use Rattle.q3net.proofs.replay.step_all.Given as goal

@@ -6,8 +6,8 @@ use Rattle.q3_runs.specs.Verdict.{outside, stops_nowhere, takes_memory}
 use Rattle.q3net.specs.Lines.{help_text, version_text}
 use Rattle.q3net.specs.Verdict.{of_files, IsVerdict}
 use Rattle.q3_runs.proofs.Ending.{text_executes}
-use Rattle.q3net.proofs.Ending.{none_executes}
-use Rattle.q3net.proofs.Looking.{none_given, text_given}
+use Rattle.q3net.proofs.RunEnds.{none_executes}
+use Rattle.q3net.proofs.RunLooks.{none_given, text_given}
 use Rattle.q3net.proofs.Outside.{no_file_fails, no_read_fails, no_wire_fails, wire_stays, make_makes_nothing, trial_makes_nothing, play_makes_nothing, play_wires_nothing, replay_wires_nothing, make_wires_nothing, trial_wires_nothing, make_reads_nothing, index_wires_nothing, seek_wires_nothing, seek_makes_nothing}
 use Rattle.q3net.proofs.run.execute.Goals as goal
 

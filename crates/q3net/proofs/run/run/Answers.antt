@@ -4,10 +4,10 @@ use Rattle.std.specs.String.{string_bytes}
 use Rattle.q3_command.specs.Command.{command_of}
 use Rattle.q3_runs.specs.Run.{left_so}
 use Rattle.q3_runs.specs.Verdict.{outside}
-use Rattle.q3net.proofs.Ending.{prints, reports}
-use Rattle.q3net.proofs.Looking.{touches, has_left}
+use Rattle.q3net.proofs.RunEnds.{prints, reports}
+use Rattle.q3net.proofs.RunLooks.{touches, has_left}
 use Rattle.q3net.proofs.Outside.{executes_of, files_failed, usage_of_none, four_fails, completes, decides, no_command_so, nine_fails, no_wire_passed, statuses_in}
-use Rattle.q3net.proofs.SoughtPlays.{seeks_as}
+use Rattle.q3net.proofs.RunSeeks.{seeks_as}
 use Rattle.q3net.proofs.run.run.Goals as goal
 
 pub returns-clause-prints : goal.returns-clause-prints

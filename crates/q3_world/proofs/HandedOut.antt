@@ -31,7 +31,7 @@ use Rattle.q3_messages.proofs.Options.{if_some_then}
 use Rattle.q3_world.proofs.Clients.{KeepsSlot-handed, KeepsClient-handed, KeepsClient-begun, client_begun, slot_begun, KeepsSlot-begun, BaseIs, next_number, KeepsSlot-stands}
 use Rattle.q3_world.proofs.Joined.{TakesBuilt-same, TakesSaid-same, TakesBuilt-more, TakesSaid-more, AreAsked-same, AreAsked-said, AreAsked-built}
 use Rattle.q3_world.proofs.Commanded.{MayName, may_name, AreCommanded-built, AreCommanded-said, ack_built, carriage_built}
-use Rattle.q3_world.proofs.Beginning.{handed_piece}
+use Rattle.q3_world.proofs.BegunStays.{handed_piece}
 use Rattle.q3_slot.specs.declared.stage.ClientStage.{ClientStage}
 use Rattle.q3_world.specs.Games.{AreMapped, accepted_since, standing_of}
 use Rattle.q3_world.proofs.Holding.{Holds, Has, has_slot, has_client, sent_grows, sent_more, with_server_of, Holds-slot, frames_stay, with_client_of, Holds-client}

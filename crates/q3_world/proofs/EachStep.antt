@@ -21,7 +21,7 @@ use Rattle.q3_world.specs.Kept.{SentBytes, Kept, KeptStep, kept_ends, kept_step}
 use Rattle.q3_world.specs.World.{Whole, History, history_at, with_history, with_joined, with_spoken, with_typed, with_issued, noted, with_noted, step, whole_line, with_handed, bytes_of}
 use Rattle.q3_world.specs.StandsFor.{StandsFor}
 use Rattle.q3_world.proofs.Holding.{Holds}
-use Rattle.q3_world.proofs.Agree.{Cited, kept_of, seen, Agree}
+use Rattle.q3_world.proofs.StepsByTags.{Cited, kept_of, seen, Agree}
 use Rattle.q3_world.proofs.HandedIn.{handed, noting, holds_join, holds_new_map, holds_baseline, holds_config, holds_time, holds_entity, holds_removed, holds_player, holds_area, holds_say, holds_type, holds_move}
 use Rattle.q3_world.proofs.Making.{served, sends_agree}
 use Rattle.q3_world.proofs.Arriving.{delivers_agree}
