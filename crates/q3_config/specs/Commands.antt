@@ -76,7 +76,7 @@ unfoldable pub quoted_in : List ℕ → Option (List ℕ)
 quoted_in [] = None
 quoted_in (first ∷ text) = if first == 34 then closed_in (cut_at 34 text) else None
 
--- the change that a text is, if it has the shape: one of the four words, an index from 0 to 1023 in decimal, and a text in
+-- the change that a text tells, if it tells one: it is one of the four words, an index from 0 to 1023 in decimal, and a text in
 -- quotes with no quote in it, with one space between them
 unfoldable pub change_in : List ℕ → Option Change
 change_in text = do

@@ -12,11 +12,8 @@ use q3_clstate::ClState;
 use q3_entity_ring::PLACES;
 use q3_gamestate::Numbers;
 use q3_strings::{OperationError, read_row};
-use q3_svmsg::{GameParts, SnapParts, write_game_parts, write_parts};
+use q3_svmsg::{GameParts, SERVER_COMMAND, SnapParts, write_game_parts, write_parts};
 use q3_text::{CommandRun, Commands};
-
-/// The operation of a server's command.
-const SERVER_COMMAND: u32 = 5;
 
 /// Writes the gamestate that a client has to the front of a buffer of 16,384 bytes, as a message whose leading long is the number of the
 /// last command that the client issued, and answers its length. `Overflow` comes exactly where it is longer.

@@ -17,7 +17,7 @@ use q3_io::Files;
 pub const LONGEST_RECORD: usize = LONGEST_MESSAGE;
 
 /// A record's number and length, in bytes.
-const HEAD_BYTES: usize = 8;
+pub(crate) const HEAD_BYTES: usize = 8;
 
 /// After this place no head ends below 2^64.
 const LAST_HEAD: u64 = u64::MAX - 8;

@@ -11,7 +11,7 @@ ghost use Rattle.q3_demo.specs.Recording.{composed, game_bits, note_at, closing,
 ghost use Rattle.q3_demo.specs.Recorder.{new_recorder, most_added, is_waiting, MayNote, AppendsBytes, noted_as, done};
 
 use crate::compose::{compose_game, compose_whole};
-use crate::record::LONGEST_RECORD;
+use crate::record::{HEAD_BYTES, LONGEST_RECORD};
 use byteorder::{ByteOrder, LittleEndian};
 use q3_bits::{NoMemory, Overflow};
 use q3_clstate::{Applied, ClState, SnapOutcome};
@@ -20,14 +20,11 @@ use q3_text::Commands;
 use std::alloc::Global;
 use std::marker::Model;
 
-/// A record's number and length, in bytes.
-const HEAD: usize = 8;
-
 /// What ends a demo.
-const END: [u8; HEAD] = [255; HEAD];
+const END: [u8; HEAD_BYTES] = [255; HEAD_BYTES];
 
 /// At most so many bytes are added at once: the gamestate and the first message.
-const MOST_ADDED: usize = 2 * (HEAD + LONGEST_RECORD);
+const MOST_ADDED: usize = 2 * (HEAD_BYTES + LONGEST_RECORD);
 
 /// How far a recording is.
 #[derive(Clone, Copy, Debug, PartialEq, Eq)]
@@ -324,12 +321,12 @@ fn put_record(buffer: &mut Vec<u8>, place: usize, number: u32, message: &[u8]) -
     ensures place { result ≡ place + length message.now + 8 }
     ensures long { length buffer.new.items ≡ length buffer.old.items }
 {
-    let mut head = [0; HEAD];
+    let mut head = [0; HEAD_BYTES];
     LittleEndian::write_u32(&mut head, number);
     LittleEndian::write_u32(&mut head[4..], message.len() as u32);
     put_at(buffer, place, &head);
-    put_at(buffer, place + HEAD, message);
-    place + HEAD + message.len()
+    put_at(buffer, place + HEAD_BYTES, message);
+    place + HEAD_BYTES + message.len()
 }
 
 /// Puts bytes at a place of a buffer.

@@ -88,8 +88,8 @@ abbrev pub sending_of : Option SlotState → Option ℕ
 sending_of None = None
 sending_of (Some slot) = option_map (λ left. slot.sending.number) slot.sending.under_way
 
--- the slot on a new map: its client is connected, and nothing of the last map stays but the time of its last move that was run, and
--- whether its snapshots are delayed
+-- the slot on a new map: its client is connected, no gamestate was begun for it and none is owed, it asks for no delta, and has no player
+-- and no area. All else stays, so the time of its last move that was run too
 abbrev pub on_new_map : SlotState → SlotState
 on_new_map slot = record slot {
   stage = Connected;
