@@ -1,6 +1,7 @@
 //! Goes along entities in order.
 
-ghost use Rattle.std.specs.Prelude.{◌≡◌, ◌^◌, ◌<◌, ◌≤◌, [], ◌∷◌, length, take, drop, All, MatchOption};
+ghost use Rattle.std.specs.Prelude.{◌≡◌, ◌≢◌, ◌^◌, ◌<◌, ◌≤◌, [], ◌∷◌, length, get_or, take, drop, All, MatchOption};
+ghost use Rattle.q3_entity.specs.declared.state.EntityState.{EntityState as EntityValue};
 ghost use Rattle.std.specs.Option.{option_copied};
 ghost use Rattle.q3_entity.specs.Entities.{RiseFrom, run_of};
 ghost use Rattle.q3_entity.specs.Runs.{taken, IsFrom, ShareFront};
@@ -84,6 +85,8 @@ pub fn count_same(base: &[EntityState], now: &[EntityState]) -> usize
     ensures same { take result base.now ≡ take result now.now }
     ensures in_base { result ≤ length base.now }
     ensures in_now { result ≤ length now.now }
+    ensures most { (other : EntityValue) → result < length base.now → result < length now.now
+        → get_or base.now result other ≢ get_or now.now result other }
 {
     let most = base.len().min(now.len());
     for k in 0..most {
