@@ -123,7 +123,7 @@ pub record BuildsSnapshot (profile : Profile) (telling : Telling) (n : ℕ) (bui
   pub number : snapshot.head.number ≡ n
   pub are : IsSnapshot profile snapshot
   pub waits : telling.under ≡ None → (snapshot.entities ≡ []) × (built.base ≡ None)
-  pub base_is : IfSome built.base (IsNear n)
+  pub base_is : IfSome built.base (λ base. IsNear n base × IsSnapshot profile base)
 
 -- and one with a gamestate
 pub record BuildsGame (profile : Profile) (telling : Telling) (built : Built) : Type 0 where

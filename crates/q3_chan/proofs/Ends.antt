@@ -1,13 +1,15 @@
 -- What each end keeps.
-use Rattle.std.proofs.Common.{◌≡◌, ◌+◌, ◌*◌, ◌<◌, ◌≤◌, ◌∙◌, ℕ, ltb, List, length, take, Option, Some, None, refl, sym, ap, subst, inl, inr, arith}
+use Rattle.std.proofs.Common.{◌≡◌, ◌+◌, ◌*◌, ◌<◌, ◌≤◌, ◌∙◌, ℕ, ltb, List, ◌++◌, length, take, Option, Some, None, refl, sym, ap, subst, inl, inr, arith}
 use Rattle.std.specs.Option.{IfSome}
 use Rattle.std.proofs.lemmas.Bool.{cond_both, ltb-true}
-use Rattle.q3_chan.specs.Datagrams.{fragment_size, piece_count, datagram}
+use Rattle.q3_chan.specs.declared.gatherer.Gathered.TheVariants.{Partial}
+use Rattle.q3_chan.specs.Datagrams.{fragment_size, piece_count, datagram, number_in}
 use Rattle.q3_chan.specs.Sending.{Sending, UnderWay, Handed, hand_out, next_of}
-use Rattle.q3_chan.specs.Gathering.{Gathering}
+use Rattle.q3_chan.specs.Gathering.{Gathering, Took, answers, arrives, emptied, gathering_of, gathered}
 use Rattle.q3_chan.specs.Tags.{tagged}
 use Rattle.q3_chan.specs.Laws.{Gathers, EndsGather, IsUnderWay, Sends, HandsOut, EndsSend}
-use Rattle.q3_chan.proofs.Tags.{tagged-front, tagged_does}
+use Rattle.q3_chan.proofs.Tags.{gathering_of-form, tagged-front, tagged_does}
+use Rattle.q3_chan.proofs.Outcomes.{piece_in, gathered-each}
 use Rattle.q3_chan.proofs.Handing.{next_of-under_way}
 
 -- ---- an end that receives
@@ -36,12 +38,26 @@ Gathers-more messages messages' last last' g h more agree =
       };
     }
 
+gathered-form : (g : Gathering) (bytes : List ℕ) → (gathered g bytes).gathering.form ≡ g.form
+gathered-form g bytes =
+    let k = gathering_of g (number_in bytes) in
+    let piece = piece_in g.form bytes in
+    let same = gathering_of-form g (number_in bytes) in
+    gathered-each (λ (t : Took). t.gathering.form ≡ g.form) g bytes (record {
+      none = λ a not. refl;
+      whole = λ _ most. refl;
+      gathers = λ a not. same;
+      adds = λ taken. cond_both (ltb (length piece) fragment_size) (arrives (emptied k) k.number (k.bytes ++ piece)) (answers (record k { bytes = k.bytes ++ piece }) Partial)
+          (λ (t : Took). t.gathering.form ≡ g.form) (λ _. same) (λ _. same);
+    })
+
 pub ends_gather : EndsGather
 ends_gather =
     record {
       begin = λ messages last form. record { taken = omega arith; number = omega arith; front = record { count = 0; not_all = omega arith; front = refl } };
       piece = Gathers-piece;
       more = Gathers-more;
+      stays = gathered-form;
     }
 
 -- ---- an end that sends

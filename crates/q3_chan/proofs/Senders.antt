@@ -1,11 +1,11 @@
 -- A datagram that a client sent tells its qport.
-use Rattle.std.proofs.Common.{is_some, ◌≡◌, ◌+◌, ◌*◌, ◌<◌, ◌≤◌, ◌∙◌, ℕ, Bool, true, false, Option, ltb, List, ◌++◌, length, sym, ap, subst, Ok, inl, inr, arith}
+use Rattle.std.proofs.Common.{is_some, ◌≡◌, ◌*◌, ◌<◌, ◌≤◌, ◌∙◌, ℕ, Bool, true, false, Option, ltb, List, ◌++◌, length, sym, ap, subst, Ok, inl, inr, arith}
 use Rattle.std.proofs.lemmas.Bool.{cases_lt, cond-true, cond-false, lt-ltb, le-ltb}
 use Rattle.byteorder.specs.Endian.{little_bytes}
 use Rattle.byteorder.specs.Numbers.{little_number-reads_back}
 use Rattle.q3_chan.specs.declared.side.Side.{Side}
 use Rattle.q3_chan.specs.declared.side.Side.TheVariants.{Server, Client}
-use Rattle.q3_chan.specs.Datagrams.{Header, marked, qport_bytes, check_bytes, fragment_size, fragment_mark, piece, header_bytes, is_fragment, header_length, datagram, fragment}
+use Rattle.q3_chan.specs.Datagrams.{Header, marked, qport_bytes, check_bytes, fragment_size, piece, header_bytes, is_fragment, header_length, datagram, fragment}
 use Rattle.q3_chan.specs.Gathering.{is_connectionless}
 use Rattle.q3_chan.specs.Senders.{qport_in, qport_of, QportIsTold}
 use Rattle.q3_chan.proofs.Headers.{IsHeaded, after_number, fragment-parts, whole_is, fragment_is}

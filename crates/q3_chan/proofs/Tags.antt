@@ -17,7 +17,7 @@ pub gathering_of-number : (g : Gathering) (number : ℕ) → (gathering_of g num
 gathering_of-number g number =
     cond_both (eqb number g.number) g (record g { number = number; bytes = [] }) (λ k. k.number ≡ number) (λ e. sym (eqb-true _ _ e)) (λ _. refl)
 
-gathering_of-form : (g : Gathering) (number : ℕ) → (gathering_of g number).form ≡ g.form
+pub gathering_of-form : (g : Gathering) (number : ℕ) → (gathering_of g number).form ≡ g.form
 gathering_of-form g number = gathering_of-any (λ k. k.form ≡ g.form) g number refl refl
 
 pub gathering_of-taken : (g : Gathering) (number : ℕ) → (gathering_of g number).taken ≡ g.taken

@@ -130,6 +130,8 @@ pub record EndsGather : Type 0 where
   -- and where more messages are begun
   pub more : (messages messages' : ℕ → List ℕ) (last last' : ℕ) (g : Gathering) → Gathers messages last g → last ≤ last'
       → ((number : ℕ) → number ≤ last → messages' number ≡ messages number) → Gathers messages' last' g
+  -- and whatever bytes arrive, it hears the same form
+  pub stays : (g : Gathering) (bytes : List ℕ) → (gathered g bytes).gathering.form ≡ g.form
 
 -- what is under way is the message under a number, which isn't 0, and a piece of it is left
 pub record IsUnderWay (messages : ℕ → List ℕ) (number : ℕ) (way : UnderWay) : Type 0 where

@@ -50,7 +50,7 @@ pub fn whole_are_pieces()
 {}
 
 /// What an end that receives has taken and gathers was begun: so at first, after each piece of a message that was begun, and
-/// where more are begun.
+/// where more are begun. And whatever bytes arrive, it hears the same form.
 pub fn ends_gather()
     ensures { EndsGather }
 {}

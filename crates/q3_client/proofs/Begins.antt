@@ -14,6 +14,7 @@ use Rattle.q3_clmsg.specs.declared.moves.Move.{Move}
 use Rattle.q3_clmsg.specs.Moves.{IsMove}
 use Rattle.q3_clmsg.specs.Laws.{IsMessage}
 use Rattle.q3_svmsg.specs.declared.error.Illegible.{Illegible}
+use Rattle.q3_clstate.specs.Standing.{IsApplied}
 use Rattle.q3_client.specs.declared.moves.Issued.{Issued}
 use Rattle.q3_client.specs.Client.{ClientState, moves_after}
 use Rattle.q3_client.specs.Moves.{most_moves, is_carried, carried, asks_delta}
@@ -52,8 +53,19 @@ few_pass test (issued ∷ moves) =
 
 -- ---- what a client begins
 
+-- what that rests on
+pub record Speaks (client : ClientState) : Type 0 where
+  pub applied : IsApplied client.state
+  pub taken : client.gathering.taken < 2 ^ 32
+  pub window : IsOutgoing client.issued
+  pub few : length client.moves ≤ most_moves
+  pub moves : AreMoves client.moves
+
+speaks : (client : ClientState) → IsClient client → Speaks client
+speaks client is = record { applied = is.applied; taken = is.taken; window = is.window; few = is.few; moves = is.moves }
+
 -- the next message is one that an end may send
-next_is_message : NumberedAreCommands → (client : ClientState) → IsClient client → IsMessage (next_message client)
+next_is_message : NumberedAreCommands → (client : ClientState) → Speaks client → IsMessage (next_message client)
 next_is_message law client is =
     let number = client.sending.number + 1 in
     let those = filter (is_carried number client.dup) client.moves in
@@ -78,15 +90,19 @@ next_is_message law client is =
     none_asked (one ∷ moves) none = let long : length (one ∷ moves) ≡ 0 = ap (λ (l : List Move). length l) none in absurd (omega (arith, long))
 
 -- and so is what it is scrambled by
+said_next : NumberedAreCommands → (client : ClientState) → Speaks client → is_unclear client.state.profile (next_message client) ≡ false
+    → IsSaid client.state.profile client.challenge (next_said client)
+said_next law client is clear = record { message = next_is_message law client is; feed = is.applied.feed; key = refl; text = is.applied.last; clear = clear }
+
 pub next_is_said : NumberedAreCommands → (client : ClientState) → IsClient client → is_unclear client.state.profile (next_message client) ≡ false
     → IsSaid client.state.profile client.challenge (next_said client)
-next_is_said law client is clear = record { message = next_is_message law client is; feed = is.applied.feed; key = refl; text = is.applied.last; clear = clear }
+next_is_said law client is clear = said_next law client (speaks client is) clear
 
 -- what was begun, if anything was
 abbrev Begins : ClientState → Emission → Type 0
 Begins client emission = IfSome emission.began (IsSaid client.state.profile client.challenge)
 
-pub begins_new : NumberedAreCommands → (client : ClientState) → IsClient client → Begins client (emit_new client)
+pub begins_new : NumberedAreCommands → (client : ClientState) → Speaks client → Begins client (emit_new client)
 begins_new law client is =
     let next = next_said client in
     let bits = said_bits client.state.profile next in
@@ -96,13 +112,13 @@ begins_new law client is =
         | inl hidden ↦ rw (goes, hidden) tt
         | inr clear ↦ elim (cases_Bool (nat_lt longest_message (message_length (length bits)))) [
           | inl long ↦ rw (goes, clear, long) tt
-          | inr short ↦ rw (goes, clear, short) (next_is_said law client is clear)
+          | inr short ↦ rw (goes, clear, short) (said_next law client is clear)
         ]
       ]
     ]
 
 begins_left : NumberedAreCommands → (client : ClientState) (left : Option UnderWay) → IsClient client → Begins client (emit_left client left)
-begins_left law client None is = begins_new law client is
+begins_left law client None is = begins_new law client (speaks client is)
 begins_left law client (Some left) is = tt
 
 begins_unless : NumberedAreCommands → (client : ClientState) (cause : Option Illegible) → IsClient client → Begins client (emit_unless client cause)

@@ -2,6 +2,7 @@
 
 ghost use Rattle.q3_client.specs.Laws.{AppliesItsMessage, BeginsSaid, ClientStays};
 
+use q3_chan::laws as chan;
 use q3_clstate::laws as clstate;
 use q3_strings::laws as strings;
 use q3_window::laws as window;
@@ -18,6 +19,8 @@ pub fn begins_said()
 pub fn client_stays()
     ensures { ClientStays }
 {
+    chan::ends_gather();
+    chan::ends_send();
     clstate::apply_stays();
     window::stays_outgoing();
 }

@@ -110,7 +110,7 @@ AreRead profile client n built = (rest : List Bool)
 
 bits_are_read : WrittenIsRead → ReadIsSkipped → (profile : Profile) → IsCodec profile → (client : ClientState) (n : ℕ) (built : Built) → IsBuilt profile client.challenge n built
     → IsContext profile (context_of client.state.held client.state.baselines) → IfSome built.under (λ game. client.state.baselines ≡ built.baselines)
-    → IfSome built.base (λ base. IsSnapshot profile base × HoldsThis client.state.held base) → AreRead profile client n built
+    → IfSome built.base (HoldsThis client.state.held) → AreRead profile client n built
 bits_are_read law skips profile codec client n built is context same known =
     let held = client.state.held in
     let baselines = client.state.baselines in
@@ -119,9 +119,9 @@ bits_are_read law skips profile codec client n built is context same known =
     elim is.section [
       | inl one ↦
           let under = subst (λ (o : Option ℕ). IfSome o (λ game. baselines ≡ built.baselines)) (ap (λ (b : Built). b.under) one.is) same in
-          let bases = three_some base (IsNear n) (IsSnapshot profile) (HoldsThis held) one.base_is
-          (if_some_then base (λ b. IsSnapshot profile b × HoldsThis held b) (IsSnapshot profile) (λ b two. two.0) known)
-          (if_some_then base (λ b. IsSnapshot profile b × HoldsThis held b) (HoldsThis held) (λ b two. two.1) known) in
+          let bases = three_some base (IsNear n) (IsSnapshot profile) (HoldsThis held)
+          (if_some_then base (λ b. IsNear n b × IsSnapshot profile b) (IsNear n) (λ b two. two.0) one.base_is)
+          (if_some_then base (λ b. IsNear n b × IsSnapshot profile b) (IsSnapshot profile) (λ b two. two.1) one.base_is) known in
           subst (AreRead profile client n) (sym one.is)
           (λ rest. ap (λ (bits : List Bool). server_message_at profile (context_of held baselines) n (bits ++ rest))
           (text_alike profile built.baselines baselines telling base one.snapshot telling.under under one.waits)

@@ -1,9 +1,10 @@
 -- A message survives the network: its datagrams, taken one after the other, bring it whole.
 use Rattle.std.proofs.Common.{◌≡◌, is_some, cond, Bool, set, zero, suc, ◌^◌, ◌<◌, ◌≤◌, ◌==◌, true, false, List, [], ◌∷◌, ◌++◌, length, get_or, Option, Some, None, Result, Ok, refl, sym, ap, subst, ◌∙◌, add-one, arith, ℕ}
-use Rattle.std.specs.Prelude.{position}
+use Rattle.std.specs.Prelude.{position, IfSome}
 use Rattle.std.proofs.lemmas.Bool.{and_parts, eqb-true, eq-eqb}
 use Rattle.std.proofs.lemmas.List.{length-set, set-set, get_or-set_same}
 use Rattle.std.proofs.lemmas.List.Folds.{position_or_len-set}
+use Rattle.std.proofs.lemmas.List.Elements.{All-get_or}
 use Rattle.std.proofs.lemmas.List.FromFn.{map-range_with_len_more}
 use Rattle.std.proofs.lemmas.List.Quantifiers.{position-Some}
 use Rattle.q3_profile.specs.declared.profile.Profile.{Profile}
@@ -13,7 +14,7 @@ use Rattle.q3_chan.specs.Checks.{is_checked, check_for}
 use Rattle.q3_chan.specs.declared.gatherer.Gathered.{Gathered}
 use Rattle.q3_chan.specs.declared.gatherer.Gathered.TheVariants as gathered
 use Rattle.q3_chan.specs.declared.qport.NoQport.{NoQport}
-use Rattle.q3_chan.specs.Datagrams.{Header, server_header, client_header, last_index, datagram}
+use Rattle.q3_chan.specs.Datagrams.{Header, server_form, client_form, server_header, client_header, last_index, datagram}
 use Rattle.q3_chan.specs.Gathering.{Gathering, Took, gathered as gathered_of, gathered_all}
 use Rattle.q3_chan.specs.Tags.{Came}
 use Rattle.q3_chan.specs.Senders.{qport_of, QportIsTold}
@@ -29,6 +30,7 @@ use Rattle.q3_slot.specs.Taking as by_slot
 use Rattle.q3_server.specs.Server.{ServerState, slot_at, with_slot}
 use Rattle.q3_server.specs.Taking.{sender_of, taken_at}
 use Rattle.q3_server.specs.Taking as hears
+use Rattle.q3_server.specs.Standing.{IsJoined, IsServerState}
 use Rattle.q3_client.specs.declared.client.ClientTook.TheVariants.{Partial}
 use Rattle.q3_client.specs.Client.{ClientState, Taken, Reception, answers, receive_message, receive_bytes, applies, applies_read, take_answer, take_gathered, take_unless, take_at}
 use Rattle.q3_client.specs.Sending.{said_bytes}
@@ -78,9 +80,9 @@ record Comes (g : Gathering) (header : Header) (number : ℕ) (message : List �
   whole : Came (gathers_first g header number message (last_index message)) number message
       (gathered_of (gathers_first g header number message (last_index message)) (datagram header number message (last_index message)))
 
-comes : PiecesComeWhole → FirstComePartial → (g : Gathering) (header : Header) (number : ℕ) (message : List ℕ) → MayCome header number message g → Comes g header number message
-comes whole partial g header number message may =
-    subst (λ (f : Form). Comes g (record { form = f; qport = header.qport }) number message) may.from
+comes : PiecesComeWhole → FirstComePartial → (g : Gathering) (header : Header) (number : ℕ) (message : List ℕ) → g.form ≡ header.form → MayCome number message g → Comes g header number message
+comes whole partial g header number message from may =
+    subst (λ (f : Form). Comes g (record { form = f; qport = header.qport }) number message) from
     (record {
       partial = λ index before. partial g header.qport number index message may.newer may.none may.fits may.sendable before;
       whole = whole g header.qport number 0 message may.newer (omega arith) may.none may.fits may.sendable;
@@ -129,11 +131,12 @@ client_first client header number message (suc count) legible does few =
     ∙ ap (λ (x : Gathering). record client { gathering = x }) (sym (gathers_more client.gathering header number message count)))))
 
 pub built_survives : BuiltIsRead → PiecesComeWhole → FirstComePartial → BuiltSurvives
-built_survives reads whole partial profile codec client number built legible may is of_profile applied under takes same known =
+built_survives reads whole partial profile codec client number built is_client legible may is of_profile under takes same known =
     let message = built_bytes profile built in
     let header = server_header (check_for profile.protocol client.challenge) in
-    let does = comes whole partial client.gathering header number message may in
-    let read = reads profile codec client number built is of_profile applied under takes same known in
+    let from = is_client.hears ∙ ap (λ (p : Profile). server_form (check_for p.protocol client.challenge)) of_profile in
+    let does = comes whole partial client.gathering header number message from may in
+    let read = reads profile codec client number built is of_profile is_client.applied under takes same known in
     let last = last_index message in
     let bytes : ℕ → List ℕ = datagram header number message in
     let gathers : ℕ → Gathering = gathers_first client.gathering header number message in (
@@ -245,7 +248,7 @@ pub checked_so : (checked : Bool) (challenge : ℕ) → is_some (cond checked (S
 checked_so true challenge = refl
 checked_so false challenge = refl
 
-all_tell : QportIsTold → (protocol challenge qport number : ℕ) (message : List ℕ) (g : Gathering) → qport < 2 ^ 16 → MayCome (client_header (check_for protocol challenge) qport) number message g
+all_tell : QportIsTold → (protocol challenge qport number : ℕ) (message : List ℕ) (g : Gathering) → qport < 2 ^ 16 → MayCome number message g
     → AllTell (is_checked protocol) (client_header (check_for protocol challenge) qport) number message
 all_tell tells protocol challenge qport number message g short may =
     let header = client_header (check_for protocol challenge) qport in
@@ -276,11 +279,20 @@ server_first server from header c slot number message (suc count) found there te
     (subst (λ (x : Gathering). HasGathered server (with_slot server c next) from header.qport c slot x) (sym (gathers_more slot.gathering header number message count))
     (found_still server from header.qport c slot took.gathering found there))
 
+-- the form that a server's slot hears
+slot_hears : (server : ServerState) (c : ℕ) (slot : SlotState) → c < length server.slots → slot_at server c ≡ Some slot → IsServerState server
+    → slot.gathering.form ≡ client_form (check_for server.profile.protocol slot.challenge)
+slot_hears server c slot within there is =
+    let IsPlace : Option SlotState → Type 0 = λ found. IfSome found (IsJoined server.profile server.map.id) in
+    let joined : IsJoined server.profile server.map.id slot = subst IsPlace there (All-get_or IsPlace server.slots c None within is.clients.each) in
+    joined.hears
+
 pub said_survives : SaidIsRead → PiecesComeWhole → FirstComePartial → QportIsTold → SaidSurvives
-said_survives hears_back whole partial tells_qport profile codec server from qport c slot number said by short found there may is takes same feeds =
+said_survives hears_back whole partial tells_qport profile codec server from qport c slot number said is_server by short found there may is takes same feeds =
     let message = said_bytes profile said in
     let header = client_header (check_for profile.protocol slot.challenge) qport in
-    let does = comes whole partial slot.gathering header number message may in
+    let heard = slot_hears server c slot (is_found server from.host qport c slot found there).within there is_server ∙ ap (λ (p : Profile). client_form (check_for p.protocol slot.challenge)) by in
+    let does = comes whole partial slot.gathering header number message heard may in
     let tells = subst (λ (p : Profile). AllTell (is_checked p.protocol) header number message) (sym by) (all_tell tells_qport profile.protocol slot.challenge qport number message slot.gathering short may) in
     let read : said_by server.profile server.map slot message ≡ Ok (came_as server.map said.message) =
     ap (λ (p : Profile). said_by p server.map slot message) by ∙ hears_back profile codec server.map slot said is takes same feeds in

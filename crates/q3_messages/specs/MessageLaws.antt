@@ -15,17 +15,19 @@ use Rattle.q3_entity_ring.specs.Snapshot.{Snapshot}
 use Rattle.q3_rings.specs.Rings.{HeldSnapshots, view_at}
 use Rattle.q3_window.specs.Outgoing.{acknowledge_at, text_at}
 use Rattle.q3_slot.specs.declared.taking.ServerTook.TheVariants.{Partial as SlotPartial}
-use Rattle.q3_built.specs.Built.{Built, IsSnapshot, IsBuilt, built_bytes, plain_bytes}
+use Rattle.q3_built.specs.Built.{Built, IsBuilt, built_bytes, plain_bytes}
 use Rattle.q3_slot.specs.Slot.{SlotState}
 use Rattle.q3_slot.specs.Taking.{came_as, run_read, said_by}
 use Rattle.q3_slot.specs.Taking as by_slot
 use Rattle.q3_server.specs.Server.{ServerState, slot_at}
 use Rattle.q3_server.specs.Taking.{sender_of, taken_at}
 use Rattle.q3_server.specs.Taking as hears
+use Rattle.q3_server.specs.Standing.{IsServerState}
 use Rattle.q3_clstate.specs.Standing.{IsApplied}
 use Rattle.q3_client.specs.declared.client.ClientTook.TheVariants.{Partial}
 use Rattle.q3_client.specs.Client.{ClientState, Taken, answers, receive_message, receive_bytes, applies, take_at}
 use Rattle.q3_client.specs.Sending.{said_bytes, Said, IsSaid}
+use Rattle.q3_client.specs.Standing.{IsClient}
 
 -- what is held under the number of a base is that base
 abbrev pub HoldsThis : HeldSnapshots → Snapshot → Type 0
@@ -39,7 +41,7 @@ abbrev pub BuiltIsRead : Type 0
 BuiltIsRead = (profile : Profile) → IsCodec profile → (client : ClientState) (number : ℕ) (built : Built) → IsBuilt profile client.challenge number built
     → client.state.profile ≡ profile → IsApplied client.state → IfSome built.under (λ game. client.state.baselines ≡ built.baselines)
     → (acknowledge_at client.issued built.message.ack).answer ≡ Ok tt → text_at client.issued built.message.ack ≡ built.key.text
-    → IfSome built.base (λ base. IsSnapshot profile base × HoldsThis client.state.held base)
+    → IfSome built.base (HoldsThis client.state.held)
     → receive_bytes client number (built_bytes profile built) ≡ Ok (receive_message client number built.message (plain_bytes profile built))
 
 -- a message that a client began is read back by the server as what it is to the map, where its slot's window takes the acknowledgement
@@ -59,8 +61,7 @@ first_datagrams header number message count = map (datagram header number messag
 
 -- a message may come to an end that gathers: its number is above every number taken, nothing was gathered under it, and it may be
 -- sent
-pub record MayCome (header : Header) (number : ℕ) (message : List ℕ) (g : Gathering) : Type 0 where
-  pub from : g.form ≡ header.form
+pub record MayCome (number : ℕ) (message : List ℕ) (g : Gathering) : Type 0 where
   pub newer : g.taken < number
   pub none : g.number ≡ number → g.bytes ≡ []
   pub fits : number < sequence_end
@@ -82,14 +83,14 @@ AppliesIt client number message plain taken =
     (g : Gathering) × (g.taken ≡ number) × (taken ≡ applies (record client { gathering = g }) (receive_message client number message plain))
 
 -- a message that was built survives the network: where its datagrams come to a client, one after the other, each but the last is
--- partial, and with the last the client answers, accepts, executes and becomes what the message's value makes of it. The client wasn't
--- dropped, the message may come to it, and it is received from its bytes as in BuiltIsRead
+-- partial, and with the last the client answers, accepts, executes and becomes what the message's value makes of it. The client is as
+-- every client and wasn't dropped, the message may come to it, and it is received from its bytes as in BuiltIsRead
 abbrev pub BuiltSurvives : Type 0
-BuiltSurvives = (profile : Profile) → IsCodec profile → (client : ClientState) (number : ℕ) (built : Built) → client.dropped ≡ None
-    → MayCome (server_header (check_for profile.protocol client.challenge)) number (built_bytes profile built) client.gathering → IsBuilt profile client.challenge number built
-    → client.state.profile ≡ profile → IsApplied client.state → IfSome built.under (λ game. client.state.baselines ≡ built.baselines)
+BuiltSurvives = (profile : Profile) → IsCodec profile → (client : ClientState) (number : ℕ) (built : Built) → IsClient client → client.dropped ≡ None
+    → MayCome number (built_bytes profile built) client.gathering → IsBuilt profile client.challenge number built
+    → client.state.profile ≡ profile → IfSome built.under (λ game. client.state.baselines ≡ built.baselines)
     → (acknowledge_at client.issued built.message.ack).answer ≡ Ok tt → text_at client.issued built.message.ack ≡ built.key.text
-    → IfSome built.base (λ base. IsSnapshot profile base × HoldsThis client.state.held base)
+    → IfSome built.base (HoldsThis client.state.held)
     → ((index : ℕ) → index < last_index (built_bytes profile built)
     → GathersMore client (take_at (client_after client (first_datagrams (server_header (check_for profile.protocol client.challenge)) number (built_bytes profile built) index)) (datagram (server_header (check_for profile.protocol client.challenge)) number (built_bytes profile built) index)))
     × AppliesIt client number built.message (plain_bytes profile built)
@@ -113,12 +114,12 @@ RunsIt server c slot from number message taken =
     (g : Gathering) × (g.taken ≡ number) × (taken ≡ taken_at server c (run_read server.map (record slot { address = from; gathering = g }) c number (Ok (came_as server.map message))))
 
 -- a message that a client began survives the network: where its datagrams come to the server from the client's host, one after the
--- other, each but the last is partial, and with the last the server runs the message's value. The slot is the one that the server finds by
--- host and qport, the message may come to it, and it is read as in SaidIsRead
+-- other, each but the last is partial, and with the last the server runs the message's value. The server is as every server, the slot is
+-- the one that it finds by host and qport, the message may come to it, and it is read as in SaidIsRead
 abbrev pub SaidSurvives : Type 0
 SaidSurvives = (profile : Profile) → IsCodec profile → (server : ServerState) (from : Address) (qport c : ℕ) (slot : SlotState) (number : ℕ) (said : Said)
-    → server.profile ≡ profile → qport < 2 ^ 16 → sender_of server from.host qport ≡ Some c → slot_at server c ≡ Some slot
-    → MayCome (client_header (check_for profile.protocol slot.challenge) qport) number (said_bytes profile said) slot.gathering → IsSaid profile slot.challenge said
+    → IsServerState server → server.profile ≡ profile → qport < 2 ^ 16 → sender_of server from.host qport ≡ Some c → slot_at server c ≡ Some slot
+    → MayCome number (said_bytes profile said) slot.gathering → IsSaid profile slot.challenge said
     → (acknowledge_at slot.issued said.message.command).answer ≡ Ok tt → text_at slot.issued said.message.command ≡ said.key.text
     → (is_other server.map said.message.id ≡ false → said.feed ≡ server.map.feed)
     → ((index : ℕ) → index < last_index (said_bytes profile said)

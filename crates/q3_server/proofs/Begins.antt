@@ -1,9 +1,8 @@
 -- What a server begins is a message as a server builds it.
-use Rattle.std.proofs.Common.{◌≡◌, ℕ, ◌+◌, ◌^◌, ◌<◌, ◌≤◌, Bool, true, false, [], length, Option, Some, None, refl, sym, ap, subst, ◌∙◌, inl, inr, arith, lit<, is_some}
+use Rattle.std.proofs.Common.{◌≡◌, ℕ, ◌+◌, ◌^◌, ◌<◌, ◌≤◌, Bool, true, false, [], length, Option, Some, None, refl, sym, ap, subst, ◌∙◌, inl, inr, arith, is_some}
 use Rattle.std.specs.Prelude.{nat_le, nat_lt, if◌then◌else◌, IfSome, ◌-◌}
 use Rattle.std.proofs.lemmas.Bool.{cases_Bool, cond_both, leb-false, both_ways}
 use Rattle.std.proofs.lemmas.List.{get_or_past}
-use Rattle.std.proofs.lemmas.List.Elements.{All-nil}
 use Rattle.q3_profile.specs.declared.profile.Profile.{Profile}
 use Rattle.q3_player.specs.State.{zero_player}
 use Rattle.q3_chan.specs.Datagrams.{sequence_end}
@@ -12,37 +11,16 @@ use Rattle.q3_gamestate.specs.Laws.{IsGamestate}
 use Rattle.q3_entity_ring.specs.Snapshot.{Snapshot}
 use Rattle.q3_frames.specs.Frames.{FramesState, base_of}
 use Rattle.q3_map.specs.Map.{MapState}
-use Rattle.q3_slot.specs.declared.stage.ClientStage.{ClientStage}
-use Rattle.q3_slot.specs.declared.stage.ClientStage.TheVariants.{Connected, Primed, Active}
-use Rattle.q3_built.specs.Built.{Built, IsHeld, IsArea, IsSnapshot, IsNear, IsTelling, IsBuilt, is_unclear, built_bits}
+use Rattle.q3_built.specs.Built.{Built, IsHeld, IsSnapshot, IsNear, IsTelling, IsBuilt, is_unclear, built_bits}
 use Rattle.q3_slot.specs.Slot.{SlotState, is_active, plays_under, asked}
-use Rattle.q3_slot.specs.Emitting.{SlotEmission, snapshot_flags, played_snapshot, waiting_snapshot, next_snapshot, next_frames, telling_of, begun_next, next_game, next_game_built, is_overlong, most_placed, emit_built, emit_game, emit_new, emit_slot}
+use Rattle.q3_slot.specs.Emitting.{SlotEmission, played_snapshot, waiting_snapshot, next_snapshot, next_frames, telling_of, begun_next, next_game, next_game_built, is_overlong, most_placed, emit_built, emit_game, emit_new, emit_slot}
 use Rattle.q3_slot.specs.Standing.{IsSlot}
 use Rattle.q3_server.specs.Server.{ServerState, slot_at, emit_from, emit_at}
-use Rattle.q3_server.specs.Standing.{IsMap, IsJoined, IsServer, BeginsBuilt, Below}
-use Rattle.q3_server.proofs.KeepsMap.{none_held}
+use Rattle.q3_server.specs.Standing.{IsMap, IsJoined, HoldSnapshots, IsServer, BeginsBuilt, Below}
+use Rattle.q3_server.proofs.KeepsFrames.{held_is, next_is_snapshot, snapshots_next}
 use Rattle.q3_server.proofs.KeepsClients.{zero_held, at_place}
 
 -- ---- the next message
-
--- no area bytes
-no_area : IsArea []
-no_area = record { bytes = All-nil (λ (byte : ℕ). byte < 256); short = omega arith }
-
--- flags are a byte
-flags_fit : (count delayed : Bool) (stage : ClientStage) → snapshot_flags count delayed stage < 2 ^ 8
-flags_fit false false Connected = lit< tt
-flags_fit true false Connected = lit< tt
-flags_fit false true Connected = lit< tt
-flags_fit true true Connected = lit< tt
-flags_fit false false Primed = lit< tt
-flags_fit true false Primed = lit< tt
-flags_fit false true Primed = lit< tt
-flags_fit true true Primed = lit< tt
-flags_fit false false Active = lit< tt
-flags_fit true false Active = lit< tt
-flags_fit false true Active = lit< tt
-flags_fit true true Active = lit< tt
 
 module _ (below : Below) (profile : Profile) (map : MapState) (slot : SlotState) (is_map : IsMap profile map) (zero_is : IsHeld profile zero_player) (is : IsSlot slot)
     (joined : IsJoined profile map.id slot) where
@@ -59,29 +37,6 @@ module _ (below : Below) (profile : Profile) (map : MapState) (slot : SlotState)
         commands = waiting.0;
         key = refl;
         clear = clear;
-      }
-
-  next_is_snapshot : slot.sending.number + 1 < sequence_end → IsSnapshot profile (next_snapshot map slot)
-  next_is_snapshot fits = of_active (is_active slot.stage)
-    where
-      of_active : (active : Bool) → IsSnapshot profile (if active then played_snapshot map slot else waiting_snapshot map slot)
-      of_active true = record {
-        number = fits;
-        time = is_map.time;
-        flags = flags_fit map.count slot.delayed slot.stage;
-        area = is.area;
-        player = joined.player;
-        entities = below.lists.lowest profile.entity map.entities is_map.entities;
-        few = below.lists.few map.entities;
-      }
-      of_active false = record {
-        number = fits;
-        time = is_map.time;
-        flags = flags_fit map.count slot.delayed slot.stage;
-        area = no_area;
-        player = zero_is;
-        entities = none_held profile.entity;
-        few = omega arith;
       }
 
   next_number : (next_snapshot map slot).head.number ≡ slot.sending.number + 1
@@ -105,11 +60,11 @@ module _ (below : Below) (profile : Profile) (map : MapState) (slot : SlotState)
           let connected : is_active slot.stage ≡ false = ap is_active (joined.begun none) in
           absurd (both_ways (is_active slot.stage) connected yes_it_is)
 
-  -- a base is near
-  base_is : (frames : FramesState) (c n delta : ℕ) → IfSome (base_of frames c n delta) (IsNear n)
-  base_is frames c n delta = of_base (base_of frames c n delta) refl
+  -- a base is near, and a snapshot as it is built
+  base_is : (frames : FramesState) (c n delta : ℕ) → HoldSnapshots profile frames → IfSome (base_of frames c n delta) (λ base. IsNear n base × IsSnapshot profile base)
+  base_is frames c n delta holds = of_base (base_of frames c n delta) refl
     where
-      of_base : (base : Option Snapshot) → base_of frames c n delta ≡ base → IfSome base (IsNear n)
+      of_base : (base : Option Snapshot) → base_of frames c n delta ≡ base → IfSome base (λ base. IsNear n base × IsSnapshot profile base)
       of_base None found = tt
       of_base (Some base) found =
           let near = below.near frames c n delta base found in
@@ -117,11 +72,11 @@ module _ (below : Below) (profile : Profile) (map : MapState) (slot : SlotState)
           let under = near.1 in
           let within = near.2 in
           let same = near.3 in
-          record { some = omega (arith, some, same); below = omega (arith, under, same); near = omega (arith, within, same) }
+          (record { some = omega (arith, some, same); below = omega (arith, under, same); near = omega (arith, within, same) }, held_is profile frames c delta base holds near.4)
 
-  pub next_is_built : (frames : FramesState) (c : ℕ) → slot.sending.number + 1 < sequence_end → is_unclear profile slot.executed.executed ≡ false
+  pub next_is_built : (frames : FramesState) (c : ℕ) → HoldSnapshots profile frames → slot.sending.number + 1 < sequence_end → is_unclear profile slot.executed.executed ≡ false
       → IsBuilt profile slot.challenge (slot.sending.number + 1) (begun_next profile map frames c slot)
-  next_is_built frames c fits clear =
+  next_is_built frames c holds fits clear =
       record {
         telling = telling_of profile slot;
         tells = next_tells clear;
@@ -130,9 +85,9 @@ module _ (below : Below) (profile : Profile) (map : MapState) (slot : SlotState)
           snapshot = next_snapshot map slot;
           is = refl;
           number = next_number;
-          are = next_is_snapshot fits;
+          are = next_is_snapshot below profile map slot is_map zero_is joined fits;
           waits = waits_empty frames c;
-          base_is = base_is (next_frames map frames c slot) c (slot.sending.number + 1) (asked slot);
+          base_is = base_is (next_frames map frames c slot) c (slot.sending.number + 1) (asked slot) (snapshots_next below profile map slot is_map zero_is joined frames c fits holds);
         });
       }
 
@@ -176,8 +131,8 @@ module _ (below : Below) (profile : Profile) (map : MapState) (slot : SlotState)
         | inr short ↦ rw short is_built
       ]
 
-  begun_new : (frames : FramesState) (c : ℕ) → c < 2 ^ 32 → Begun (emit_new profile map frames c slot)
-  begun_new frames c lt =
+  begun_new : (frames : FramesState) (c : ℕ) → HoldSnapshots profile frames → c < 2 ^ 32 → Begun (emit_new profile map frames c slot)
+  begun_new frames c holds lt =
       elim (cases_Bool (nat_le sequence_end (slot.sending.number + 1))) [
         | inl ended ↦ rw ended tt
         | inr goes ↦ elim (cases_Bool (nat_lt most_placed frames.placed)) [
@@ -188,17 +143,17 @@ module _ (below : Below) (profile : Profile) (map : MapState) (slot : SlotState)
                 (emit_built profile slot map (next_frames map frames c slot) (begun_next profile map frames c slot)) Begun
                 (λ owed. begun_game frames (next_game_built profile map c slot) (game_is_built c lt owed clear))
                 (λ none. begun_built (next_frames map frames c slot) (begun_next profile map frames c slot)
-                (next_is_built frames c (leb-false sequence_end (slot.sending.number + 1) goes) clear)))
+                (next_is_built frames c holds (leb-false sequence_end (slot.sending.number + 1) goes) clear)))
           ]
         ]
       ]
 
-  begun_slot : (frames : FramesState) (c : ℕ) (left : Option UnderWay) → c < 2 ^ 32 → Begun (emit_slot profile map frames c slot left)
-  begun_slot frames c None lt = begun_new frames c lt
-  begun_slot frames c (Some left) lt = tt
+  begun_slot : (frames : FramesState) (c : ℕ) (left : Option UnderWay) → HoldSnapshots profile frames → c < 2 ^ 32 → Begun (emit_slot profile map frames c slot left)
+  begun_slot frames c None holds lt = begun_new frames c holds lt
+  begun_slot frames c (Some left) holds lt = tt
 
 -- whatever the server keeps
-pub begins : Below → (server : ServerState) (c : ℕ) → c < 2 ^ 32 → IfSome (slot_at server c) IsSlot → IsServer server.profile server.map server.slots → BeginsBuilt server c
+pub begins : Below → (server : ServerState) (c : ℕ) → c < 2 ^ 32 → IfSome (slot_at server c) IsSlot → IsServer server.profile server.map server.slots server.frames → BeginsBuilt server c
 unfolding emit_at
 begins below server c lt here is = of_slot (slot_at server c) here (at_place server.profile server.map.id server.slots c is.clients)
   where
@@ -206,7 +161,7 @@ begins below server c lt here is = of_slot (slot_at server c) here (at_place ser
         → IfSome found (λ slot. IfSome (emit_from server c found).began (IsBuilt server.profile slot.challenge (slot.sending.number + 1)))
     of_slot None here joined = tt
     of_slot (Some slot) here joined =
-        begun_slot below server.profile server.map slot is.is_map (zero_held below server.profile is.codec) here joined server.frames c slot.sending.under_way lt
+        begun_slot below server.profile server.map slot is.is_map (zero_held below server.profile is.codec) here joined server.frames c slot.sending.under_way is.snapshots lt
 
 -- and where it has no such slot
 pub begins_nothing : (server : ServerState) (c : ℕ) → length server.slots ≤ c → BeginsBuilt server c

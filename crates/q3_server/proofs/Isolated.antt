@@ -1,6 +1,6 @@
 -- What a datagram does to a slot depends on the map, the slot, and who the clients are.
-use Rattle.std.proofs.Common.{◌≡◌, ◌+◌, ◌<◌, ℕ, Bool, true, false, cond, List, [], ◌∷◌, length, map, Option, Some, None, Result, Ok, Err, refl, sym, ap, ap₂, subst, ◌∙◌, arith}
-use Rattle.std.specs.Prelude.{◌≢◌, ◌==◌, ◌&&◌, not, position, option_map}
+use Rattle.std.proofs.Common.{◌≡◌, ◌+◌, ◌<◌, ℕ, Bool, true, false, cond, List, length, map, Option, Some, None, Result, Ok, Err, refl, sym, ap, ap₂, subst, ◌∙◌}
+use Rattle.std.specs.Prelude.{◌==◌, ◌&&◌, not}
 use Rattle.std.specs.List.{position_or_len}
 use Rattle.std.proofs.lemmas.List.{get_or-set_same, length-map}
 use Rattle.std.proofs.lemmas.List.Recursion.{is_position_or_len}
@@ -13,8 +13,7 @@ use Rattle.q3_chan.specs.Checks.{is_checked}
 use Rattle.q3_chan.specs.Senders.{qport_of}
 use Rattle.q3_slot.specs.Slot.{SlotState, is_of}
 use Rattle.q3_slot.specs.Taking.{SlotTaken, take_slot}
-use Rattle.q3_slot.specs.declared.taking.ServerTook.TheVariants.{Stranger, Runt, Connectionless}
-use Rattle.q3_server.specs.Server.{ServerState, slot_at, with_slot}
+use Rattle.q3_server.specs.Server.{ServerState, slot_at}
 use Rattle.q3_server.specs.Taking as hears
 use Rattle.q3_server.specs.Taking.{Taken}
 use Rattle.q3_server.specs.Apart.{SlotsApart, found_by, taker_of}

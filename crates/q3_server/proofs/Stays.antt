@@ -20,6 +20,7 @@ use Rattle.q3_config.specs.Laws.{piece_texts}
 use Rattle.q3_map.specs.declared.map.NotLater.{NotLater}
 use Rattle.q3_map.specs.Map as of_map
 use Rattle.q3_map.specs.Map.{no_map, after_new_map, with_config}
+use Rattle.q3_built.specs.Built.{IsArea}
 use Rattle.q3_slot.specs.Slot.{SlotState, new_slot, on_new_map, is_of, with_player, with_area, with_delayed}
 use Rattle.q3_slot.specs.Slots.{say_slot, tells, lacks_room}
 use Rattle.q3_slot.specs.Taking.{take_slot}
@@ -30,12 +31,14 @@ use Rattle.q3_server.specs.Server.{ServerState, Handed, own_string, slot_at, wit
 use Rattle.q3_server.specs.Taking.{sender_of, take_by, take_from, take_headed, take_at}
 use Rattle.q3_server.specs.Standing.{IsServer, IsJoined, IsServerState, Below}
 use Rattle.q3_server.proofs.KeepsMap.{map_none, map_new}
+use Rattle.q3_server.proofs.KeepsFrames.{snapshots_none}
 use Rattle.q3_server.proofs.KeepsClients.{nobody, joined_new, joined_player, joined_area, joined_delayed, joined_issued, joined_took, at_place, place_set, server_goes_on, server_on_map}
 use Rattle.q3_server.proofs.KeepsServer.{server_timed, server_entered, server_removed, server_baselined, server_configured}
 
 -- with no client, before the first map
 pub new_stays : Below → (profile : Profile) (count : ℕ) → IsCodec profile → IsServerState (new_server profile count)
-new_stays below profile count codec = record { codec = codec; is_map = map_none below profile; clients = nobody profile no_map.id count }
+new_stays below profile count codec =
+    record { codec = codec; is_map = map_none below profile; clients = nobody profile no_map.id count; snapshots = snapshots_none below profile count profile.server_ring }
 
 module _ (below : Below) (server : ServerState) (is : IsServerState server) where
   -- what is answered doesn't count
@@ -46,7 +49,7 @@ module _ (below : Below) (server : ServerState) (is : IsServerState server) wher
 
   -- one is put in a place
   put : (c : ℕ) (slot : SlotState) → IsJoined server.profile server.map.id slot → IsServerState (with_slot server c slot)
-  put c slot joined = record { codec = is.codec; is_map = is.is_map; clients = place_set server.profile server.map.id server.slots c (Some slot) joined is.clients }
+  put c slot joined = record { codec = is.codec; is_map = is.is_map; clients = place_set server.profile server.map.id server.slots c (Some slot) joined is.clients; snapshots = is.snapshots }
 
   -- one at a place, if there is one, is as each is
   here : (c : ℕ) → IfSome (slot_at server c) (IsJoined server.profile server.map.id)
@@ -59,7 +62,7 @@ module _ (below : Below) (server : ServerState) (is : IsServerState server) wher
     where
       of_twin : (twin : Option ℕ) → IsServerState (add_apart server c (new_slot server.profile.protocol challenge qport address) twin).server
       of_twin (Some twin) = is
-      of_twin None = put c (new_slot server.profile.protocol challenge qport address) (joined_new below server.profile server.map.id server.profile.protocol challenge qport address is.codec)
+      of_twin None = put c (new_slot server.profile.protocol challenge qport address) (joined_new below server.profile server.map.id challenge qport address is.codec)
 
       of_found : (found : Option SlotState) → IsServerState (add_to server c (new_slot server.profile.protocol challenge qport address) found).server
       of_found (Some old) = is
@@ -76,8 +79,8 @@ module _ (below : Below) (server : ServerState) (is : IsServerState server) wher
   player_stays c player state =
       gives c (λ slot. with_player server.profile slot player) (slot_at server c) (λ slot. joined_player below server.profile server.map.id player slot is.codec state) (here c)
 
-  pub area_stays : (c : ℕ) (area : List ℕ) → IsServerState (set_area_at server c area).server
-  area_stays c area = gives c (λ slot. with_area slot area) (slot_at server c) (joined_area server.profile server.map.id area) (here c)
+  pub area_stays : (c : ℕ) (area : List ℕ) → IsArea area → IsServerState (set_area_at server c area).server
+  area_stays c area few = gives c (λ slot. with_area slot area) (slot_at server c) (λ slot. joined_area server.profile server.map.id area slot few) (here c)
 
   pub delayed_stays : (c : ℕ) (on : Bool) → IsServerState (set_delayed_at server c on).server
   delayed_stays c on = gives c (λ slot. with_delayed slot on) (slot_at server c) (joined_delayed server.profile server.map.id on) (here c)
@@ -95,7 +98,7 @@ module _ (below : Below) (server : ServerState) (is : IsServerState server) wher
     where
       of_found : (found : Option SlotState) → IfSome found (IsJoined server.profile server.map.id) → IsServerState (emit_from server c found).server
       of_found None joined = is
-      of_found (Some slot) joined = server_goes_on server.profile server.map server.slots server.frames c slot joined is
+      of_found (Some slot) joined = server_goes_on below server.profile server.map server.slots server.frames c slot joined is
 
   pub takes_stay : (from : Address) (datagram : List ℕ) → IsServerState (take_at server from datagram).server
   unfolding take_at
@@ -104,7 +107,7 @@ module _ (below : Below) (server : ServerState) (is : IsServerState server) wher
       of_found : (c : ℕ) (found : Option SlotState) → IfSome found (IsJoined server.profile server.map.id) → IsServerState (take_by server c from datagram found).server
       of_found c None joined = is
       of_found c (Some slot) joined =
-          put c (take_slot server.profile server.map c from datagram slot).slot (joined_took server.profile server.map c from datagram slot joined)
+          put c (take_slot server.profile server.map c from datagram slot).slot (joined_took below server.profile server.map c from datagram slot joined)
 
       of_place : (place : Option ℕ) → IsServerState (take_from server from datagram place).server
       of_place None = is
@@ -118,26 +121,26 @@ module _ (below : Below) (server : ServerState) (is : IsServerState server) wher
   -- ---- the map
 
   pub time_stays : (time : ℕ) → time < 2 ^ 32 → IsServerState (set_time_at server time)
-  time_stays time short = server_timed server.profile server.map (of_map.set_time_at server.map time) server.slots time short refl is
+  time_stays time short = server_timed server.profile server.map (of_map.set_time_at server.map time) server.slots server.frames time short refl is
 
   pub entity_stays : (state : EntityState) → state.number < end_mark server.profile.entity → AreWords 64 state.words → IsServerState (set_entity_at server state)
   entity_stays state number words =
-      server_entered server.profile server.map (of_map.set_entity_at server.profile.entity server.map state) server.slots below state number words refl is
+      server_entered server.profile server.map (of_map.set_entity_at server.profile.entity server.map state) server.slots server.frames below state number words refl is
 
   pub remove_stays : (number : ℕ) → IsServerState (remove_entity_at server number)
-  remove_stays number = server_removed server.profile server.map (of_map.remove_entity_at server.map number) server.slots below number refl is
+  remove_stays number = server_removed server.profile server.map (of_map.remove_entity_at server.map number) server.slots server.frames below number refl is
 
   pub baseline_stays : (state : EntityState) → state.number < end_mark server.profile.entity → AreWords 64 state.words → IsServerState (set_baseline_at server state).server
   baseline_stays state number words =
       let handed = of_map.set_baseline_at server.profile.entity server.map state in
-      server_baselined server.profile server.map handed.map server.slots below state handed.answer number words refl is
+      server_baselined server.profile server.map handed.map server.slots server.frames below state handed.answer number words refl is
 
   pub map_stays : (id feed : ℕ) → id < 2 ^ 31 → feed < 2 ^ 32 → IsServerState (new_map_at server id feed).server
   map_stays id feed least short =
       let next = after_new_map server.map id feed in
       cond_both (nat_le id server.map.id) (record { map = server.map; answer = Err (record { last = server.map.id }) }) (record { map = next; answer = Ok tt })
-      (λ (handed : of_map.Handed NotLater). IsServer server.profile handed.map (on_map server.slots handed.answer)) (λ early. is)
-      (λ later. server_on_map below server.profile server.map next server.slots (map_list (option_map on_new_map) server.slots)
+      (λ (handed : of_map.Handed NotLater). IsServer server.profile handed.map (on_map server.slots handed.answer) server.frames) (λ early. is)
+      (λ later. server_on_map below server.profile server.map next server.slots (map_list (option_map on_new_map) server.slots) server.frames
       (map_new below server.profile server.map id feed least short is.is_map) refl is)
 
   pub config_stays : (index : ℕ) (text : List ℕ) → IsServerState (set_config_at server index text).server
@@ -150,7 +153,7 @@ module _ (below : Below) (server : ServerState) (is : IsServerState server) wher
       of_place : (index ≡ 1 → ⊥) → admit_fault server.map.strings index text ≡ None → (place : Option ℕ) → IsServerState (change_unless server index text place).server
       of_place other admitted (Some c) = is
       of_place other admitted None =
-          server_configured server.profile server.map (with_config server.map index text) server.slots below index text
+          server_configured server.profile server.map (with_config server.map index text) server.slots server.frames below index text
           (map_list (option_map (tells (piece_texts index text))) server.slots) other admitted refl refl is
 
       of_fault : (index ≡ 1 → ⊥) → (fault : Option ConfigError) → admit_fault server.map.strings index text ≡ fault → IsServerState (change_or server index text fault).server

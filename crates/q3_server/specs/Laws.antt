@@ -12,14 +12,14 @@ use Rattle.q3_config.specs.Strings.{admit_fault}
 use Rattle.q3_map.specs.Map.{MapState, no_map, set_time_at, set_entity_at, remove_entity_at, begins_game, after_new_map, set_baseline_at, with_config}
 use Rattle.q3_chan.specs.Datagrams.{sequence_end}
 use Rattle.q3_frames.specs.Frames.{FramesState}
-use Rattle.q3_built.specs.Built.{IsBuilt, is_unclear}
+use Rattle.q3_built.specs.Built.{IsArea, IsBuilt, is_unclear}
 use Rattle.q3_slot.specs.Slot.{SlotState}
 use Rattle.q3_slot.specs.Emitting.{begun_next, next_game_built}
 use Rattle.q3_slot.specs.Standing.{IsSlot}
 use Rattle.q3_server.specs.Server as of_server
 use Rattle.q3_server.specs.Server.{ServerState, slot_at, new_server, add_client_at, set_player_at, set_area_at, set_delayed_at, set_config_at, say_at, emit_at}
 use Rattle.q3_server.specs.Taking.{take_at}
-use Rattle.q3_server.specs.Standing.{IsMap, IsJoined, IsServerState, BeginsBuilt}
+use Rattle.q3_server.specs.Standing.{IsMap, IsJoined, HoldSnapshots, IsServerState, BeginsBuilt}
 
 -- a map is well formed before the first, and stays so: with another time, with an entity set or taken away, where a gamestate of it is
 -- begun, where a new one begins, and with a baseline or a config string set
@@ -50,18 +50,18 @@ pub record ServerStays : Type 0 where
   pub remove : (server : ServerState) (number : ℕ) → IsServerState server → IsServerState (of_server.remove_entity_at server number)
   pub time : (server : ServerState) (time : ℕ) → time < 2 ^ 32 → IsServerState server → IsServerState (of_server.set_time_at server time)
   pub player : (server : ServerState) (c : ℕ) (player : PlayerState) → IsState player → IsServerState server → IsServerState (set_player_at server c player).server
-  pub area : (server : ServerState) (c : ℕ) (area : List ℕ) → IsServerState server → IsServerState (set_area_at server c area).server
+  pub area : (server : ServerState) (c : ℕ) (area : List ℕ) → IsArea area → IsServerState server → IsServerState (set_area_at server c area).server
   pub delays : (server : ServerState) (c : ℕ) (on : Bool) → IsServerState server → IsServerState (set_delayed_at server c on).server
   pub config : (server : ServerState) (index : ℕ) (text : List ℕ) → IsServerState server → IsServerState (set_config_at server index text).server
   pub says : (server : ServerState) (c : ℕ) (text : List ℕ) → IsServerState server → IsServerState (say_at server c text).server
   pub emits : (server : ServerState) (c : ℕ) → IsServerState server → IsServerState (emit_at server c).server
   pub takes : (server : ServerState) (from : Address) (bytes : List ℕ) → IsServerState server → IsServerState (take_at server from bytes).server
 
--- a snapshot or a gamestate that goes to a slot next is a message as a server builds it, where the map, the client and its slot are as a
--- server keeps them and its leading long isn't hidden; and so is what is begun for the client in a slot, whatever the server keeps
+-- a snapshot or a gamestate that goes to a slot next is a message as a server builds it, where the map, the client, its slot and the frames
+-- are as a server keeps them and its leading long isn't hidden; and so is what is begun for the client in a slot, whatever the server keeps
 pub record BeginsAsBuilt : Type 0 where
   pub snapshot : (profile : Profile) (map : MapState) (slot : SlotState) → IsCodec profile → IsMap profile map → IsJoined profile map.id slot → IsSlot slot
-      → (frames : FramesState) (c : ℕ) → slot.sending.number + 1 < sequence_end → is_unclear profile slot.executed.executed ≡ false
+      → (frames : FramesState) (c : ℕ) → HoldSnapshots profile frames → slot.sending.number + 1 < sequence_end → is_unclear profile slot.executed.executed ≡ false
       → IsBuilt profile slot.challenge (slot.sending.number + 1) (begun_next profile map frames c slot)
   pub game : (profile : Profile) (map : MapState) (slot : SlotState) → IsCodec profile → IsMap profile map → IsJoined profile map.id slot → IsSlot slot
       → (c : ℕ) → c < 2 ^ 32 → slot.owed ≡ true → is_unclear profile slot.executed.executed ≡ false

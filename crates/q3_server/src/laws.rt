@@ -1,12 +1,16 @@
 //! Laws of the server's end, each the contract of a call that does nothing but cite the laws below it.
 
+ghost use Rattle.std.specs.Prelude.{◌≤◌, length};
+ghost use Rattle.q3_built.specs.Built.{IsArea};
 ghost use Rattle.q3_server.specs.Apart.{SlotsApart};
 ghost use Rattle.q3_server.specs.Isolated.{SlotsIsolated};
 ghost use Rattle.q3_server.specs.Standing.{Below};
 ghost use Rattle.q3_server.specs.Laws.{MapStays, ServerStays, BeginsAsBuilt};
 
+use q3_chan::laws as chan;
 use q3_config::laws as config;
 use q3_entity::laws as entity;
+use q3_frames::laws as frames;
 use q3_map::laws as map;
 use q3_player::laws as player;
 
@@ -24,8 +28,18 @@ pub(crate) fn below()
     map::new_maps_tell();
     config::strings_stay();
     config::texts_stay();
-    q3_frames::laws::base_is_near();
+    frames::base_is_near();
+    frames::held_was_built();
+    frames::nothing_is_held();
+    chan::ends_gather();
+    chan::ends_send();
 }
+
+/// Area bytes that are few are as a snapshot may have them.
+pub(crate) fn is_area(area: &[u8])
+    requires { length area.now ≤ 32 }
+    ensures { IsArea area.now }
+{}
 
 /// The map is well formed before the first, and stays so, whatever the game hands in.
 pub fn map_stays()
@@ -52,7 +66,7 @@ pub fn begins_built()
 pub fn slots_apart()
     ensures { SlotsApart }
 {
-    q3_frames::laws::held_was_built();
+    frames::held_was_built();
 }
 
 /// What a datagram does to a client's slot, and what is answered, depends on the map, on the slot, and on who the clients are,

@@ -105,7 +105,7 @@ impl Model for Server {
     ghost invariant = { λ s. (length s.slots.items ≤ places) × (length s.frames.slots ≡ length s.slots.items)
         × HoldLists s.profile.entity s.frames
         × (length s.buffer.items ≡ longest_message) × (length s.whole.items ≡ longest_message)
-        × IsServer s.profile s.map s.slots.items };
+        × IsServer s.profile s.map s.slots.items s.frames };
 }
 
 impl Server {
@@ -276,6 +276,7 @@ impl Server {
         requires { length area.now ≤ 32 }
         ensures { set_area_at self.old slot area.now ≡ record { server = self.new; answer = result } }
     {
+        laws::is_area(area);
         if !self.has(slot) {
             return Err(NoClient);
         }
@@ -355,6 +356,7 @@ impl Server {
         ensures entered { heard.new.entered ≡ (take_at self.old from datagram.now).entered }
         ensures owed { heard.new.owed ≡ (take_at self.old from datagram.now).owed }
     {
+        laws::below();
         heard.clear();
         let qport = match qport_of(is_checked(self.profile.protocol), datagram) {
             Ok(qport) => qport,
@@ -424,7 +426,7 @@ fn of_parts(
     requires lists { HoldLists profile.entity frames }
     requires buffer { length buffer.items ≡ longest_message }
     requires whole { length whole.items ≡ longest_message }
-    requires stands { IsServer profile map slots.items }
+    requires stands { IsServer profile map slots.items frames }
     ensures { result ≡ record { profile = profile; map = map; slots = slots.items; frames = frames } }
 {
     Server {

@@ -12,5 +12,5 @@ invariant_of-self c =
       search rules,
       long_written c.self.inside.buffer.len longest_message c.emit.new.buffer c.deref_mut.result.now c.self.inside.buffer.items c.emit.ensures.buffer old len c.self.invariant.3,
       search rules,
-      server_emitted c.self.inside.profile c.self.inside.map c.self.inside.slots.items c.args.slot c.index_mut.result.now c.emit.new.self (search rules) (search rules) c.self.invariant.5 c.self.inside.frames c.emit.new.map c.emit.ensures.slot c.emit.ensures.map,
+      server_emitted c.self.inside.profile c.self.inside.map c.self.inside.slots.items c.self.inside.frames c.args.slot c.index_mut.result.now c.emit.new.self (search rules) (search rules) c.self.invariant.5 c.below.ensures c.emit.new.map c.emit.new.frames c.emit.ensures.slot c.emit.ensures.map c.emit.ensures.frames,
     )

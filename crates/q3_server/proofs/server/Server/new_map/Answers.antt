@@ -1,6 +1,7 @@
-use Rattle.std.proofs.Common.{rules, arith, ◌≡◌, List, Option, ◌++◌, take, drop, length}
+use Rattle.std.proofs.Common.{rules, arith, ◌≡◌, List, Option, ◌++◌, take, drop, length, sym, subst}
 use Rattle.std.specs.Prelude.{option_map, map}
 use Rattle.q3_slot.specs.Slot.{SlotState, on_new_map}
+use Rattle.q3_server.specs.Standing.{IsServer}
 use Rattle.q3_server.proofs.KeepsClients.{all_written}
 use Rattle.q3_server.proofs.KeepsServer.{server_begun}
 use Rattle.q3_server.proofs.server.Server.new_map.Goals as goal
@@ -17,5 +18,6 @@ invariant_of-self-2 c =
       search rules,
       search rules,
       search rules,
-      server_begun c.self.inside.profile c.self.inside.map c.new_map.new.self c.self.inside.slots.items c.below.ensures c.args.id c.args.feed slots c.requires (omega arith) (search rules) are was.5,
+      subst (IsServer c.self.inside.profile c.new_map.new.self slots) (sym c.note_change.ensures)
+          (server_begun c.self.inside.profile c.self.inside.map c.new_map.new.self c.self.inside.slots.items c.self.inside.frames c.below.ensures c.args.id c.args.feed slots c.requires (omega arith) (search rules) are was.5),
     )

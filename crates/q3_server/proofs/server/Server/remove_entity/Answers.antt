@@ -1,4 +1,5 @@
-use Rattle.std.proofs.Common.{rules}
+use Rattle.std.proofs.Common.{rules, sym, subst}
+use Rattle.q3_server.specs.Standing.{IsServer}
 use Rattle.q3_server.proofs.KeepsServer.{server_removed}
 use Rattle.q3_server.proofs.server.Server.remove_entity.Goals as goal
 
@@ -10,5 +11,6 @@ invariant_of-self c =
       search rules,
       search rules,
       search rules,
-      server_removed c.self.inside.profile c.self.inside.map c.remove_entity.new.self c.self.inside.slots.items c.below.ensures c.args.number c.remove_entity.ensures was.5,
+      subst (IsServer c.self.inside.profile c.remove_entity.new.self c.self.inside.slots.items) (sym c.note_change.ensures)
+          (server_removed c.self.inside.profile c.self.inside.map c.remove_entity.new.self c.self.inside.slots.items c.self.inside.frames c.below.ensures c.args.number c.remove_entity.ensures was.5),
     )

@@ -14,5 +14,5 @@ invariant_of-self c =
       search rules,
       search rules,
       search rules,
-      server_baselined c.self.inside.profile c.self.inside.map c.set_baseline.new.self c.self.inside.slots.items c.below.ensures c.args.state.now c.set_baseline.result below c.are_words.ensures c.set_baseline.ensures was.5,
+      server_baselined c.self.inside.profile c.self.inside.map c.set_baseline.new.self c.self.inside.slots.items c.self.inside.frames c.below.ensures c.args.state.now c.set_baseline.result below c.are_words.ensures c.set_baseline.ensures was.5,
     )

@@ -22,7 +22,7 @@ invariant_of-self c =
       search rules,
       search rules,
       search rules,
-      server_configured c.self.inside.profile c.self.inside.map c.set_config.new.self c.self.inside.slots.items c.below.ensures c.args.index c.args.text.now slots c.if-index-eq-SYSTEM_INFO.false none c.set_config.ensures are was.5,
+      server_configured c.self.inside.profile c.self.inside.map c.set_config.new.self c.self.inside.slots.items c.self.inside.frames c.below.ensures c.args.index c.args.text.now slots c.if-index-eq-SYSTEM_INFO.false none c.set_config.ensures are was.5,
     )
 
 pub first_without_room-requires-clause-short : goal.first_without_room-requires-clause-short

@@ -1,6 +1,7 @@
 use Rattle.std.proofs.Common.{rules, ◌<◌, sym, subst}
 use Rattle.q3_fields.specs.Kinds.{end_mark}
 use Rattle.q3_server.specs.Server.{ServerState}
+use Rattle.q3_server.specs.Standing.{IsServer}
 use Rattle.q3_server.proofs.KeepsServer.{server_entered}
 use Rattle.q3_server.proofs.server.Server.set_entity.Goals as goal
 
@@ -14,5 +15,6 @@ invariant_of-self c =
       search rules,
       search rules,
       search rules,
-      server_entered c.self.inside.profile c.self.inside.map c.set_entity.new.self c.self.inside.slots.items c.below.ensures c.args.state.now below c.are_words.ensures c.set_entity.ensures was.5,
+      subst (IsServer c.self.inside.profile c.set_entity.new.self c.self.inside.slots.items) (sym c.note_change.ensures)
+          (server_entered c.self.inside.profile c.self.inside.map c.set_entity.new.self c.self.inside.slots.items c.self.inside.frames c.below.ensures c.args.state.now below c.are_words.ensures c.set_entity.ensures was.5),
     )
