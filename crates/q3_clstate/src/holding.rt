@@ -32,6 +32,7 @@ impl Holding {
         ensures held { IfOk result (λ holding. holding.rings.held ≡ no_snapshots ring) }
         ensures baselines { IfOk result (λ holding. holding.baselines ≡ no_baselines) }
         ensures none { IfOk result (λ holding. holding.rings.begun ≡ None) }
+        ensures placed { IfOk result (λ holding. holding.rings.placed ≡ 0) }
     {
         Ok(Holding {
             rings: Rings::new(alloc, ring)?,
@@ -39,11 +40,13 @@ impl Holding {
         })
     }
 
-    /// A gamestate was read: nothing of before is held any more, and its baselines take the place of the others.
+    /// A gamestate was read: nothing of before is held any more, no entity counts as placed, and its baselines take the place of
+    /// the others.
     pub fn start(&mut self, message: &mut ServerMessage)
         ensures held { self.new.rings.held ≡ no_snapshots self.old.rings.held.ring }
         ensures baselines { self.new.baselines ≡ message.old.baselines }
         ensures none { self.new.rings.begun ≡ None }
+        ensures placed { self.new.rings.placed ≡ 0 }
     {
         self.rings.wipe();
         swap(&mut self.baselines, &mut message.baselines);

@@ -11,7 +11,7 @@ use Rattle.q3_entity_ring.specs.Snapshot.{Snapshot}
 use Rattle.q3_entity_ring.specs.Places.{most_places, place_of, no_places, at_number, put_at_number}
 use Rattle.q3_frames.specs.Frames.{Frame, FramesState, no_frames, AreFrames, has_entities, frame_under, held_frame, is_near, frame_remains, with_frame, build_at}
 use Rattle.q3_frames.specs.Built.{Build, placed_by, frames_from, last_built}
-use Rattle.q3_frames.specs.Laws.{NothingIsHeld, HeldWasBuilt, BuiltIsHeld, BuildKeeps, BaseIsNear, NothingStands, BuildIsAdded}
+use Rattle.q3_frames.specs.Laws.{NothingIsHeld, HeldWasBuilt, BuildLeavesOthers, BuiltIsHeld, BuildKeeps, BaseIsNear, NothingStands, BuildIsAdded}
 use Rattle.q3_frames.proofs.Remains.{all_remain_twice, under_remains, under-is, under-named, under-earlier, near_parts}
 use Rattle.q3_frames.proofs.Standing.{each, at_each, none_at, with_frame_read, with_frame_at, with_frame-count}
 
@@ -35,6 +35,18 @@ held_was_built frames c slot number built held is =
       | inr e ↦
           let it = under-is frames.ring placed number frame held (sym (ap (frame_under frames.ring placed number) e.2) ∙ read) in
           inl (e.0, sym it.named, sym it.same)
+    ]
+
+pub build_leaves_others : BuildLeavesOthers
+build_leaves_others frames c slot number built other =
+    let placed : ℕ = frames.placed + length built.entities in
+    let frame : Frame = record { snapshot = built; first = frames.placed } in
+    let slots = with_frame frames.slots c frame in
+    ap (frame_under frames.ring placed number) (at_each (frame_remains frames.ring placed) slots slot number)
+    ∙ under_remains frames.ring placed number (at_number (slice_index_or slots slot []) number)
+    ∙ elim (with_frame_read frames.slots c frame slot number) [
+      | inl e ↦ ap (frame_under frames.ring placed number) e.0
+      | inr e ↦ absurd (other e.0 e.1)
     ]
 
 pub built_is_held : BuiltIsHeld

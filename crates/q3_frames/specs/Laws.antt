@@ -1,8 +1,8 @@
 -- Laws of frames.
-use Rattle.std.specs.Prelude.{◌≡◌, ◌≢◌, ◌⊎◌, ℕ, ◌+◌, ◌<◌, List, [], ◌∷◌, ◌++◌, length, Some, None}
+use Rattle.std.specs.Prelude.{◌≡◌, ◌≢◌, ◌⊎◌, ℕ, ◌+◌, ◌<◌, List, [], ◌∷◌, ◌++◌, length, slice_index_or, Some, None}
 use Rattle.q3_entity_ring.specs.Snapshot.{Snapshot}
-use Rattle.q3_entity_ring.specs.Places.{place_of}
-use Rattle.q3_frames.specs.Frames.{FramesState, no_frames, AreFrames, held_frame, base_of, build_at}
+use Rattle.q3_entity_ring.specs.Places.{place_of, at_number}
+use Rattle.q3_frames.specs.Frames.{FramesState, no_frames, AreFrames, frame_under, held_frame, base_of, build_at}
 use Rattle.q3_frames.specs.Built.{Build, base_built, FramesStandFor}
 
 -- where nothing was built nothing is held
@@ -14,6 +14,13 @@ abbrev pub HeldWasBuilt : Type 0
 HeldWasBuilt = (frames : FramesState) (c slot number : ℕ) (built held : Snapshot) → held_frame (build_at frames c built) slot number ≡ Some held
     → ((slot ≡ c) × (number ≡ built.head.number) × (held ≡ built))
     ⊎ ((slot ≡ c → place_of number ≢ place_of built.head.number) × (held_frame frames slot number ≡ Some held))
+
+-- a build leaves every other place: what stood there is held after exactly where it is the number's own and its first, with the
+-- ring's room, is above the count of entities placed, those of the build among them
+abbrev pub BuildLeavesOthers : Type 0
+BuildLeavesOthers = (frames : FramesState) (c slot number : ℕ) (built : Snapshot) → (slot ≡ c → place_of number ≢ place_of built.head.number)
+    → held_frame (build_at frames c built) slot number
+    ≡ frame_under frames.ring (frames.placed + length built.entities) number (at_number (slice_index_or frames.slots slot []) number)
 
 -- what is built is held under its number, if its entities are fewer than the ring has room for
 abbrev pub BuiltIsHeld : Type 0

@@ -1,6 +1,6 @@
 //! Laws of frames, each the contract of a call that does nothing.
 
-ghost use Rattle.q3_frames.specs.Laws.{NothingIsHeld, HeldWasBuilt, BuiltIsHeld, BuildKeeps, BaseIsNear, NothingStands, BuildIsAdded, BaseWasBuiltLast};
+ghost use Rattle.q3_frames.specs.Laws.{NothingIsHeld, HeldWasBuilt, BuildLeavesOthers, BuiltIsHeld, BuildKeeps, BaseIsNear, NothingStands, BuildIsAdded, BaseWasBuiltLast};
 
 /// Where nothing was built nothing is held.
 pub fn nothing_is_held()
@@ -11,6 +11,12 @@ pub fn nothing_is_held()
 /// place.
 pub fn held_was_built()
     ensures { HeldWasBuilt }
+{}
+
+/// A build leaves every other place: what stood there is held after exactly where it is the number's own and its first, with
+/// the ring's room, is above the count of entities placed, those of the build among them.
+pub fn build_leaves_others()
+    ensures { BuildLeavesOthers }
 {}
 
 /// What is built is held under its number, if its entities are fewer than the ring has room for.

@@ -1,6 +1,6 @@
 //! The snapshots that are held, by rising number.
 
-ghost use Rattle.std.specs.Prelude.{◌≡◌, ◌≢◌, ◌⊎◌, ◌<◌, ◌≤◌, ℕ, Some, None, length, option_map};
+ghost use Rattle.std.specs.Prelude.{◌≡◌, ◌≢◌, ◌⊎◌, ◌<◌, ◌≤◌, ℕ, [], Some, None, length, option_map};
 ghost use Rattle.q3_entity.specs.Entities.{Rises, run_of};
 ghost use Rattle.q3_entity_ring.specs.Places.{place_of};
 ghost use Rattle.q3_rings.specs.Loans.{head_of, head_from};
@@ -57,10 +57,11 @@ impl Rings {
         }
     }
 
-    /// Lends the entities of the snapshot of a number: none where they are gone.
+    /// Lends the entities of the snapshot of a number: none where they are gone, or where none is held under it.
     pub fn entities_of(&self, number: u32) -> Run<'_>
         ensures entities { (held : HeldSnapshot) → spec.held_under self.now.held number ≡ Some held
             → run_of result ≡ held.snapshot.entities }
+        ensures none { spec.held_under self.now.held number ≡ None → run_of result ≡ [] }
         ensures rises { Rises (run_of result) }
     {
         let _newest = self.newest();

@@ -3,6 +3,7 @@
 
 ghost use Rattle.std.specs.Prelude.{◌≡◌, ◌+◌, ◌<◌, ◌≤◌, ◌^◌, [], ◌∷◌, ◌++◌, length, option_map, slice_index_or, None, IfOk, IfSome, MatchOption};
 ghost use Rattle.q3_entity.specs.Entities.{Rises, run_of};
+ghost use Rattle.q3_entity_ring.specs.Places.{at_number};
 ghost use Rattle.q3_rings.specs.Loans.{snapshot_of};
 ghost use Rattle.q3_rings.specs.Rings.{AreHeldSnapshots, CanPutBack, no_rings, held_snapshot, view_at, accept_in, restored, put_back_in, begin_in, place_in, end_in};
 ghost use Rattle.q3_rings.specs.ByNumber.{GoneAreEmpty};
@@ -61,7 +62,7 @@ impl Model for Rings {
 }
 
 impl Rings {
-    ghost use Rattle.q3_rings.specs.Loans.{snapshot_of, viewed, head_of, head_from};
+    ghost use Rattle.q3_rings.specs.Loans.{snapshot_of, viewed, head_of, head_from, before_end};
 
     /// No snapshot was accepted. The ring has room for 512 to 65,536 entities. `Err` is want of memory.
     pub fn new(alloc: Global, ring: u32) -> Result<Rings, NoMemory>
@@ -79,10 +80,13 @@ impl Rings {
 
     /// Lends the snapshot of a number. `NeverHeld` comes exactly where the number is 0 or no snapshot stands in its place,
     /// else `Overwritten` exactly where that one has another number, which it carries, and else `EntitiesGone` exactly where
-    /// its age, which it carries, is above the ring's room less 256.
+    /// its age, which it carries, is above the ring's room less 256. Of its entities, in their order, the first piece goes to the
+    /// ring's end at most, and the second on from the ring's first place.
     pub fn base(&self, number: u32) -> Result<SnapView<'_>, NoBase>
         ensures base { viewed result ≡ held_snapshot self.now.held number }
         ensures rises { IfOk result (λ view. Rises (run_of view.entities)) }
+        ensures head { IfOk result (λ view. IfSome (at_number self.now.held.places number)
+            (λ held. length view.entities.head.now ≡ before_end self.now held)) }
     {
         if number == 0 {
             return Err(NoBase::NeverHeld);
@@ -100,10 +104,12 @@ impl Rings {
         Ok(view_of(kept, self.ring.lend(kept.first, kept.count)))
     }
 
-    /// Lends the snapshot of a number, if it is held.
+    /// Lends the snapshot of a number, if it is held, as `base` does.
     pub fn view(&self, number: u32) -> Option<SnapView<'_>>
         ensures view { option_map snapshot_of result ≡ view_at self.now.held number }
         ensures rises { IfSome result (λ view. Rises (run_of view.entities)) }
+        ensures head { IfSome result (λ view. IfSome (at_number self.now.held.places number)
+            (λ held. length view.entities.head.now ≡ before_end self.now held)) }
     {
         self.base(number).ok()
     }
@@ -235,7 +241,8 @@ impl Rings {
 
 /// What is kept of a snapshot, and its entities, as a view.
 fn view_of<'a>(kept: &'a Kept, entities: Run<'a>) -> SnapView<'a>
-    ensures { snapshot_of result ≡ record { head = kept.now.head; entities = run_of entities.entry } }
+    ensures snapshot { snapshot_of result ≡ record { head = kept.now.head; entities = run_of entities.entry } }
+    ensures head { length result.entities.head.now ≡ length entities.entry.head.now }
 {
     SnapView {
         number: kept.head.number,

@@ -1,13 +1,14 @@
 -- A call of the server for one client leaves what the others have.
-use Rattle.std.specs.Prelude.{◌≡◌, ◌≢◌, ℕ, Bool, List, Option, Some, None, Result, Ok, Err}
+use Rattle.std.specs.Prelude.{◌≡◌, ◌≢◌, ℕ, ◌+◌, ◌≤◌, Bool, List, [], slice_index_or, Option, Some, None, Result, Ok, Err}
 use Rattle.q3_io.specs.declared.address.Address.{Address}
 use Rattle.q3_chan.specs.declared.qport.NoQport.{NoQport}
 use Rattle.q3_chan.specs.Checks.{is_checked}
 use Rattle.q3_chan.specs.Senders.{qport_of}
 use Rattle.q3_entity.specs.declared.state.EntityState.{EntityState}
 use Rattle.q3_player.specs.declared.state.PlayerState.{PlayerState}
-use Rattle.q3_entity_ring.specs.Snapshot.{Snapshot}
-use Rattle.q3_frames.specs.Frames.{FramesState, held_frame}
+use Rattle.q3_entity.specs.Entities.{most_entities}
+use Rattle.q3_entity_ring.specs.Places.{at_number}
+use Rattle.q3_frames.specs.Frames.{FramesState, frame_under, held_frame}
 use Rattle.q3_server.specs.Server.{ServerState, slot_at, add_client_at, set_baseline_at, set_entity_at, remove_entity_at, set_time_at, set_player_at, set_area_at, set_delayed_at, say_at, emit_at}
 use Rattle.q3_server.specs.Taking.{sender_of, take_at}
 
@@ -19,17 +20,28 @@ found_by server from (Err e) = None
 abbrev pub taker_of : ServerState → Address → List ℕ → Option ℕ
 taker_of server from bytes = found_by server from (qport_of (is_checked server.profile.protocol) bytes)
 
--- the frames that a slot has were its frames before, the same: others may have lost their entities' places
-abbrev pub KeepsFrames : ℕ → FramesState → FramesState → Type 0
-KeepsFrames d old new = (number : ℕ) (frame : Snapshot) → held_frame new d number ≡ Some frame → held_frame old d number ≡ Some frame
+-- a slot loses frames by the ring alone: what stood in the place of a number is held after exactly where it is the number's own
+-- and its first, with the ring's room, is above the count of entities placed. The room stays, and the count grows by one message's
+-- entities at most
+pub record LosesByRing (d : ℕ) (old new : FramesState) : Type 0 where
+  pub ring : new.ring ≡ old.ring
+  pub grows : old.placed ≤ new.placed
+  pub few : new.placed ≤ old.placed + most_entities
+  pub held : (number : ℕ) → held_frame new d number ≡ frame_under old.ring new.placed number (at_number (slice_index_or old.slots d []) number)
 
--- the slot at a place is the same, with the same frames as far as they are there
+-- the slot at a place is the same, and so are the frames of all slots
 pub record SlotStays (d : ℕ) (old new : ServerState) : Type 0 where
   pub slot : slot_at new d ≡ slot_at old d
-  pub frames : KeepsFrames d old.frames new.frames
+  pub frames : new.frames ≡ old.frames
 
--- a call for another client, or for the map alone, leaves a slot and its frames, in every state and whatever bytes arrive. A new map, and
--- a change of a config string, are of every client
+-- the slot at a place is the same, and loses frames by the ring alone
+pub record SlotStaysBeside (d : ℕ) (old new : ServerState) : Type 0 where
+  pub slot : slot_at new d ≡ slot_at old d
+  pub frames : LosesByRing d old.frames new.frames
+
+-- a call for another client, or for the map alone, leaves a slot and all frames, in every state and whatever bytes arrive; but an
+-- emission to another client builds a frame, whose entities take room of the ring. A new map, and a change of a config string, are
+-- of every client
 pub record SlotsApart : Type 0 where
   pub joins : (server : ServerState) (c challenge qport d : ℕ) (address : Address) → d ≢ c → SlotStays d server (add_client_at server c challenge qport address).server
   pub baseline : (server : ServerState) (state : EntityState) (d : ℕ) → SlotStays d server (set_baseline_at server state).server
@@ -40,5 +52,5 @@ pub record SlotsApart : Type 0 where
   pub area : (server : ServerState) (c d : ℕ) (area : List ℕ) → d ≢ c → SlotStays d server (set_area_at server c area).server
   pub delays : (server : ServerState) (c d : ℕ) (on : Bool) → d ≢ c → SlotStays d server (set_delayed_at server c on).server
   pub says : (server : ServerState) (c d : ℕ) (text : List ℕ) → d ≢ c → SlotStays d server (say_at server c text).server
-  pub emits : (server : ServerState) (c d : ℕ) → d ≢ c → SlotStays d server (emit_at server c).server
+  pub emits : (server : ServerState) (c d : ℕ) → d ≢ c → SlotStaysBeside d server (emit_at server c).server
   pub takes : (server : ServerState) (d : ℕ) (from : Address) (bytes : List ℕ) → taker_of server from bytes ≢ Some d → SlotStays d server (take_at server from bytes).server

@@ -62,11 +62,13 @@ pub fn begins_built()
     below();
 }
 
-/// A call for another client, or for the map alone, leaves a slot and its frames, in every state and whatever bytes arrive.
+/// A call for another client, or for the map alone, leaves a slot and all frames, in every state and whatever bytes arrive. An
+/// emission to another client leaves a slot, and of its frames exactly those that have their entities by the ring's room and the
+/// count of entities placed, which grows by one message's at most.
 pub fn slots_apart()
     ensures { SlotsApart }
 {
-    frames::held_was_built();
+    frames::build_leaves_others();
 }
 
 /// What a datagram does to a client's slot, and what is answered, depends on the map, on the slot, and on who the clients are,

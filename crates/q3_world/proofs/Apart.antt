@@ -1,14 +1,13 @@
 -- An event of one client leaves what the others have.
-use Rattle.std.proofs.Common.{None, Option, Some, refl, ◌-◌, ℕ, List}
+use Rattle.std.proofs.Common.{None, Option, Some, refl, ◌≡◌, ◌-◌, ℕ, List}
 use Rattle.std.specs.Prelude.{Err, IfSome, Ok, Result, slice_get, ◌≢◌}
 use Rattle.std.proofs.lemmas.List.{get_or-set_other}
-use Rattle.q3_frames.specs.Frames.{FramesState}
 use Rattle.q3_script.specs.declared.event.Event.TheVariants as events
 use Rattle.q3_client.specs.Client.{ClientState, new_client, take_at}
 use Rattle.q3_client.specs.Sending as speaks
 use Rattle.q3_server.specs.declared.server.SlotError.{SlotError}
-use Rattle.q3_server.specs.Server.{ServerState, add_client_at, emit_at, remove_entity_at, say_at, set_area_at, set_baseline_at, set_entity_at, set_player_at, set_time_at}
-use Rattle.q3_server.specs.Apart.{KeepsFrames, SlotStays, taker_of}
+use Rattle.q3_server.specs.Server.{ServerState, add_client_at, remove_entity_at, say_at, set_area_at, set_baseline_at, set_entity_at, set_player_at, set_time_at, slot_at}
+use Rattle.q3_server.specs.Apart.{SlotStays, taker_of}
 use Rattle.q3_server.specs.Apart as calls
 use Rattle.q3_server.specs.Taking as hears
 use Rattle.q3_report.specs.declared.answer.Front.{Front}
@@ -27,77 +26,79 @@ use Rattle.q3_world.proofs.Ranged.{in_range_or}
 use Rattle.q3_world.specs.declared.made.Direction.{Direction}
 use Rattle.q3_world.specs.declared.made.Direction.TheVariants.{ToClient, ToServer}
 use Rattle.q3_world.specs.declared.places.Place.{Place}
-use Rattle.q3_world.specs.Apart.{IsLeft, IsOfOther, IsOfOthers, SlotsApart}
+use Rattle.q3_world.specs.Apart.{IsOfOther, IsOfOthers, SlotsApart}
 use Rattle.q3_world.specs.Ends.{Ends, client_takes, hand_server_of, joined, line_of, place_at, record_of, set_port_of, stop_of, to_client, with_place}
 use Rattle.q3_world.specs.Kept.{Kept, SentBytes, arrive_at, deliver_at, kept_send, kept_step}
 
--- where frames are as they were
-same_frames : (d : ℕ) (frames : FramesState) → KeepsFrames d frames frames
-same_frames d frames = λ number frame is. is
-
 -- ---- both ends
 
+-- a client has the same slot, and the same at its place, and all frames are as they were
+record Stays (d : ℕ) (old new : Ends) : Type 0 where
+  pub slot : slot_at new.server d ≡ slot_at old.server d
+  pub frames : new.server.frames ≡ old.server.frames
+  pub place : place_at new d ≡ place_at old d
+
 -- only the server changes
-of_server : (d : ℕ) (ends : Ends) (server : ServerState) → SlotStays d ends.server server → IsLeft d ends (record ends { server = server })
+of_server : (d : ℕ) (ends : Ends) (server : ServerState) → SlotStays d ends.server server → Stays d ends (record ends { server = server })
 of_server d ends server left = record { slot = left.slot; frames = left.frames; place = refl }
 
 -- or only another place
-of_place : (c d : ℕ) (ends : Ends) (place : Place) → d ≢ c → IsLeft d ends (with_place ends c place)
-of_place c d ends place ne = record { slot = refl; frames = same_frames d ends.server.frames; place = get_or-set_other ends.clients c d (Some place) None ne }
+of_place : (c d : ℕ) (ends : Ends) (place : Place) → d ≢ c → Stays d ends (with_place ends c place)
+of_place c d ends place ne = record { slot = refl; frames = refl; place = get_or-set_other ends.clients c d (Some place) None ne }
 
-nothing : (d : ℕ) (ends : Ends) → IsLeft d ends ends
-nothing d ends = record { slot = refl; frames = same_frames d ends.server.frames; place = refl }
+nothing : (d : ℕ) (ends : Ends) → Stays d ends ends
+nothing d ends = record { slot = refl; frames = refl; place = refl }
 
 joins : (c d : ℕ) (ends : Ends) (server : ServerState) (place : Place) (answer : Result (Unit {0}) SlotError) → d ≢ c → SlotStays d ends.server server
-    → IsLeft d ends (joined (record ends { server = server }) c place answer).ends
+    → Stays d ends (joined (record ends { server = server }) c place answer).ends
 joins c d ends server place (Ok x) ne left = record { slot = left.slot; frames = left.frames; place = get_or-set_other ends.clients c d (Some place) None ne }
 joins c d ends server place (Err e) ne left = of_server d ends server left
 
-ports : (c d port : ℕ) (ends : Ends) (found : Option Place) → d ≢ c → IsLeft d ends (set_port_of ends c port found).ends
+ports : (c d port : ℕ) (ends : Ends) (found : Option Place) → d ≢ c → Stays d ends (set_port_of ends c port found).ends
 ports c d port ends None ne = nothing d ends
 ports c d port ends (Some place) ne = of_place c d ends (record place { address = record place.address { port = port } }) ne
 
-hands_in : (c d : ℕ) (nobody : HandedIn) (line : ClientState → ClientStep) (ends : Ends) (found : Option Place) → d ≢ c → IsLeft d ends (to_client ends c nobody line found).ends
+hands_in : (c d : ℕ) (nobody : HandedIn) (line : ClientState → ClientStep) (ends : Ends) (found : Option Place) → d ≢ c → Stays d ends (to_client ends c nobody line found).ends
 hands_in c d nobody line ends None ne = nothing d ends
 hands_in c d nobody line ends (Some place) ne = of_place c d ends (record place { client = (line place.client).client }) ne
 
-sends : (kept : Kept) (c d : ℕ) (found : Option Place) → d ≢ c → IsLeft d kept.ends (kept_send kept c found).kept.ends
+sends : (kept : Kept) (c d : ℕ) (found : Option Place) → d ≢ c → Stays d kept.ends (kept_send kept c found).kept.ends
 sends kept c d None ne = nothing d kept.ends
 sends kept c d (Some place) ne = of_place c d kept.ends (record place { client = (speaks.emit_at (asking place.client place.recording)).client }) ne
 
-takes : (ends : Ends) (c d : ℕ) (front : Front) (bytes : List ℕ) (found : Option Place) → d ≢ c → IsLeft d ends (client_takes ends c front bytes found).ends
+takes : (ends : Ends) (c d : ℕ) (front : Front) (bytes : List ℕ) (found : Option Place) → d ≢ c → Stays d ends (client_takes ends c front bytes found).ends
 takes ends c d front bytes None ne = nothing d ends
 takes ends c d front bytes (Some place) ne =
     let taken = take_at place.client bytes in
     of_place c d ends (record place { client = taken.client; recording = (note_taken place.recording place.client taken).recording }) ne
 
-records : (c d : ℕ) (name : List ℕ) (ends : Ends) (found : Option Place) → d ≢ c → IsLeft d ends (record_of ends c name found).ends
+records : (c d : ℕ) (name : List ℕ) (ends : Ends) (found : Option Place) → d ≢ c → Stays d ends (record_of ends c name found).ends
 records c d name ends None ne = nothing d ends
 records c d name ends (Some place) ne = of_place c d ends (record place { recording = (begin_at place.client place.recording (new_recording name)).recording }) ne
 
-stops : (c d : ℕ) (ends : Ends) (found : Option Place) → d ≢ c → IsLeft d ends (stop_of ends c found).ends
+stops : (c d : ℕ) (ends : Ends) (found : Option Place) → d ≢ c → Stays d ends (stop_of ends c found).ends
 stops c d ends None ne = nothing d ends
 stops c d ends (Some place) ne = of_place c d ends (record place { recording = (stop_at place.recording).recording }) ne
 
-comes_to : calls.SlotsApart → (ends : Ends) (number d : ℕ) (sent : SentBytes) (direction : Direction) → IsOfOther ends d sent direction → IsLeft d ends (arrive_at ends number sent direction).ends
+comes_to : calls.SlotsApart → (ends : Ends) (number d : ℕ) (sent : SentBytes) (direction : Direction) → IsOfOther ends d sent direction → Stays d ends (arrive_at ends number sent direction).ends
 comes_to laws ends number d sent ToClient other = takes ends sent.client d (fronts.Deliver number) sent.bytes (place_at ends sent.client) other
 comes_to laws ends number d sent (ToServer from) other = of_server d ends (hears.take_at ends.server from sent.bytes).server (laws.takes ends.server d from sent.bytes other)
 
-delivers : calls.SlotsApart → (ends : Ends) (number d : ℕ) (found : Option SentBytes) → IsOfOthers ends d found → IsLeft d ends (deliver_at ends number found).ends
+delivers : calls.SlotsApart → (ends : Ends) (number d : ℕ) (found : Option SentBytes) → IsOfOthers ends d found → Stays d ends (deliver_at ends number found).ends
 delivers laws ends number d None others = nothing d ends
 delivers laws ends number d (Some sent) others = comes_to laws ends number d sent sent.direction others
 
 hands_server : calls.SlotsApart → (ends : Ends) (c d : ℕ) (bytes : List ℕ) (found : Option Place) → IfSome found (λ place. taker_of ends.server place.address bytes ≢ Some d)
-    → IsLeft d ends (hand_server_of ends c bytes found).ends
+    → Stays d ends (hand_server_of ends c bytes found).ends
 hands_server laws ends c d bytes None other = nothing d ends
 hands_server laws ends c d bytes (Some place) other =
     of_server d ends (hears.take_at ends.server place.address bytes).server (laws.takes ends.server d place.address bytes other)
 
 -- a line about an entity
-in_range_left : (ends : Ends) (d number : ℕ) (refusal : HandedIn) (step : ServerStep) → IsLeft d ends (record ends { server = step.server })
-    → IsLeft d ends (record ends { server = (in_range ends.server number refusal step).server })
+in_range_left : (ends : Ends) (d number : ℕ) (refusal : HandedIn) (step : ServerStep) → Stays d ends (record ends { server = step.server })
+    → Stays d ends (record ends { server = (in_range ends.server number refusal step).server })
 in_range_left ends d number refusal step left =
-    in_range_or (λ (done : ServerStep). IsLeft d ends (record ends { server = done.server })) ends.server number refusal step (λ lt. left) (nothing d ends)
+    in_range_or (λ (done : ServerStep). Stays d ends (record ends { server = done.server })) ends.server number refusal step (λ lt. left) (nothing d ends)
 
 -- ---- every event
 
@@ -105,35 +106,69 @@ pub slots_apart : calls.SlotsApart → SlotsApart
 unfolding kept_step line_of server_line
 slots_apart laws kept (events.Client c challenge qport dup address) d ne =
     let added = add_client_at kept.ends.server c challenge qport address in
+    let left =
     joins c d kept.ends added.server (record { client = new_client kept.profile challenge qport dup; address = address; recording = None }) added.answer ne
-    (laws.joins kept.ends.server c challenge qport d address ne)
-slots_apart laws kept (events.Port c port) d ne = ports c d port kept.ends (place_at kept.ends c) ne
+    (laws.joins kept.ends.server c challenge qport d address ne) in
+    record { slot = left.slot; frames = left.frames; place = left.place }
+slots_apart laws kept (events.Port c port) d ne =
+    let left = ports c d port kept.ends (place_at kept.ends c) ne in
+    record { slot = left.slot; frames = left.frames; place = left.place }
 slots_apart laws kept (events.Map id feed) d ne = absurd ne
 slots_apart laws kept (events.Config index text) d ne = absurd ne
 slots_apart laws kept (events.Baseline state) d ne =
+    let left =
     in_range_left kept.ends d state.number (handed.Baseline state.number (Err unset.OutOfRange)) (at_server.set_baseline kept.ends.server state)
-    (of_server d kept.ends (set_baseline_at kept.ends.server state).server (laws.baseline kept.ends.server state d))
+    (of_server d kept.ends (set_baseline_at kept.ends.server state).server (laws.baseline kept.ends.server state d)) in
+    record { slot = left.slot; frames = left.frames; place = left.place }
 slots_apart laws kept (events.Entity state) d ne =
+    let left =
     in_range_left kept.ends d state.number (handed.Entity state.number (Err (record {}))) (at_server.set_entity kept.ends.server state)
-    (of_server d kept.ends (set_entity_at kept.ends.server state) (laws.entity kept.ends.server state d))
+    (of_server d kept.ends (set_entity_at kept.ends.server state) (laws.entity kept.ends.server state d)) in
+    record { slot = left.slot; frames = left.frames; place = left.place }
 slots_apart laws kept (events.Remove number) d ne =
+    let left =
     in_range_left kept.ends d number (handed.Remove number (Err (record {}))) (at_server.remove_entity kept.ends.server number)
-    (of_server d kept.ends (remove_entity_at kept.ends.server number) (laws.remove kept.ends.server number d))
-slots_apart laws kept (events.Time time) d ne = of_server d kept.ends (set_time_at kept.ends.server time) (laws.time kept.ends.server time d)
+    (of_server d kept.ends (remove_entity_at kept.ends.server number) (laws.remove kept.ends.server number d)) in
+    record { slot = left.slot; frames = left.frames; place = left.place }
+slots_apart laws kept (events.Time time) d ne =
+    let left = of_server d kept.ends (set_time_at kept.ends.server time) (laws.time kept.ends.server time d) in
+    record { slot = left.slot; frames = left.frames; place = left.place }
 slots_apart laws kept (events.Player c player) d ne =
-    of_server d kept.ends (set_player_at kept.ends.server c player).server (laws.player kept.ends.server c d player ne)
+    let left = of_server d kept.ends (set_player_at kept.ends.server c player).server (laws.player kept.ends.server c d player ne) in
+    record { slot = left.slot; frames = left.frames; place = left.place }
 slots_apart laws kept (events.Area c area) d ne =
-    of_server d kept.ends (set_area_at kept.ends.server c area.items).server (laws.area kept.ends.server c d area.items ne)
-slots_apart laws kept (events.Say c text) d ne = of_server d kept.ends (say_at kept.ends.server c text).server (laws.says kept.ends.server c d text ne)
+    let left = of_server d kept.ends (set_area_at kept.ends.server c area.items).server (laws.area kept.ends.server c d area.items ne) in
+    record { slot = left.slot; frames = left.frames; place = left.place }
+slots_apart laws kept (events.Say c text) d ne =
+    let left = of_server d kept.ends (say_at kept.ends.server c text).server (laws.says kept.ends.server c d text ne) in
+    record { slot = left.slot; frames = left.frames; place = left.place }
 slots_apart laws kept (events.TypeText c text) d ne =
-    hands_in c d (handed.TypeText c (Err untyped.NoClient)) (λ client. at_client.type_text client c text) kept.ends (place_at kept.ends c) ne
+    let left = hands_in c d (handed.TypeText c (Err untyped.NoClient)) (λ client. at_client.type_text client c text) kept.ends (place_at kept.ends c) ne in
+    record { slot = left.slot; frames = left.frames; place = left.place }
 slots_apart laws kept (events.Move c one) d ne =
-    hands_in c d (handed.Move c (Err refused.NoClient)) (λ client. at_client.add_move client c one) kept.ends (place_at kept.ends c) ne
-slots_apart laws kept (events.Serve c) d ne = of_server d kept.ends (emit_at kept.ends.server c).server (laws.emits kept.ends.server c d ne)
-slots_apart laws kept (events.Send c) d ne = sends kept c d (place_at kept.ends c) ne
-slots_apart laws kept (events.Deliver number) d others = delivers laws kept.ends number d (slice_get kept.datagrams (number - 1)) others
-slots_apart laws kept (events.RecordTo c name) d ne = records c d name kept.ends (place_at kept.ends c) ne
-slots_apart laws kept (events.Stop c) d ne = stops c d kept.ends (place_at kept.ends c) ne
-slots_apart laws kept (events.Toclient c bytes) d ne = takes kept.ends c d (fronts.Toclient c) bytes (place_at kept.ends c) ne
-slots_apart laws kept (events.Toserver c bytes) d other = hands_server laws kept.ends c d bytes (place_at kept.ends c) other
-slots_apart laws kept event d ne = nothing d kept.ends
+    let left = hands_in c d (handed.Move c (Err refused.NoClient)) (λ client. at_client.add_move client c one) kept.ends (place_at kept.ends c) ne in
+    record { slot = left.slot; frames = left.frames; place = left.place }
+slots_apart laws kept (events.Serve c) d ne =
+    let left = laws.emits kept.ends.server c d ne in
+    record { slot = left.slot; frames = left.frames; place = refl }
+slots_apart laws kept (events.Send c) d ne =
+    let left = sends kept c d (place_at kept.ends c) ne in
+    record { slot = left.slot; frames = left.frames; place = left.place }
+slots_apart laws kept (events.Deliver number) d others =
+    let left = delivers laws kept.ends number d (slice_get kept.datagrams (number - 1)) others in
+    record { slot = left.slot; frames = left.frames; place = left.place }
+slots_apart laws kept (events.RecordTo c name) d ne =
+    let left = records c d name kept.ends (place_at kept.ends c) ne in
+    record { slot = left.slot; frames = left.frames; place = left.place }
+slots_apart laws kept (events.Stop c) d ne =
+    let left = stops c d kept.ends (place_at kept.ends c) ne in
+    record { slot = left.slot; frames = left.frames; place = left.place }
+slots_apart laws kept (events.Toclient c bytes) d ne =
+    let left = takes kept.ends c d (fronts.Toclient c) bytes (place_at kept.ends c) ne in
+    record { slot = left.slot; frames = left.frames; place = left.place }
+slots_apart laws kept (events.Toserver c bytes) d other =
+    let left = hands_server laws kept.ends c d bytes (place_at kept.ends c) other in
+    record { slot = left.slot; frames = left.frames; place = left.place }
+slots_apart laws kept event d ne =
+    let left = nothing d kept.ends in
+    record { slot = left.slot; frames = left.frames; place = left.place }

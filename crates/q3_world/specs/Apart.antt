@@ -1,9 +1,10 @@
 -- An event of one client leaves what the others have.
 use Rattle.std.specs.Prelude.{◌≡◌, ◌≢◌, ℕ, ◌-◌, Option, Some, None, IfSome, slice_get}
+use Rattle.q3_frames.specs.Frames.{FramesState}
 use Rattle.q3_script.specs.declared.event.Event.{Event}
 use Rattle.q3_script.specs.declared.event.Event.TheVariants.{Client, Port, Map, Player, Area, Config, Say, TypeText, Move, Serve, Send, Deliver, RecordTo, Stop, Toclient, Toserver}
 use Rattle.q3_server.specs.Server.{slot_at}
-use Rattle.q3_server.specs.Apart.{KeepsFrames, taker_of}
+use Rattle.q3_server.specs.Apart.{LosesByRing, taker_of}
 use Rattle.q3_world.specs.declared.made.Direction.{Direction}
 use Rattle.q3_world.specs.declared.made.Direction.TheVariants.{ToClient, ToServer}
 use Rattle.q3_world.specs.Ends.{Ends, place_at}
@@ -40,12 +41,18 @@ IsApart kept (Toclient c bytes) d = d ≢ c
 IsApart kept (Toserver c bytes) d = IfSome (place_at kept.ends c) (λ place. taker_of kept.ends.server place.address bytes ≢ Some d)
 IsApart kept other d = Unit {0}
 
--- a client has the same slot, the same frames as far as they are there, and at its place the same end, address and recording
-pub record IsLeft (d : ℕ) (old new : Ends) : Type 0 where
+-- where another client is served a slot loses frames by the ring alone; any other event leaves the frames of all slots as they were
+abbrev pub FramesAreLeft : Event → ℕ → FramesState → FramesState → Type 0
+FramesAreLeft (Serve c) d old new = LosesByRing d old new
+FramesAreLeft other d old new = new ≡ old
+
+-- a client has the same slot, its frames are left, and at its place are the same end, address and recording
+pub record IsLeft (event : Event) (d : ℕ) (old new : Ends) : Type 0 where
   pub slot : slot_at new.server d ≡ slot_at old.server d
-  pub frames : KeepsFrames d old.server.frames new.server.frames
+  pub frames : FramesAreLeft event d old.server.frames new.server.frames
   pub place : place_at new d ≡ place_at old d
 
--- an event that isn't of a client leaves its slot, its frames, its end, its address and its recording, in every state and whatever bytes arrive
+-- an event that isn't of a client leaves its slot, its end, its address and its recording, and its frames but for what the ring's room
+-- takes where another is served, in every state and whatever bytes arrive
 abbrev pub SlotsApart : Type 0
-SlotsApart = (kept : Kept) (event : Event) (d : ℕ) → IsApart kept event d → IsLeft d kept.ends (kept_step kept event).kept.ends
+SlotsApart = (kept : Kept) (event : Event) (d : ℕ) → IsApart kept event d → IsLeft event d kept.ends (kept_step kept event).kept.ends

@@ -74,8 +74,9 @@ pub fn bytes_follow_tags()
     layers();
 }
 
-/// An event that isn't of a client leaves its slot, its frames, its end and its address, in every state and whatever bytes
-/// arrive.
+/// An event that isn't of a client leaves its slot, its end, its address and its recording, in every state and whatever bytes
+/// arrive; and all frames, but where another client is served: then it loses frames exactly by the ring's room and the count
+/// of entities placed, which grows by one message's at most.
 pub fn slots_apart()
     ensures { SlotsApart }
 {
