@@ -58,15 +58,16 @@ pub record Verdict : Type 0 where
   pub turns : List Turn
   pub stops : Stops
 
--- what neither reads nor takes memory; what takes memory; and what also reads files, all of them before its first line
+-- what neither reads nor takes memory; what takes all its memory before its first line; and what reads all its files before it, and goes on
+-- taking memory
 abbrev pub stops_nowhere : Stops
 stops_nowhere = record { memory = Nowhere; reads = Nowhere; writes = Nowhere; wire = Nowhere }
 
-abbrev pub takes_memory : Stops
-takes_memory = record stops_nowhere { memory = Anywhere }
+abbrev pub memory_first : Stops
+memory_first = record stops_nowhere { memory = First }
 
 abbrev pub reads_first : Stops
-reads_first = record takes_memory { reads = First }
+reads_first = record stops_nowhere { memory = Anywhere; reads = First }
 
 -- and what has all its input and all its memory before its first line, which it may want early; and what also makes a file by then
 abbrev pub all_first : Stops

@@ -33,7 +33,7 @@ use Rattle.q3_runs.specs.declared.fault.Fault.TheVariants as faults
 use Rattle.q3_command.specs.Command.{Command, Help, Version, Replay, Make, Trial, Serve, Join, Play, Index, Seek}
 use Rattle.q3_runs.specs.Faults.{demo_fault, build_fault, index_fault, seek_fault, ReadCause, WriteCause, FileCause, WireCause}
 use Rattle.q3_runs.specs.Lines.{fault_status, ending_status}
-use Rattle.q3_runs.specs.Verdict.{Stops, Verdict, Outside, stops_nowhere, takes_memory, reads_first, all_first, settled, profile_in, events_in, names_by, ending_of, node_verdict, served, client_turns, joined, played, demo_played, Indexing, demo_indexed, IsIndexVerdictBy, seek_text, seek_played, IsSeekFault, AnswersSeek, IsSeekVerdictBy}
+use Rattle.q3_runs.specs.Verdict.{Stops, Verdict, Outside, stops_nowhere, memory_first, all_first, settled, profile_in, events_in, names_by, ending_of, node_verdict, served, client_turns, joined, played, demo_played, Indexing, demo_indexed, IsIndexVerdictBy, seek_text, seek_played, IsSeekFault, AnswersSeek, IsSeekVerdictBy}
 use Rattle.q3_runs.specs.Run.{Left, left_so, Comes, ComesAfter, place_of, Executes, WiredBy, HandedOn, FailsBy, ExecutesWired}
 use Rattle.q3net.specs.Lines.{help_text, version_text}
 use Rattle.q3net.specs.Verdict.{IsVerdict, Schedule, replayed, replay_done, summary, tried}
@@ -171,8 +171,8 @@ verdict_of_input told Help verdict other is = ending_of_input verdict stops_nowh
 verdict_of_input told Version verdict other is = ending_of_input verdict stops_nowhere [] (Ok version_text) is tt
 verdict_of_input told (Replay profile script) verdict other is =
     subst (λ (v : Verdict). OfInput v.ending) (sym is.4) (done_of_input (names_by (profile_in is.0) profile script) (replayed is.0 is.1) (replayed_of_input is.0 is.1))
-verdict_of_input told (Make draws) verdict other is = ending_of_input verdict takes_memory [] (Ok (script_text (generated draws.number draws.seed))) is tt
-verdict_of_input told (Trial profile draws) verdict other is = ending_of_input verdict reads_first (profile ∷ []) (tried is.0 draws) is.2 (tried_of_input is.0 draws)
+verdict_of_input told (Make draws) verdict other is = ending_of_input verdict memory_first [] (Ok (script_text (generated draws.number draws.seed))) is tt
+verdict_of_input told (Trial profile draws) verdict other is = ending_of_input verdict all_first (profile ∷ []) (tried is.0 draws) is.2 (tried_of_input is.0 draws)
 verdict_of_input told (Serve profile script at) verdict other is =
     node_of_input verdict (names_by (profile_in is.0) profile script) at (served is.0 is.1 is.4 is.6) is.8 (served_of_input is.0 is.1 is.4 is.6)
 verdict_of_input told (Join profile script at server) verdict other is =
@@ -288,13 +288,13 @@ no_wire verdict stops names answer is none comes = none (settled_wire stops name
 pub make_makes_nothing : (told : Outside) (draws : Draws) → Never (Some (Make draws)) told faults.FileWrite
 make_makes_nothing told draws verdict is = (
   not_decided told (Make draws) verdict faults.FileWrite tt is (λ none. none),
-  no_writes verdict takes_memory [] (Ok (script_text (generated draws.number draws.seed))) is (λ none. none),
+  no_writes verdict memory_first [] (Ok (script_text (generated draws.number draws.seed))) is (λ none. none),
 )
 
 pub trial_makes_nothing : (told : Outside) (profile : List ℕ) (draws : Draws) → Never (Some (Trial profile draws)) told faults.FileWrite
 trial_makes_nothing told profile draws verdict is = (
   not_decided told (Trial profile draws) verdict faults.FileWrite tt is (λ none. none),
-  no_writes verdict reads_first (profile ∷ []) (tried is.0 draws) is.2 (λ none. none),
+  no_writes verdict all_first (profile ∷ []) (tried is.0 draws) is.2 (λ none. none),
 )
 
 demo_writes : (names : List (List ℕ)) (answer : Result demos.Play Fault) → Comes (demo_played names answer).stops.writes → ⊥
@@ -360,13 +360,13 @@ replay_wires_nothing told profile script verdict is = (
 pub make_wires_nothing : (told : Outside) (draws : Draws) → Never (Some (Make draws)) told faults.Wire
 make_wires_nothing told draws verdict is = (
   not_decided told (Make draws) verdict faults.Wire tt is (λ none. none),
-  no_wire verdict takes_memory [] (Ok (script_text (generated draws.number draws.seed))) is (λ none. none),
+  no_wire verdict memory_first [] (Ok (script_text (generated draws.number draws.seed))) is (λ none. none),
 )
 
 pub trial_wires_nothing : (told : Outside) (profile : List ℕ) (draws : Draws) → Never (Some (Trial profile draws)) told faults.Wire
 trial_wires_nothing told profile draws verdict is = (
   not_decided told (Trial profile draws) verdict faults.Wire tt is (λ none. none),
-  no_wire verdict reads_first (profile ∷ []) (tried is.0 draws) is.2 (λ none. none),
+  no_wire verdict all_first (profile ∷ []) (tried is.0 draws) is.2 (λ none. none),
 )
 
 -- and a script that is made reads none
@@ -540,8 +540,8 @@ binds_nothing told (Some Help) verdict nodeless is = settled_nowhere verdict sto
 binds_nothing told (Some Version) verdict nodeless is = settled_nowhere verdict stops_nowhere [] (Ok version_text) is
 binds_nothing told (Some (Replay profile script)) verdict nodeless is =
     done_nowhere verdict (names_by (profile_in is.0) profile script) (replayed is.0 is.1) is.4
-binds_nothing told (Some (Make draws)) verdict nodeless is = settled_nowhere verdict takes_memory [] (Ok (script_text (generated draws.number draws.seed))) is
-binds_nothing told (Some (Trial profile draws)) verdict nodeless is = settled_nowhere verdict reads_first (profile ∷ []) (tried is.0 draws) is.2
+binds_nothing told (Some (Make draws)) verdict nodeless is = settled_nowhere verdict memory_first [] (Ok (script_text (generated draws.number draws.seed))) is
+binds_nothing told (Some (Trial profile draws)) verdict nodeless is = settled_nowhere verdict all_first (profile ∷ []) (tried is.0 draws) is.2
 binds_nothing told (Some (Play profile demo)) verdict nodeless is = demo_nowhere verdict (names_by (profile_in is.0) profile demo) (played is.0 is.1) is.4
 binds_nothing told (Some (Index profile demo index)) verdict nodeless is = by_index_nowhere told.files (profile_in is.0) profile demo index verdict is.2
 binds_nothing told (Some (Seek profile demo index number)) verdict nodeless is = by_seek_nowhere told.files (profile_in is.0) profile demo index number verdict is.2

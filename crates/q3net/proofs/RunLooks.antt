@@ -16,7 +16,7 @@ use Rattle.q3_command.specs.Command.{Command, Help, Version, Replay, Make, Trial
 use Rattle.q3_runs.specs.Faults.{IsOutside, IsEarly}
 use Rattle.q3_runs.specs.Input.{looked_up, created, LeavesFirst, LooksUpFirst, Gives}
 use Rattle.q3_runs.specs.Lines.{fault_status, ending_status}
-use Rattle.q3_runs.specs.Verdict.{Stops, Verdict, Outside, stops_nowhere, takes_memory, reads_first, all_first, settled, names_by, node_verdict, client_turns, played, demo_played, IsIndexVerdictBy, IsSeekVerdictBy, profile_in, events_in}
+use Rattle.q3_runs.specs.Verdict.{Stops, Verdict, Outside, stops_nowhere, memory_first, reads_first, all_first, settled, names_by, node_verdict, client_turns, played, demo_played, IsIndexVerdictBy, IsSeekVerdictBy, profile_in, events_in}
 use Rattle.q3_runs.specs.Run.{LeavesFiles}
 use Rattle.q3net.specs.Lines.{help_text, version_text}
 use Rattle.q3net.specs.Verdict.{IsVerdict, Schedule, replay_done, tried, IsTrialVerdict}
@@ -113,10 +113,10 @@ verdict_named told now (Some (Replay profile script)) verdict is =
     (replay_named told.files now profile script (profile_in is.0) (λ by. events_in kinds.Replay is.1 >>= schedules by))
 verdict_named told now (Some (Make draws)) verdict is =
     subst (IsNamed told.files now (Some (Make draws))) (sym is)
-    (settled_named told.files now (Some (Make draws)) takes_memory [] (Ok (script_text (generated draws.number draws.seed))) (λ first. first))
+    (settled_named told.files now (Some (Make draws)) memory_first [] (Ok (script_text (generated draws.number draws.seed))) (λ first. first))
 verdict_named told now (Some (Trial profile draws)) verdict is =
     subst (IsNamed told.files now (Some (Trial profile draws))) (sym is.2)
-    (settled_named told.files now (Some (Trial profile draws)) reads_first (profile ∷ []) (tried is.0 draws) (λ first. first))
+    (settled_named told.files now (Some (Trial profile draws)) all_first (profile ∷ []) (tried is.0 draws) (λ first. first))
 verdict_named told now (Some (Serve profile script at)) verdict is =
     subst (IsNamed told.files now (Some (Serve profile script at))) (sym is.8)
     (noded_named told.files now (Some (Serve profile script at)) profile script at (profile_in is.0)
@@ -176,9 +176,9 @@ pub trial_given : {A : Type 0} (told now : Option Told) (profile : List ℕ) (dr
     → (Gives got (profile ∷ []) told now → Gives ended (profile ∷ []) told now) → Gives got (profile ∷ []) told now → LeavesFiles (IsTrialVerdict told profile draws) told now ended
 trial_given told now profile draws ended got so gives =
     let file = held told profile in (
-      settled reads_first (profile ∷ []) (tried file.0 draws),
+      settled all_first (profile ∷ []) (tried file.0 draws),
       (file.0, file.1, refl),
-      settled_touches ended reads_first (profile ∷ []) (tried file.0 draws) told now (so gives),
+      settled_touches ended all_first (profile ∷ []) (tried file.0 draws) told now (so gives),
     )
 
 -- none passed

@@ -16,7 +16,7 @@ use Rattle.q3_counts.specs.Counts.{counts_of}
 use Rattle.q3_command.specs.declared.command.Draws.{Draws}
 use Rattle.q3_command.specs.Command.{Command, Help, Version, Replay, Make, Trial, Serve, Join, Play, Index, Seek}
 use Rattle.q3_runs.specs.Input.{Holds, looked_up, created}
-use Rattle.q3_runs.specs.Verdict.{Stops, Verdict, stops_nowhere, takes_memory, reads_first, writes_by, printing, settled, profile_in, events_in, names_by, Outside, outside, IsPlayVerdict, IsIndexVerdict, IsSeekVerdict, IsServeVerdict, IsJoinVerdict}
+use Rattle.q3_runs.specs.Verdict.{Stops, Verdict, stops_nowhere, memory_first, reads_first, all_first, writes_by, printing, settled, profile_in, events_in, names_by, Outside, outside, IsPlayVerdict, IsIndexVerdict, IsSeekVerdict, IsServeVerdict, IsJoinVerdict}
 use Rattle.q3net.specs.Lines.{help_text, version_text}
 use Rattle.q3net.specs.Summary.{summary_text}
 use Rattle.q3_runs.specs.declared.fault.Fault.{Fault}
@@ -73,12 +73,12 @@ IsReplayVerdict told profile script verdict =
 
 -- of a script that is made
 abbrev pub IsMakeVerdict : Draws → Verdict → Type 0
-IsMakeVerdict draws verdict = verdict ≡ settled takes_memory [] (Ok (script_text (generated draws.number draws.seed)))
+IsMakeVerdict draws verdict = verdict ≡ settled memory_first [] (Ok (script_text (generated draws.number draws.seed)))
 
 -- and of a trial
 abbrev pub IsTrialVerdict : Option Told → (profile : List ℕ) → Draws → Verdict → Type 0
 IsTrialVerdict told profile draws verdict =
-    (of_profile : Option (List ℕ)) × Holds told profile of_profile × (verdict ≡ settled reads_first (profile ∷ []) (tried of_profile draws))
+    (of_profile : Option (List ℕ)) × Holds told profile of_profile × (verdict ≡ settled all_first (profile ∷ []) (tried of_profile draws))
 
 -- the verdict of a command, by what the files hold that it names, and by what is to come over the wire and of the clock
 abbrev pub IsVerdict : Outside → Option Command → Verdict → Type 0

@@ -2,7 +2,7 @@ use Rattle.std.proofs.Common.{Some, None, [], refl}
 use Rattle.q3_make.specs.Printed.{script_text}
 use Rattle.q3_make.specs.Generated.{generated}
 use Rattle.q3_command.specs.Command.{Help, Version, Replay, Make, Trial, Play, Index, Seek}
-use Rattle.q3_runs.specs.Verdict.{outside, stops_nowhere, takes_memory}
+use Rattle.q3_runs.specs.Verdict.{outside, stops_nowhere, memory_first}
 use Rattle.q3net.specs.Lines.{help_text, version_text}
 use Rattle.q3net.specs.Verdict.{of_files, IsVerdict}
 use Rattle.q3_runs.proofs.Ending.{text_executes}
@@ -29,7 +29,7 @@ returns-in-Some-Version-clause-gives g c =
 pub returns-in-Some-Make-clause-gives : goal.returns-in-Some-Make-clause-gives
 returns-in-Some-Make-clause-gives g c =
     let e = rw c.in-Some-Make.field-0-is at c.in-Some-Make.ensures.value in
-    rw (← e) (text_given (Some (Make c.in-Some-Make.draws)) (outside (g.F.Files.told c.args.files.now) (g.W.Wire.told c.args.wire.now) (g.C.Clock.readings c.args.clock.now)) takes_memory (script_text (generated c.in-Some-Make.draws.number c.in-Some-Make.draws.seed)) c.make.result refl)
+    rw (← e) (text_given (Some (Make c.in-Some-Make.draws)) (outside (g.F.Files.told c.args.files.now) (g.W.Wire.told c.args.wire.now) (g.C.Clock.readings c.args.clock.now)) memory_first (script_text (generated c.in-Some-Make.draws.number c.in-Some-Make.draws.seed)) c.make.result refl)
 
 pub returns-in-Some-Make-clause-read_cause : goal.returns-in-Some-Make-clause-read_cause
 returns-in-Some-Make-clause-read_cause g c =
