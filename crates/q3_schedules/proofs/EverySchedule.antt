@@ -38,7 +38,7 @@ use Rattle.q3_ends.specs.Recording.{RecordingState, note_taken, waits_in}
 use Rattle.q3_world.specs.declared.made.Direction.{Direction}
 use Rattle.q3_world.specs.declared.made.Direction.TheVariants.{ToClient, ToServer}
 use Rattle.q3_world.specs.Layers.{Layers}
-use Rattle.q3_built.specs.Built.{Built, number_of, IsNear, IsBuilt, built_bytes, plain_bytes}
+use Rattle.q3_built.specs.Built.{Built, number_of, IsSnapshot, IsNear, IsBuilt, built_bytes, plain_bytes}
 use Rattle.q3_slot.specs.Slot.{SlotState}
 use Rattle.q3_server.specs.Server.{places, slot_at}
 use Rattle.q3_client.specs.Client.{ClientState, Taken, Reception, receive_message, take_answer, take_gathered}
@@ -151,7 +151,7 @@ asks_for_accepted law profile all c place is are within found =
 near_of : (profile : Profile) (challenge n : ℕ) (built : Built) → IsBuilt profile challenge n built → IfSome built.base (IsNear n)
 near_of profile challenge n built is =
     elim is.section [
-      | inl one ↦ one.base_is
+      | inl one ↦ if_some_then built.base (λ base. IsNear n base × IsSnapshot profile base) (IsNear n) (λ base two. two.0) one.base_is
       | inr made ↦ subst (λ (base : Option Snapshot). IfSome base (IsNear n)) (sym (ap (λ (b : Built). b.base) made.is)) tt
     ]
 

@@ -31,7 +31,7 @@ use Rattle.q3_chan.specs.Senders.{qport_of}
 use Rattle.q3_chan.specs.Laws.{HoldsFront, SentIsTagged, Gathers}
 use Rattle.q3_client.specs.Client.{ClientState, Taken, Reception, receive_message, receive_bytes, applies, applies_read, take_answer, take_gathered, take_at}
 use Rattle.q3_client.specs.Sending.{said_bytes, Said, IsSaid}
-use Rattle.q3_built.specs.Built.{Built, IsNear, IsSnapshot, IsBuilt, BuildsGame, BuildsSnapshot, Telling, number_of, built_bytes, plain_bytes}
+use Rattle.q3_built.specs.Built.{Built, IsNear, IsBuilt, BuildsGame, BuildsSnapshot, Telling, number_of, built_bytes, plain_bytes}
 use Rattle.q3_slot.specs.Slot.{SlotState}
 use Rattle.q3_slot.specs.Taking.{asked_with, delta_after, said_by, Came, OfMap, OfOther, asks_game, heads_of, moves_on, came_as, goes_on}
 use Rattle.q3_server.specs.Server.{places, slot_at}
@@ -54,7 +54,7 @@ use Rattle.q3_world.proofs.Clients.{no_client, no_end, at_number, said_number, K
 use Rattle.q3_world.proofs.Joined.{TakesBuilt-gathered, TakesBuilt-passed, TakesBuilt-accepted, TakesBuilt-started, AreAsked-accepted}
 use Rattle.q3_messages.proofs.Options.{if_some_then}
 use Rattle.q3_clstate.specs.Standing.{IsApplied}
-use Rattle.q3_world.proofs.Knowing.{KnownBase, known_base, was_built_is, holds_this}
+use Rattle.q3_world.proofs.Knowing.{KnownBase, known_base, holds_this}
 use Rattle.q3_world.proofs.Applying.{applies_message, applies_game_message}
 use Rattle.q3_world.proofs.Commanded.{ClientHears, client_hears, SlotHears, slot_hears}
 use Rattle.q3_world.proofs.Holding.{Holds, Has, has_slot, has_client, with_client_of}
@@ -223,14 +223,12 @@ pub received_alike : (profile : Profile) (whole : Whole) (c n : ℕ) (slot : Slo
 received_alike profile whole c n slot place built cited had named_is newer =
     let history = history_at whole.histories c in
     let takes = had.joined.of_client in
-    let are = had.keeps.of_slot.built in
     let since = accepted_since history.games history.accepted in
     let were = since_were history.games history.accepted (WasBuilt history.built) takes.accepted in
     let hears = named_is.hears newer in
     cited.reads place.client n built named_is.is had.keeps.of_client.by had.keeps.of_client.applied (named_is.baselines newer) hears.takes hears.text
-    (if_some_then built.base (KnownBase n history.built since) (λ base. IsSnapshot profile base × HoldsThis place.client.state.held base)
-    (λ base known. (was_built_is profile slot.challenge history.built base are known.1, holds_this cited.below.rings place.client.state.held history.built since base takes.stands were known.1))
-    (named_is.base newer))
+    (if_some_then built.base (KnownBase n history.built since) (HoldsThis place.client.state.held)
+    (λ base known. holds_this cited.below.rings place.client.state.held history.built since base takes.stands were known.1) (named_is.base newer))
 
 -- where nothing comes whole, the commands on their way are as they were
 waits_so : (slot : SlotState) (client : ClientState) (history : History) (g : Gathering) → g.taken ≡ client.gathering.taken → IsApplied client.state → IsOutgoing client.issued → AreCommanded slot client history

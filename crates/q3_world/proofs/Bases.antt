@@ -6,8 +6,9 @@ use Rattle.std.proofs.lemmas.List.Elements.{All-contains, Contains-append_left, 
 use Rattle.std.proofs.lemmas.Bool.{cases_eq, cases_lt}
 use Rattle.q3_entity_ring.specs.Snapshot.{Snapshot}
 use Rattle.q3_entity_ring.specs.Places.{place_of}
-use Rattle.q3_frames.specs.Frames.{FramesState, base_of, build_at}
-use Rattle.q3_built.specs.Built.{Built, Telling, IsNear, built_of}
+use Rattle.q3_profile.specs.declared.profile.Profile.{Profile}
+use Rattle.q3_frames.specs.Frames.{FramesState, held_frame, base_of, build_at}
+use Rattle.q3_built.specs.Built.{Built, Telling, IsSnapshot, IsNear, built_of}
 use Rattle.q3_server.specs.Server.{places}
 use Rattle.q3_world.specs.Layers.{ServerLaws}
 use Rattle.q3_world.specs.World.{Played, History, no_history, no_message, history_at, with_history, built_at}
@@ -119,13 +120,20 @@ frames_others laws frames c k began snapshot other are number held is some few h
     ]
 
 -- a frame more was built
-pub KeepsFrames-built : ServerLaws → (frames : FramesState) (histories : List History) (c : ℕ) (history : History) (snapshot : Snapshot) → c < places → length histories ≡ places
-    → AreOfBuilt (build_at frames c snapshot) c history.built → KeepsFrames frames histories → KeepsFrames (build_at frames c snapshot) (with_history histories c history)
-KeepsFrames-built laws frames histories c history snapshot lt count here keeps =
+pub KeepsFrames-built : ServerLaws → (profile : Profile) (frames : FramesState) (histories : List History) (c : ℕ) (history : History) (snapshot : Snapshot) → c < places → length histories ≡ places
+    → IsSnapshot profile snapshot → AreOfBuilt (build_at frames c snapshot) c history.built → KeepsFrames profile frames histories
+    → KeepsFrames profile (build_at frames c snapshot) (with_history histories c history)
+KeepsFrames-built laws profile frames histories c history snapshot lt count is here keeps =
     let next = build_at frames c snapshot in
     let only = OnlyAt-set no_history c histories history in
     record {
       are = laws.keeps.places frames c snapshot keeps.are;
+      snapshots = record {
+        each = λ k number. if_some (held_frame next k number) (IsSnapshot profile) (λ held found. elim (laws.held frames c k number snapshot held found) [
+          | inl this ↦ subst (IsSnapshot profile) (sym this.2) is
+          | inr before ↦ subst (λ (o : Option Snapshot). IfSome o (IsSnapshot profile)) before.1 (keeps.snapshots.each k number)
+        ]);
+      };
       count = laws.keeps.slots frames c snapshot ∙ keeps.count;
       each = λ k within. elim (cases_eq k c) [
         | inl same ↦
@@ -136,12 +144,13 @@ KeepsFrames-built laws frames histories c history snapshot lt count here keeps =
     }
 
 -- none was, and no message was begun
-pub KeepsFrames-same : (frames : FramesState) (histories : List History) (c : ℕ) (history : History) → c < places → length histories ≡ places
-    → history.built ≡ (history_at histories c).built → KeepsFrames frames histories → KeepsFrames frames (with_history histories c history)
-KeepsFrames-same frames histories c history lt count same_built keeps =
+pub KeepsFrames-same : (profile : Profile) (frames : FramesState) (histories : List History) (c : ℕ) (history : History) → c < places → length histories ≡ places
+    → history.built ≡ (history_at histories c).built → KeepsFrames profile frames histories → KeepsFrames profile frames (with_history histories c history)
+KeepsFrames-same profile frames histories c history lt count same_built keeps =
     let only = OnlyAt-set no_history c histories history in
     record {
       are = keeps.are;
+      snapshots = keeps.snapshots;
       count = keeps.count;
       each = λ k within. elim (cases_eq k c) [
         | inl same ↦
@@ -153,12 +162,13 @@ KeepsFrames-same frames histories c history lt count same_built keeps =
     }
 
 -- none was, and a message with a gamestate was begun
-pub KeepsFrames-game : (frames : FramesState) (histories : List History) (c : ℕ) (history : History) → c < places → length histories ≡ places
-    → AreOfBuilt frames c history.built → KeepsFrames frames histories → KeepsFrames frames (with_history histories c history)
-KeepsFrames-game frames histories c history lt count here keeps =
+pub KeepsFrames-game : (profile : Profile) (frames : FramesState) (histories : List History) (c : ℕ) (history : History) → c < places → length histories ≡ places
+    → AreOfBuilt frames c history.built → KeepsFrames profile frames histories → KeepsFrames profile frames (with_history histories c history)
+KeepsFrames-game profile frames histories c history lt count here keeps =
     let only = OnlyAt-set no_history c histories history in
     record {
       are = keeps.are;
+      snapshots = keeps.snapshots;
       count = keeps.count;
       each = λ k within. elim (cases_eq k c) [
         | inl same ↦
@@ -169,10 +179,11 @@ KeepsFrames-game frames histories c history lt count here keeps =
     }
 
 -- nothing was built for any client
-pub KeepsFrames-alike : (frames : FramesState) (old new : List History) → ((c : ℕ) → c < places → (history_at new c).built ≡ (history_at old c).built) → KeepsFrames frames old → KeepsFrames frames new
-KeepsFrames-alike frames old new same keeps =
+pub KeepsFrames-alike : (profile : Profile) (frames : FramesState) (old new : List History) → ((c : ℕ) → c < places → (history_at new c).built ≡ (history_at old c).built) → KeepsFrames profile frames old → KeepsFrames profile frames new
+KeepsFrames-alike profile frames old new same keeps =
     record {
       are = keeps.are;
+      snapshots = keeps.snapshots;
       count = keeps.count;
       each = λ c lt. subst (λ (built : List Built). AreOfBuilt frames c built) (sym (same c lt)) (keeps.each c lt);
     }

@@ -61,7 +61,7 @@ follow law profile (event ∷ events) kept whole are stands =
 -- what is kept at first stands for the opening world
 pub stands_opening : Layers → (profile : Profile) → IsChecked profile → StandsFor profile (opening_kept profile) (opening profile)
 unfolding opening
-stands_opening below profile checked = stands_of profile (opening profile) (λ own. Holds-opening profile below.maps checked)
+stands_opening below profile checked = stands_of profile (opening profile) (λ own. Holds-opening profile below.maps below.server checked)
 
 pub bytes_follow_tags : StepFollows → Layers → BytesFollowTags
 bytes_follow_tags law below profile all is are = follow law profile all (opening_kept profile) (opening profile) are (stands_opening below profile is)

@@ -315,6 +315,7 @@ KeepsClient-new stays profile challenge qport dup first chan fits =
       applied = first;
       ring = refl;
       from = refl;
+      qport = refl;
       fits = fits;
       sending = BeginsMessages-new (client_form (check_for profile.protocol challenge)) qport (messages_said profile []) chan;
       said = λ k d lt. absurd (omega (arith, lt));
@@ -341,6 +342,7 @@ module _ (profile : Profile) (client : ClientState) (qport : ℕ) (said : List S
         applied = applied;
         ring = ring ∙ keeps.ring;
         from = side ∙ keeps.from;
+        qport = keeps.qport;
         fits = keeps.fits;
         sending = keeps.sending;
         said = keeps.said;
@@ -365,6 +367,7 @@ module _ (profile : Profile) (client : ClientState) (qport : ℕ) (said : List S
         applied = keeps.applied;
         ring = keeps.ring;
         from = keeps.from;
+        qport = keeps.qport;
         fits = keeps.fits;
         sending = BeginsMessages-handed (client_header (check_for profile.protocol client.challenge) qport) (messages_said profile said) (length said) client.sending chan keeps.sending;
         said = keeps.said;
@@ -387,6 +390,7 @@ module _ (profile : Profile) (client : ClientState) (qport : ℕ) (said : List S
         applied = keeps.applied;
         ring = keeps.ring;
         from = keeps.from;
+        qport = keeps.qport;
         fits = keeps.fits;
         sending = keeps.sending;
         said = keeps.said;
@@ -408,6 +412,7 @@ module _ (profile : Profile) (client : ClientState) (qport : ℕ) (said : List S
         applied = keeps.applied;
         ring = keeps.ring;
         from = keeps.from;
+        qport = keeps.qport;
         fits = keeps.fits;
         sending = keeps.sending;
         said = keeps.said;
@@ -434,6 +439,7 @@ module _ (profile : Profile) (client : ClientState) (qport : ℕ) (said : List S
         applied = keeps.applied;
         ring = keeps.ring;
         from = keeps.from;
+        qport = keeps.qport;
         fits = keeps.fits;
         sending = BeginsMessages-started (client_header (check_for profile.protocol client.challenge) qport) (messages_said profile said) (messages_said profile (said ++ next ∷ [])) (length said) (length (said ++ next ∷ [])) client.sending (said_bytes profile next) chan
             (omega (arith, longer)) fits (messages_said_stay profile said (next ∷ [])) last sendable keeps.sending;

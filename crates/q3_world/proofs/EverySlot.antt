@@ -100,7 +100,7 @@ Holds-every profile whole map_is f histories every holds =
         each = λ c lt. rw (slot_changed f server.slots c) (of_client c lt (slot_at server c) refl);
         found = found_every f server.slots every.leaves facts.found;
         sent = all_sent_grow profile whole.histories histories whole.sent every.grows facts.sent;
-        frames = KeepsFrames-alike server.frames whole.histories histories every.built facts.frames;
+        frames = KeepsFrames-alike profile server.frames whole.histories histories every.built facts.frames;
       };
       joined = λ c lt. rw (slot_changed f server.slots c) (of_joined c lt (slot_at server c) refl);
       own = holds.own;

@@ -11,7 +11,7 @@ use Rattle.q3_window.specs.Flow.{acknowledgement_of, carriage_of}
 use Rattle.q3_clmsg.specs.declared.moves.Move.{Move}
 use Rattle.q3_frames.specs.Frames.{FramesState}
 use Rattle.q3_map.specs.Map.{MapState}
-use Rattle.q3_built.specs.Built.{Built, IsBuilt, built_bytes}
+use Rattle.q3_built.specs.Built.{Built, IsSnapshot, IsBuilt, built_bytes}
 use Rattle.q3_slot.specs.Slot.{SlotState, asked}
 use Rattle.q3_slot.specs.Emitting.{next_snapshot, next_frames}
 use Rattle.q3_server.specs.Server.{places, slot_at}
@@ -92,7 +92,7 @@ pub Holds-begun : WindowLaws → (profile : Profile) (whole : Whole) (c : ℕ) (
     → IfSome next.base (BaseIs (slot.sending.number + 1) (asked slot) (history_at whole.histories c).built)
     → (slot_begun profile (record slot { stage = stage; game = game; owed = owed }) next).sending.under_way ≡ Some left
     → IsMap profile map → ((s : Option SlotState) (e : Option Place) (h : History) → IsJoined profile whole.ends.server.map s e h → IsJoined profile map s e h)
-    → KeepsFrames frames (with_history whole.histories c (with_built (history_at whole.histories c) (Some next)))
+    → KeepsFrames profile frames (with_history whole.histories c (with_built (history_at whole.histories c) (Some next)))
     → AreMapped map (standing_of (record slot { stage = stage; game = game; owed = owed })) place.client.state place.client.gathering.taken place.client.last_time
     ((history_at whole.histories c).built ++ next ∷ []) (history_at whole.histories c).games (history_at whole.histories c).said (history_at whole.histories c).accepted (history_at whole.histories c).client_executed
     → Holds profile whole
@@ -135,9 +135,10 @@ Holds-begun windows profile whole c slot place stage game owed built map frames 
     }) holds
 
 -- a message proves too long, and its frame stays
-pub Holds-too_long : ServerLaws → (profile : Profile) (whole : Whole) (c : ℕ) (slot : SlotState) → c < places → slot_at whole.ends.server c ≡ Some slot → Holds profile whole
+pub Holds-too_long : ServerLaws → (profile : Profile) (whole : Whole) (c : ℕ) (slot : SlotState) → c < places → slot_at whole.ends.server c ≡ Some slot
+    → IsSnapshot profile (next_snapshot whole.ends.server.map slot) → Holds profile whole
     → Holds profile (with_server_of whole c slot whole.ends.server.map (next_frames whole.ends.server.map whole.ends.server.frames c slot) (history_at whole.histories c) whole.sent)
-Holds-too_long laws profile whole c slot lt found holds =
+Holds-too_long laws profile whole c slot lt found is holds =
     let history = history_at whole.histories c in
     let map = whole.ends.server.map in
     let frames = whole.ends.server.frames in
@@ -155,7 +156,7 @@ Holds-too_long laws profile whole c slot lt found holds =
       keeps = had.1.keeps;
       joined = had.1.joined;
       sent = sent_grows profile whole c history lt (HistoryGrows-same history) holds;
-      kept = KeepsFrames-built laws frames whole.histories c history (next_snapshot map slot) lt facts.histories
+      kept = KeepsFrames-built laws profile frames whole.histories c history (next_snapshot map slot) lt facts.histories is
           (frames_too_long laws frames c history.built (next_snapshot map slot) (omega (arith, begun, number)) (facts.frames.each c lt)) facts.frames;
     }) holds
 

@@ -1,6 +1,6 @@
 -- What holds between any two events, and that it stays where one client changes.
 use Rattle.std.proofs.Common.{◌≡◌, ℕ, zero, suc, ◌^◌, ◌<◌, ◌≤◌, false, List, [], ◌∷◌, ◌++◌, length, get_or, replicate, Option, Some, None, refl, sym, ap, subst, ◌∙◌, arith}
-use Rattle.std.specs.Prelude.{slice_set, position}
+use Rattle.std.specs.Prelude.{slice_set, position, IfSome}
 use Rattle.std.proofs.lemmas.List.{get_or-replicate, set-get_or}
 use Rattle.q3_profile.specs.declared.profile.Profile.{Profile}
 use Rattle.q3_player.specs.State.{zero_player}
@@ -11,11 +11,12 @@ use Rattle.q3_frames.specs.Frames.{Frame, FramesState}
 use Rattle.q3_clstate.specs.Standing.{IsApplied}
 use Rattle.q3_clstate.specs.State.{new_state}
 use Rattle.q3_map.specs.Map.{MapState}
-use Rattle.q3_built.specs.Built.{IsHeld}
+use Rattle.q3_entity_ring.specs.Snapshot.{Snapshot}
+use Rattle.q3_built.specs.Built.{IsHeld, IsSnapshot}
 use Rattle.q3_slot.specs.Slot.{SlotState, is_of, new_slot}
 use Rattle.q3_server.specs.Server.{ServerState, places, slot_at, with_slot}
 use Rattle.q3_client.specs.Client.{ClientState, new_client}
-use Rattle.q3_world.specs.Layers.{RingLaws, WindowLaws}
+use Rattle.q3_world.specs.Layers.{ServerLaws, RingLaws, WindowLaws}
 use Rattle.q3_world.specs.declared.places.Place.{Place}
 use Rattle.q3_world.specs.Ends.{Ends, place_at, with_client}
 use Rattle.q3_world.specs.World.{Tag, History, Whole, no_history, history_at, with_history, opening}
@@ -41,9 +42,9 @@ abbrev none_slot : Option SlotState
 none_slot = None
 
 -- at the beginning
-pub Holds-opening : (profile : Profile) → MapStays → IsChecked profile → Holds profile (opening profile)
+pub Holds-opening : (profile : Profile) → MapStays → ServerLaws → IsChecked profile → Holds profile (opening profile)
 unfolding opening
-Holds-opening profile maps checked =
+Holds-opening profile maps laws checked =
     let no_slots = λ (c : ℕ) (lt : c < places). get_or-replicate {A = Option SlotState} places c None None lt in
     let no_clients = λ (c : ℕ) (lt : c < places). get_or-replicate {A = Option Place} places c None None lt in
     record {
@@ -59,6 +60,7 @@ Holds-opening profile maps checked =
         sent = λ k d lt. absurd (omega (arith, lt));
         frames = record {
           are = record { places = λ slot lt. rw (get_or-replicate places slot no_frame [] lt) refl };
+          snapshots = record { each = λ c number. subst (λ (o : Option Snapshot). IfSome o (IsSnapshot profile)) (sym (laws.nothing places profile.server_ring c number)) tt };
           count = refl;
           each = λ c lt number snapshot held some few. absurd (nothing_built c lt number some few);
         };
@@ -95,7 +97,7 @@ pub record Differ (profile : Profile) (c : ℕ) (old new : Whole) : Type 0 where
   pub at : DifferAt c old.ends new.ends old.histories new.histories
   pub found : AllFound new.ends.server.slots
   pub sent : AllSent profile new.histories new.sent
-  pub frames : KeepsFrames new.ends.server.frames new.histories
+  pub frames : KeepsFrames profile new.ends.server.frames new.histories
 
 -- what joins the ends of a client
 abbrev OfJoined : Profile → MapState → Option SlotState → Option Place → History → Type 0
@@ -190,7 +192,7 @@ Holds-new laws windows profile whole c challenge qport dup address ring sends ga
       found = found_joined slots c slot facts.slots lt none alone facts.found;
       sent = all_sent_grow profile whole.histories (with_history whole.histories c there) whole.sent
           (Grow-at whole.histories c there facts.histories lt (HistoryGrows-joined history there history_is)) facts.sent;
-      frames = KeepsFrames-same whole.ends.server.frames whole.histories c there lt facts.histories refl facts.frames;
+      frames = KeepsFrames-same profile whole.ends.server.frames whole.histories c there lt facts.histories refl facts.frames;
     })
     (rw (slot_is, place_is, noted) keeps)
     (rw (slot_is, place_is, noted) joins)
@@ -259,7 +261,7 @@ pub record Changes (profile : Profile) (whole : Whole) (c : ℕ) (slot : SlotSta
   pub keeps : AreEnds profile slot' client' place.address history
   pub joined : AreJoined profile map slot' client' history
   pub sent : AllSent profile (with_history whole.histories c history) tags
-  pub kept : KeepsFrames frames (with_history whole.histories c history)
+  pub kept : KeepsFrames profile frames (with_history whole.histories c history)
 
 pub Holds-changed : (profile : Profile) (whole : Whole) (c : ℕ) (slot slot' : SlotState) (place : Place) (client' : ClientState) (map : MapState) (frames : FramesState) (history : History) (sent : List Tag) → c < places
     → Has profile whole c slot place → Changes profile whole c slot place slot' client' map frames history sent → Holds profile whole
@@ -336,9 +338,9 @@ Holds-slot profile whole c slot slot' place map frames history sent lt had chang
 
 -- frames that are kept where no message was begun
 pub frames_stay : (profile : Profile) (whole : Whole) (c : ℕ) (history : History) → c < places → history.built ≡ (history_at whole.histories c).built → Holds profile whole
-    → KeepsFrames whole.ends.server.frames (with_history whole.histories c history)
+    → KeepsFrames profile whole.ends.server.frames (with_history whole.histories c history)
 frames_stay profile whole c history lt built holds =
-    KeepsFrames-same whole.ends.server.frames whole.histories c history lt holds.facts.histories built holds.facts.frames
+    KeepsFrames-same profile whole.ends.server.frames whole.histories c history lt holds.facts.histories built holds.facts.frames
 
 -- only the client's own end changes, and what is noted
 abbrev pub with_client_of : Whole → ℕ → Place → ClientState → History → List Tag → Whole

@@ -22,21 +22,18 @@ use Rattle.q3_gamestate.specs.Laws.{IsGamestate}
 use Rattle.q3_gamestate.specs.Values.{Gamestate}
 use Rattle.q3_player.specs.declared.head.SnapHead.{SnapHead}
 use Rattle.q3_world.specs.Games.{Carries}
-use Rattle.q3_messages.proofs.Options.{three_some}
+use Rattle.q3_messages.proofs.Options.{if_some_then, three_some}
 
 -- the messages that were begun are so
 abbrev pub AreMessages : Profile → ℕ → List Built → Type 0
 AreMessages profile challenge began = (k : ℕ) (d : Built) → k < length began → IsBuilt profile challenge (k + 1) (get_or began k d)
 
--- a snapshot that was built is one that may be
-pub was_built_is : (profile : Profile) (challenge : ℕ) (began : List Built) (snapshot : Snapshot) → AreMessages profile challenge began → WasBuilt began snapshot → IsSnapshot profile snapshot
-was_built_is profile challenge began snapshot are was =
-    let some = was.0 in
-    let few = was.1 in
-    let is = are (snapshot.head.number - 1) no_message (omega (arith, some, few)) in
+-- the snapshot of a message that was built is one that may be
+pub section_is : (profile : Profile) (challenge n : ℕ) (built : Built) (snapshot : Snapshot) → IsBuilt profile challenge n built → snapshot_in built.message.section ≡ Some snapshot → IsSnapshot profile snapshot
+section_is profile challenge n built snapshot is has =
     elim is.section [
-      | inl one ↦ subst (IsSnapshot profile) (some_one one.snapshot snapshot (sym (ap (λ (b : Built). snapshot_in b.message.section) one.is) ∙ was.2)) one.are
-      | inr game ↦ absurd (none_some (sym (ap (λ (b : Built). snapshot_in b.message.section) game.is) ∙ was.2))
+      | inl one ↦ subst (IsSnapshot profile) (some_one one.snapshot snapshot (sym (ap (λ (b : Built). snapshot_in b.message.section) one.is) ∙ has)) one.are
+      | inr game ↦ absurd (none_some (sym (ap (λ (b : Built). snapshot_in b.message.section) game.is) ∙ has))
     ]
   where
     none_some : None ≡ Some snapshot → ⊥
@@ -100,6 +97,6 @@ known_base profile slot client history n some few is keeps asked =
   where
     near : IfSome (built_at history.built n).base (IsNear n)
     near = elim is.section [
-      | inl one ↦ one.base_is
+      | inl one ↦ if_some_then (built_at history.built n).base (λ base. IsNear n base × IsSnapshot profile base) (IsNear n) (λ base two. two.0) one.base_is
       | inr game ↦ subst (λ (base : Option Snapshot). IfSome base (IsNear n)) (sym (ap (λ (b : Built). b.base) game.is)) tt
     ]

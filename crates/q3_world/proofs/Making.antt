@@ -1,5 +1,5 @@
 -- Both ends make datagrams by bytes as by tags.
-use Rattle.std.proofs.Common.{IfSome, ◌≡◌, ℕ, ◌+◌, ◌^◌, ◌<◌, Bool, false, List, length, Option, Some, None, Ok, refl, sym, subst, ◌∙◌, inl, inr, arith}
+use Rattle.std.proofs.Common.{IfSome, ◌≡◌, ℕ, ◌+◌, ◌^◌, ◌<◌, Bool, false, List, length, Option, Some, None, Ok, refl, sym, ap, subst, ◌∙◌, inl, inr, arith}
 use Rattle.std.specs.Prelude.{map, nat_le, nat_lt, ◌%◌, ◌≤◌, bit_xor, true}
 use Rattle.std.proofs.lemmas.List.{length-map, map_push, set-set}
 use Rattle.std.proofs.lemmas.Bool.{cases_Bool, cond_both, leb-false, ltb-false}
@@ -7,10 +7,10 @@ use Rattle.q3_bits.specs.Bits.{message_bytes, message_length}
 use Rattle.q3_bits.specs.Laws.{MessageIsBytes}
 use Rattle.q3_profile.specs.declared.profile.Profile.{Profile}
 use Rattle.q3_svmsg.specs.declared.error.Illegible.{Illegible}
-use Rattle.q3_chan.specs.Datagrams.{sequence_end, longest_message}
+use Rattle.q3_chan.specs.Datagrams.{server_form, client_header, sequence_end, longest_message}
 use Rattle.q3_chan.specs.Sending.{UnderWay}
 use Rattle.q3_chan.specs.Laws.{IsSendable}
-use Rattle.q3_chan.specs.Checks.{is_checked}
+use Rattle.q3_chan.specs.Checks.{is_checked, check_for}
 use Rattle.q3_chan.specs.declared.side.Side.{Side}
 use Rattle.q3_chan.specs.declared.side.Side.TheVariants.{Server, Client}
 use Rattle.q3_chan.specs.Keys.{start_by, Key, side_scrambled}
@@ -50,6 +50,7 @@ use Rattle.q3_world.proofs.GamesMaps.{AreMapped-begun}
 use Rattle.q3_world.proofs.StepsByTags.{Cited, kept_of, Agree, found_or, unnoted, left_alone}
 use Rattle.q3_map.specs.Map.{begins_game}
 use Rattle.q3_slot.specs.declared.stage.ClientStage.TheVariants.{Primed}
+use Rattle.q3_world.proofs.Knowing.{section_is}
 use Rattle.q3_world.proofs.Bases.{KeepsFrames-built, KeepsFrames-game, frames_begun, frames_of_game}
 use Rattle.q3_world.proofs.Mapped.{has_snapshot, mapped_game, mapped_snapshot, mapped_said, asked_base}
 
@@ -89,8 +90,11 @@ low_byte protocol number =
 is_joined : (profile : Profile) (whole : Whole) (c : ℕ) (slot : SlotState) (place : Place) → Has profile whole c slot place → server_has.IsJoined profile whole.ends.server.map.id slot
 is_joined profile whole c slot place had = record {
   player = had.keeps.of_slot.player;
+  area = had.keeps.of_slot.area;
   begun = λ none. had.joined.mapped.stands.none.0 none;
   owed = λ owed. (had.joined.mapped.stands.owed owed).1;
+  sends = had.keeps.of_slot.sending.header_is;
+  hears = had.keeps.of_slot.from;
 }
 
 -- and what its slot has
@@ -109,7 +113,7 @@ next_is_built profile whole c slot place cited lt had fits clear holds =
     let joined = had.joined in
     let names = executed_by_slot profile slot place.client history had.keeps.of_client joined.commanded in
     cited.below.begins.snapshot profile map slot cited.codec holds.facts.map (is_joined profile whole c slot place had) (slot_stands profile slot keeps.window keeps.area names)
-    frames c fits clear
+    frames c holds.facts.frames.snapshots fits clear
 
 -- a snapshot is begun, unless it is too long
 pub served_built : (profile : Profile) (whole : Whole) (c : ℕ) (slot : SlotState) → Cited profile → c < places → slot_at whole.ends.server c ≡ Some slot
@@ -136,12 +140,13 @@ served_built profile whole c slot cited lt is fits clear holds =
     let names = executed_by_slot profile slot client history had.1.keeps.of_client joined.commanded in
     let may = sendable cited.below.scrambles bits Server next.key cited.below.bytes (low_byte profile.protocol (bit_xor slot.challenge (slot.sending.number + 1))) names.text in
     let count = length-map whole.sent bytes_of in
+    let built = next_is_built profile whole c slot place cited lt had.1 fits clear holds in
+    let snapshot = section_is profile slot.challenge (slot.sending.number + 1) next (next_snapshot map slot) built refl in
     elim (cases_Bool (nat_lt longest_message (message_length (length bits)))) [
-      | inl long ↦ rw long (record { same = rw count refl; holds = Holds-too_long cited.below.server profile whole c slot lt is holds })
+      | inl long ↦ rw long (record { same = rw count refl; holds = Holds-too_long cited.below.server profile whole c slot lt is snapshot holds })
       | inr short ↦
           let pushed = map_push bytes_of whole.sent (handed_tag c (slot_begun profile slot next) first) in
-          let built = next_is_built profile whole c slot place cited lt had.1 fits clear holds in
-          let kept = KeepsFrames-built cited.below.server frames whole.histories c (with_built history (Some next)) (next_snapshot map slot) lt holds.facts.histories
+          let kept = KeepsFrames-built cited.below.server profile frames whole.histories c (with_built history (Some next)) (next_snapshot map slot) lt holds.facts.histories snapshot
           (frames_begun cited.below.server frames c history.built (telling_of profile slot) map.baselines next.base (next_snapshot map slot) (omega (arith, begun, number)) are) holds.facts.frames in
           let mapped = mapped_snapshot map slot client history next (has_snapshot next refl) refl refl (asked_base slot next history.built (slot.sending.number + 1) base) joined.mapped in
           rw short (record {
@@ -181,7 +186,7 @@ served_game profile whole c slot cited lt is owed fits clear holds =
           let other = joined.mapped.stands.owed owed in
           let built = cited.below.begins.game profile map slot cited.codec holds.facts.map (is_joined profile whole c slot place had.1) (slot_stands profile slot keeps.of_slot.window keeps.of_slot.area names)
           c (omega (arith, lt)) owed clear in
-          let kept = KeepsFrames-game frames whole.histories c (with_built history (Some next)) lt holds.facts.histories
+          let kept = KeepsFrames-game profile frames whole.histories c (with_built history (Some next)) lt holds.facts.histories
           (frames_of_game frames c history.built next refl (holds.facts.frames.each c lt)) holds.facts.frames in
           let mapped = mapped_game map slot client history next (next_game map c slot) owed refl refl (holds.facts.map.tells other.1) refl refl begun joined.of_client.gathers.taken
           joined.mapped in
@@ -260,6 +265,24 @@ taken_fits profile whole c place lt found holds =
     let taken = had.1.joined.of_client.gathers.taken in
     omega (arith, short, taken)
 
+-- a client as it is well formed
+is_client : (profile : Profile) (whole : Whole) (c : ℕ) (place : Place) → c < places → place_at whole.ends c ≡ Some place → Holds profile whole → IsClient place.client
+is_client profile whole c place lt found holds =
+    let keeps = (has_client profile whole c place lt found holds).1.keeps.of_client in
+    let client = place.client in
+    let by = sym keeps.by in
+    record {
+      applied = keeps.applied;
+      taken = taken_fits profile whole c place lt found holds;
+      window = keeps.window;
+      few = keeps.moves.few;
+      moves = record { each = keeps.moves.each };
+      sends = keeps.sending.header_is
+          ∙ (ap (client_header (check_for profile.protocol client.challenge)) (sym keeps.qport)
+          ∙ ap (λ (p : Profile). client_header (check_for p.protocol client.challenge) client.qport) by);
+      hears = keeps.from ∙ ap (λ (p : Profile). server_form (check_for p.protocol client.challenge)) by;
+    }
+
 -- a message is begun, unless it is too long
 pub said_text : (profile : Profile) (whole : Whole) (c : ℕ) (place : Place) → Cited profile → c < places → place_at whole.ends c ≡ Some place
     → place.client.sending.number + 1 < sequence_end → is_said_unclear profile (next_message place.client) ≡ false → Holds profile whole
@@ -270,7 +293,7 @@ said_text profile whole c place cited lt found fits clear holds =
     let first : UnderWay = record { message = said_bytes profile next; next = 0 } in
     let had = has_client profile whole c place lt found holds in
     let keeps = had.1.keeps.of_client in
-    let is : IsClient place.client = record { applied = keeps.applied; taken = taken_fits profile whole c place lt found holds; window = keeps.window; few = keeps.moves.few; moves = record { each = keeps.moves.each } } in
+    let is = is_client profile whole c place lt found holds in
     let said_is : IsSaid profile place.client.challenge next = subst (λ (p : Profile). IsSaid p place.client.challenge next) keeps.by
     (cited.below.says.next place.client is (subst (λ (p : Profile). is_said_unclear p (next_message place.client) ≡ false) (sym keeps.by) clear)) in
     let may = sendable cited.below.scrambles bits Client next.key cited.below.bytes (low_byte place.client.state.profile.protocol (bit_xor (bit_xor place.client.challenge place.client.state.id) place.client.gathering.taken)) keeps.applied.last in

@@ -110,6 +110,7 @@ asks_keeps profile client on qport began issued commands keeps = record {
   applied = keeps.applied;
   ring = keeps.ring;
   from = keeps.from;
+  qport = keeps.qport;
   fits = keeps.fits;
   sending = keeps.sending;
   said = keeps.said;

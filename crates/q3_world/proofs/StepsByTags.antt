@@ -15,7 +15,7 @@ use Rattle.q3_window.specs.Outgoing.{acknowledge_at, text_at}
 use Rattle.q3_client.specs.Client.{ClientState, receive_message, receive_bytes}
 use Rattle.q3_client.specs.Sending.{said_bytes, Said, IsSaid}
 use Rattle.q3_slot.specs.Slot.{SlotState}
-use Rattle.q3_built.specs.Built.{Built, IsHeld, IsSnapshot, IsBuilt, built_bytes, plain_bytes}
+use Rattle.q3_built.specs.Built.{Built, IsHeld, IsBuilt, built_bytes, plain_bytes}
 use Rattle.q3_slot.specs.Taking.{came_as, said_by}
 use Rattle.q3_messages.specs.MessageLaws.{HoldsThis}
 use Rattle.q3_world.specs.Layers.{Layers}
@@ -32,7 +32,7 @@ use Rattle.q3_world.proofs.Holding.{Holds, with_client_of, same_clients}
 abbrev pub ReadsBack : Profile → Type 0
 ReadsBack profile = (client : ClientState) (number : ℕ) (built : Built) → IsBuilt profile client.challenge number built → client.state.profile ≡ profile → IsApplied client.state → IfSome built.under (λ game. client.state.baselines ≡ built.baselines)
     → (acknowledge_at client.issued built.message.ack).answer ≡ Ok tt → text_at client.issued built.message.ack ≡ built.key.text
-    → IfSome built.base (λ base. IsSnapshot profile base × HoldsThis client.state.held base)
+    → IfSome built.base (HoldsThis client.state.held)
     → receive_bytes client number (built_bytes profile built) ≡ Ok (receive_message client number built.message (plain_bytes profile built))
 
 -- and one that a client said is read back

@@ -4,7 +4,7 @@ use Rattle.q3_player.specs.Laws.{NormalIsNormal, ZeroIsNormal}
 use Rattle.q3_entity.specs.Laws.{NormalIsNormal as EntityNormalIsNormal}
 use Rattle.q3_chan.specs.Senders.{QportIsTold}
 use Rattle.q3_chan.specs.Laws.{SentIsTagged, TaggedDoes, EndsGather, EndsSend, SideFrontStays, SideBytesStay}
-use Rattle.q3_frames.specs.Laws.{HeldWasBuilt, BuildKeeps, BaseIsNear}
+use Rattle.q3_frames.specs.Laws.{NothingIsHeld, HeldWasBuilt, BuildKeeps, BaseIsNear}
 use Rattle.q3_map.specs.Laws.{ListsStayHeld}
 use Rattle.q3_config.specs.Laws.{PiecesAreTexts, PiecesMakeChange, SpelledIsRead}
 use Rattle.q3_window.specs.Flow.{FlowLaws}
@@ -18,6 +18,7 @@ use Rattle.q3_messages.specs.MessageLaws.{BuiltIsRead, SaidIsRead}
 -- that a server's entities stay held, what its frames hold, which of these is a base, and what a call for one client leaves the others
 pub record ServerLaws : Type 0 where
   pub lists : ListsStayHeld
+  pub nothing : NothingIsHeld
   pub held : HeldWasBuilt
   pub keeps : BuildKeeps
   pub near : BaseIsNear

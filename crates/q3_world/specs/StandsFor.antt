@@ -25,7 +25,7 @@ use Rattle.q3_map.specs.Map.{MapState}
 use Rattle.q3_built.specs.Built.{Built, IsHeld, IsArea, IsBuilt, built_bytes}
 use Rattle.q3_slot.specs.Slot.{SlotState}
 use Rattle.q3_slot.specs.Taking.{last_time}
-use Rattle.q3_server.specs.Standing.{IsMap}
+use Rattle.q3_server.specs.Standing.{IsMap, HoldSnapshots}
 use Rattle.q3_server.specs.Server.{places, slot_at}
 use Rattle.q3_server.specs.Taking.{sender_of}
 use Rattle.q3_clstate.specs.Standing.{IsApplied}
@@ -127,6 +127,7 @@ pub record KeepsClient (profile : Profile) (client : ClientState) (of_qport : �
   pub applied : IsApplied client.state
   pub ring : client.state.held.ring ≡ profile.parse_ring
   pub from : client.gathering.form ≡ server_form (check_for profile.protocol client.challenge)
+  pub qport : client.qport ≡ of_qport
   pub fits : of_qport < 2 ^ 16
   pub sending : BeginsMessages (client_header (check_for profile.protocol client.challenge) of_qport) (messages_said profile began) (length began) client.sending
   pub said : (k : ℕ) (d : Said) → k < length began → IsSaid profile client.challenge (slice_index_or began k d)
@@ -169,9 +170,10 @@ pub record IsSent (profile : Profile) (histories : List History) (tag : Tag) : T
   pub client : tag.client < places
   pub way : IsWay profile (history_at histories tag.client) tag tag.direction
 
--- the server has frames for each client, and they are what was built for it
-pub record KeepsFrames (frames : FramesState) (histories : List History) : Type 0 where
+-- the server has frames for each client, each a snapshot as it is built, and they are what was built for it
+pub record KeepsFrames (profile : Profile) (frames : FramesState) (histories : List History) : Type 0 where
   pub are : AreFrames frames
+  pub snapshots : HoldSnapshots profile frames
   pub count : length frames.slots ≡ places
   pub each : (c : ℕ) → c < places → AreOfBuilt frames c (history_at histories c).built
 
@@ -189,7 +191,7 @@ pub record Facts (profile : Profile) (whole : Whole) : Type 0 where
   pub found : (c : ℕ) (slot : SlotState) → slot_at whole.ends.server c ≡ Some slot
       → sender_of whole.ends.server slot.address.host slot.qport ≡ Some c
   pub sent : (k : ℕ) (d : Tag) → k < length whole.sent → IsSent profile whole.histories (slice_index_or whole.sent k d)
-  pub frames : KeepsFrames whole.ends.server.frames whole.histories
+  pub frames : KeepsFrames profile whole.ends.server.frames whole.histories
 
 -- ---- what joins the two ends of a client
 

@@ -42,6 +42,7 @@ pub fn layers()
     config::pieces_are_texts();
     config::pieces_make_change();
     config::spelled_is_read();
+    frames::nothing_is_held();
     frames::held_was_built();
     frames::build_keeps();
     frames::base_is_near();

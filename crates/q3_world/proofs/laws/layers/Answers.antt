@@ -19,6 +19,7 @@ returns c = record {
   bytes = c.message_holds_bits.ensures.bytes;
   server = record {
     lists = c.lists_stay_held.ensures;
+    nothing = c.nothing_is_held.ensures;
     held = c.held_was_built.ensures;
     keeps = c.build_keeps.ensures;
     near = c.base_is_near.ensures;
