@@ -1,4 +1,3 @@
-mod Asking
 mod Fields
 mod Heads
 mod Listing
@@ -19,3 +18,4 @@ mod Building
 mod Causes
 mod Refusals
 pub mod FilesByName
+pub mod Asking

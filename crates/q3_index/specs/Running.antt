@@ -82,11 +82,11 @@ abbrev pub OpenCause : {T : Type 0} → ℕ → ℕ → Result T IndexError → 
 OpenCause before now (Err opening.ReadFault) = (before ≤ now) × Rose before now
 OpenCause before now other = now ≡ before
 
--- of the demo nothing was asked for, where it is another file than the index
-abbrev pub AsksNothing : ℕ → ℕ → Option Told → Option Told → Type 0
-AsksNothing demo_file index before now = demo_file ≢ index → asked_of now demo_file ≡ asked_of before demo_file
-
 -- ---- seeking
+
+-- only of two files more was asked for
+abbrev pub AsksOfTwo : ℕ → ℕ → Option Told → Option Told → Type 0
+AsksOfTwo first second before now = (other : ℕ) → other ≢ first → other ≢ second → asked_of now other ≡ asked_of before other
 
 abbrev pub Seeks : Profile → IndexState → List ℕ → List ℕ → ℕ → Result AppliedState SeekError → Type 0
 Seeks profile index demo_bytes index_bytes number (Ok state) =

@@ -8,7 +8,7 @@ ghost use Rattle.q3_demo.specs.Running.{OnlyAsks, AsksOf, asked_of};
 ghost use Rattle.q3_bits.specs.ResultBind.{fault_as};
 ghost use Rattle.q3_index.specs.Text.{spacing};
 ghost use Rattle.q3_index.specs.Seeking.{restored, greatest, start_at, seek_at, bytes_between};
-ghost use Rattle.q3_index.specs.Running.{Seeks, SeekCause, RefusesDemo, IsMade, PlaysSo};
+ghost use Rattle.q3_index.specs.Running.{Seeks, SeekCause, RefusesDemo, AsksOfTwo, IsMade, PlaysSo};
 ghost use Rattle.q3_index.specs.Steps.{Answers, IsPlaced, saved_at, played_by, play_one, refused_as};
 
 use crate::error::SeekError;
@@ -74,7 +74,7 @@ impl Index {
     /// else `NotIndex` exactly where the state that is read is none; else `Demo` exactly where a record that is played is refused, or the demo
     /// ends before so many; it never carries a fault or want of memory. Of the demo no more bytes are asked for than the records have that are
     /// played, where every read gives all that it is asked for. Of an index that was made of the demo they are those after the last 256th
-    /// record at or below so many.
+    /// record at or below so many. Of no file but the demo's and the index's anything is asked for.
     pub fn seek<F: Files>(
         &self,
         profile: &Profile,
@@ -111,6 +111,7 @@ impl Index {
         ensures refusal { IfErr result RefusesDemo }
         ensures given { F.given files.new ≡ F.given files.old }
         ensures asks { OnlyAsks (F.told files.old) (F.told files.new) }
+        ensures only { AsksOfTwo self.now.demo self.now.index (F.told files.old) (F.told files.new) }
         ensures cause { SeekCause (F.faults files.old) (F.faults files.new) result }
         ensures others { F.write_faults files.new ≡ F.write_faults files.old }
     {
@@ -253,6 +254,7 @@ fn go_on<F: Files>(
     ensures refusal { IfErr result RefusesDemo }
     ensures given { F.given files.new ≡ F.given files.old }
     ensures asks { OnlyAsks (F.told files.old) (F.told files.new) }
+    ensures only { AsksOf demo (F.told files.old) (F.told files.new) }
     ensures cost { IsTrue F.reads_whole → (told : Told) → F.told files.old ≡ Some told → (last : Played)
         → play_first (number - player.old.played.records) (contents_at told demo) player.old.played ≡ Ok last
         → asked_of (F.told files.new) demo + player.old.played.at ≤ asked_of (F.told files.old) demo + last.at }
@@ -275,6 +277,7 @@ fn play_next<F: Files>(player: &mut Player, files: &mut F, demo: usize) -> Resul
     ensures refusal { IfErr result RefusesDemo }
     ensures given { F.given files.new ≡ F.given files.old }
     ensures asks { OnlyAsks (F.told files.old) (F.told files.new) }
+    ensures only { AsksOf demo (F.told files.old) (F.told files.new) }
     ensures cost { IsTrue F.reads_whole → (told : Told) → F.told files.old ≡ Some told → (stepped : Stepped)
         → step (contents_at told demo) player.old.played ≡ Ok (Some stepped)
         → asked_of (F.told files.new) demo + player.old.played.at

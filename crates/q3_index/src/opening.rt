@@ -6,7 +6,7 @@ ghost use Rattle.q3_savestate.specs.Cursor.{found, number_at};
 ghost use Rattle.q3_demo.specs.Running.{OnlyAsks, AsksOf};
 ghost use Rattle.q3_index.specs.Text.{spacing};
 ghost use Rattle.q3_index.specs.Opening.{version_at, width_at, head_after, head_at, checkpoints_of, open_at};
-ghost use Rattle.q3_index.specs.Running.{Opens, OpenCause, AsksNothing};
+ghost use Rattle.q3_index.specs.Running.{Opens, OpenCause};
 ghost use Rattle.q3_index.specs.Steps.{ArePlaced, IsPlaced, Reads, from_place, value_of, head_size, numbers_at, checkpoint_at, least_of, read_to};
 
 use crate::error::IndexError;
@@ -67,7 +67,7 @@ pub(crate) struct Head {
     count: u32,
 }
 
-/// Opens the index of a demo: both are numbers of files. The demo is asked for its length alone. `Err` is `NotIndex` exactly where the heads
+/// Opens the index of a demo: both are numbers of files. The demo is asked for its length alone, and no other file for anything. `Err` is `NotIndex` exactly where the heads
 /// aren't those of an index, with the place of the first field that is cut short or breaks a rule, of a state that goes beyond the file, or of
 /// the first byte after the last checkpoint; else `OtherDemo` exactly where the demo has another length or the profile another mark; else
 /// `OtherWidth` exactly where an entity's number has another number of bits by the profile.
@@ -85,7 +85,7 @@ pub fn open_index<F: Files>(
         (contents_at told index)) result }
     ensures given { F.given files.new ≡ F.given files.old }
     ensures asks { OnlyAsks (F.told files.old) (F.told files.new) }
-    ensures nothing { AsksNothing demo index (F.told files.old) (F.told files.new) }
+    ensures only { AsksOf index (F.told files.old) (F.told files.new) }
     ensures numbers { IfOk result (λ opened. (opened.demo ≡ demo) × (opened.index ≡ index)) }
     ensures cause { OpenCause (F.faults files.old) (F.faults files.new) result }
     ensures others { F.write_faults files.new ≡ F.write_faults files.old }

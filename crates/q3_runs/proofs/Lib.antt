@@ -12,4 +12,6 @@ mod Numbered
 mod Demoing
 mod Sought
 mod SoughtPlays
+mod AskedByName
+mod SoughtCheap
 mod Noding

@@ -14,7 +14,7 @@ use Rattle.q3_runs.proofs.Reading.{some_held}
 -- ---- numbers
 
 -- the last number that was given, and the one before it
-last_number : (numbers : List (List ℕ)) (name : List ℕ) → slice_index_or (numbers ++ name ∷ []) (length numbers) [] ≡ name
+pub last_number : (numbers : List (List ℕ)) (name : List ℕ) → slice_index_or (numbers ++ name ∷ []) (length numbers) [] ≡ name
 last_number numbers name = get_or-append_seam numbers name [] []
 
 number_before : (numbers : List (List ℕ)) (name other : List ℕ) → slice_index_or ((numbers ++ name ∷ []) ++ other ∷ []) (length numbers) [] ≡ name
@@ -67,6 +67,20 @@ two_found told t1 t2 t3 names demo index first second leaves looks next =
       found_in (found_in mid demo) index,
       two.2,
       two_so told mid demo index first second leaves.2.files (one.0, one.1, refl) (two.0, two.1, refl),
+    )
+
+-- and what their numbers stand for
+pub named_two : (t1 t2 t3 : Option Told) (demo index : List ℕ) (first second : ℕ) → LooksUp t1 t2 demo (Ok first) → LooksUp t2 t3 index (Ok second)
+    → (now : Told) → t3 ≡ Some now → (name_of now first ≡ demo) × (name_of now second ≡ index)
+named_two None t2 t3 demo index first second looks next now is =
+    let none : t3 ≡ None = subst (λ (t : Option Told). LooksUp t t3 index (Ok second)) looks next in absurd cc
+named_two (Some mid) t2 t3 demo index first second looks next now is =
+    let two : LooksUp (Some (found_in mid demo)) t3 index (Ok second) = subst (λ (t : Option Told). LooksUp t t3 index (Ok second)) looks.2 next in
+    let same : now ≡ found_in (found_in mid demo) index = same_some now (found_in (found_in mid demo) index) (sym is ∙ two.2) in (
+      ap (λ (t : Told). name_of t first) same
+          ∙ (ap (λ (n : ℕ). slice_index_or ((mid.numbers ++ demo ∷ []) ++ index ∷ []) n []) looks.1 ∙ number_before mid.numbers demo index),
+      ap (λ (t : Told). name_of t second) same
+          ∙ (ap (λ (n : ℕ). slice_index_or ((mid.numbers ++ demo ∷ []) ++ index ∷ []) n []) two.1 ∙ last_number (mid.numbers ++ demo ∷ []) index),
     )
 
 -- ---- one was looked up, and another was made

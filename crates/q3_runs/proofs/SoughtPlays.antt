@@ -30,14 +30,14 @@ use Rattle.q3_runs.proofs.Sought.{SoughtIn, sought_of, open_ends, seek_ends}
 
 -- ---- what the laws say
 
-record PlaysSo (by : Profile) (bytes made : List ℕ) (number : ℕ) : Type 0 where
-  heads : Heads
-  opens : open_at (length bytes) by.mark by.entity.number_bits made ≡ Ok heads
-  played : demos.Played
-  plays : demos.play_state by bytes number ≡ Ok played
-  seeks : seek_at by bytes made heads.records heads.checkpoints number ≡ Ok played
+pub record PlaysSo (by : Profile) (bytes made : List ℕ) (number : ℕ) : Type 0 where
+  pub heads : Heads
+  pub opens : open_at (length bytes) by.mark by.entity.number_bits made ≡ Ok heads
+  pub played : demos.Played
+  pub plays : demos.play_state by bytes number ≡ Ok played
+  pub seeks : seek_at by bytes made heads.records heads.checkpoints number ≡ Ok played
 
-least_ring : (by : Profile) → IsProfile by → 512 ≤ by.parse_ring
+pub least_ring : (by : Profile) → IsProfile by → 512 ≤ by.parse_ring
 least_ring by is = let ring = is.parse_ring in search rules
 
 plays_so : IndexOpens → SeekingIsPlaying → (version : Version) (by : Profile) (bytes made : List ℕ) (number : ℕ) → IsProfile by → IsCodec by → by.mark < 2 ^ 64 → length bytes < 2 ^ 64
@@ -47,19 +47,19 @@ plays_so opening seeking version by bytes made number is codec mark long tells w
     let found = seeking version by bytes made opens.0 number tells codec (least_ring by is) mark long whole opens.1 few in
     record { heads = opens.0; opens = opens.1; played = found.0; plays = found.1; seeks = found.2 }
 
-carry : (P : Profile → List ℕ → List ℕ → Type 0) (by other : Profile) (d bytes i made : List ℕ) → by ≡ other → d ≡ bytes → i ≡ made → P by d i → P other bytes made
+pub carry : (P : Profile → List ℕ → List ℕ → Type 0) (by other : Profile) (d bytes i made : List ℕ) → by ≡ other → d ≡ bytes → i ≡ made → P by d i → P other bytes made
 carry P by other d bytes i made one two three x = subst (λ (p : Profile). P p bytes made) one (subst (λ (b : List ℕ). P by b made) two (subst (λ (m : List ℕ). P by d m) three x))
 
 -- ---- what the files hold
 
 -- where the index was made of the demo, by the same profile, and both were found
-record FoundMade (t3 : Option Told) (first second number : ℕ) (by other : Profile) (bytes made : List ℕ) : Type 0 where
-  now : Told
-  told : t3 ≡ Some now
-  same : by ≡ other
-  of_demo : contents_at now first ≡ bytes
-  of_index : contents_at now second ≡ made
-  plays : PlaysSo other bytes made number
+pub record FoundMade (t3 : Option Told) (first second number : ℕ) (by other : Profile) (bytes made : List ℕ) : Type 0 where
+  pub now : Told
+  pub told : t3 ≡ Some now
+  pub same : by ≡ other
+  pub of_demo : contents_at now first ≡ bytes
+  pub of_index : contents_at now second ≡ made
+  pub plays : PlaysSo other bytes made number
 
 same_profile : (a b : Profile) (says : Result Profile Fault) → says ≡ Ok a → says ≡ Ok b → a ≡ b
 same_profile a b says first second = cc
@@ -78,7 +78,7 @@ pub record Premises (told t1 t2 t3 : Option Told) (profile demo index : List ℕ
   pub looks : LooksUp t1 t2 demo (Ok first)
   pub next : LooksUp t2 t3 index (Ok second)
 
-found_made : (told t1 t2 t3 : Option Told) (profile demo index : List ℕ) (first second number : ℕ) (by : Profile) → Premises told t1 t2 t3 profile demo index first second by
+pub found_made : (told t1 t2 t3 : Option Told) (profile demo index : List ℕ) (first second number : ℕ) (by : Profile) → Premises told t1 t2 t3 profile demo index first second by
     → (files : Told) (other : Profile) (version : Version) (bytes made : List ℕ) → told ≡ Some files → profile_in (contents_of files.files profile) ≡ Ok other
     → contents_of files.files demo ≡ Some bytes → contents_of files.files index ≡ Some made → length bytes < 2 ^ 64 → Tells version other.entity.number_bits → index_by version other bytes ≡ Ok made
     → number ≤ length (demos.records_of other bytes) → FoundMade t3 first second number by other bytes made

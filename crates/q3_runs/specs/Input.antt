@@ -1,5 +1,6 @@
 -- The files of a run: what it reads of each, which names it gives, and what it leaves.
-use Rattle.std.specs.Prelude.{◌≡◌, ◌⊎◌, ℕ, ◌+◌, ◌*◌, ◌==◌, ◌||◌, ◌≤◌, Bool, List, [], ◌∷◌, ◌++◌, length, map, count_by, Option, Some, None, Result, Ok, Err}
+use Rattle.std.specs.Prelude.{◌≡◌, ◌≢◌, ◌⊎◌, ℕ, ◌+◌, ◌*◌, ◌==◌, ◌||◌, ◌≤◌, ⊤, Bool, if◌then◌else◌, List, [], ◌∷◌, ◌++◌, length, map, count_by, slice_index, Option, Some, None, Result, Ok, Err}
+use Rattle.std.specs.Str.{bytes_eq}
 use Rattle.std.specs.Global.{Vec}
 use Rattle.q3_demo.specs.Running.{HasFrom}
 use Rattle.q3_io.specs.declared.sink.Failed.{Failed}
@@ -52,6 +53,28 @@ abbrev pub ReadsPieces : ℕ → ℕ → Option Told → Option Told → Result 
 ReadsPieces most file None now result = (now ≡ None) × (contents : List ℕ) × ReadsWhole most contents result
 ReadsPieces most file (Some told) now result =
     (asked : List ℕ) × (now ≡ Some (record told { asked = asked })) × ReadsWhole most (contents_at told file) result
+
+-- ---- what is asked of the file of a name
+
+-- how many bytes of it were asked for by the numbers that stand for the name, of which the first is this one
+unfoldable pub asked_from : ℕ → List (List ℕ) → List ℕ → List ℕ → ℕ
+asked_from file [] asked name = 0
+asked_from file (number ∷ numbers) asked name =
+    (if bytes_eq number name then slice_index asked file else 0) + asked_from (file + 1) numbers asked name
+
+-- and by all, where it is told
+abbrev pub asked_by_name : Option Told → List ℕ → ℕ
+asked_by_name None name = 0
+asked_by_name (Some told) name = asked_from 0 told.numbers told.asked name
+
+-- nothing was asked for by a number that isn't given
+abbrev pub IsCounted : Option Told → Type 0
+IsCounted None = ⊤
+IsCounted (Some told) = (file : ℕ) → length told.numbers ≤ file → slice_index told.asked file ≡ 0
+
+-- only of the file of a name more was asked for
+abbrev pub AsksOfName : List ℕ → Option Told → Option Told → Type 0
+AsksOfName name told now = IsCounted told → IsCounted now × ((other : List ℕ) → other ≢ name → asked_by_name now other ≡ asked_by_name told other)
 
 -- ---- what a profile's document may take
 

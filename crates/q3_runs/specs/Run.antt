@@ -1,5 +1,5 @@
 -- How a command goes: as its verdict says, or something from outside ends it early.
-use Rattle.std.specs.Prelude.{◌≡◌, ◌⊎◌, ℕ, ◌^◌, ◌<◌, ◌≤◌, true, false, List, [], length, Option, Some, None, Result, Ok, Err}
+use Rattle.std.specs.Prelude.{◌≡◌, ◌≢◌, ◌⊎◌, ℕ, ◌+◌, ◌*◌, ◌/◌, ◌^◌, ◌<◌, ◌≤◌, true, false, List, [], length, Option, Some, None, Result, Ok, Err}
 use Rattle.q3_io.specs.declared.address.Address.{Address}
 use Rattle.q3_io.specs.Told.{Told, Named, contents_of}
 use Rattle.q3_io.specs.Traffic.{Traffic}
@@ -12,9 +12,10 @@ use Rattle.q3_profile.specs.declared.profile.Profile.{Profile as ProfileValue}
 use Rattle.q3_demo.specs.Playing.{Played, records_of, play_state}
 use Rattle.q3_demo.specs.Report.{state_text}
 use Rattle.q3_index.specs.declared.opening.Version.{Version}
-use Rattle.q3_index.specs.Text.{Tells, index_by}
+use Rattle.q3_index.specs.Text.{spacing, Tells, index_by}
+use Rattle.q3_index.specs.Seeking.{bytes_between}
 use Rattle.q3_runs.specs.Faults.{node_fault}
-use Rattle.q3_runs.specs.Input.{IsFront, LeavesTold, Touches}
+use Rattle.q3_runs.specs.Input.{IsFront, LeavesTold, Touches, IsCounted, asked_by_name}
 use Rattle.q3_runs.specs.Verdict.{StopPlace, Nowhere, First, Anywhere, Stops, Verdict, Outside, profile_in}
 use Rattle.q3_runs.specs.declared.fault.Fault.{Fault}
 use Rattle.q3_runs.specs.declared.fault.Fault.TheVariants.{NoMemory, Read, Write, FileWrite, Wire}
@@ -140,3 +141,11 @@ EndsWithPlayedState by demo records old now ended =
 
 abbrev pub SeekEndsWithPlayedState : Option Told → (profile demo index : List ℕ) → ℕ → Option Written → Option Written → Result (Unit {0}) Fault → Type 0
 SeekEndsWithPlayedState told profile demo index records old now ended = WhereIndexWasMade told profile demo index records (λ by bytes records. EndsWithPlayedState by bytes records old now ended)
+
+-- where a demo is sought so, and its file isn't that of the profile or of the index, no more of it is asked for than the records have that
+-- are played: those after the last 256th at or below so many
+abbrev pub SeekAsksFromCheckpoint : Option Told → Option Told → (profile demo index : List ℕ) → ℕ → Type 0
+SeekAsksFromCheckpoint told now profile demo index records =
+    IsCounted told → profile ≢ demo → index ≢ demo
+    → WhereIndexWasMade told profile demo index records
+    (λ by bytes records. asked_by_name now demo ≤ asked_by_name told demo + bytes_between by bytes (spacing * (records / spacing)) records)

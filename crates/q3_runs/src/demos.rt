@@ -1,6 +1,6 @@
 //! Plays demos, makes their indexes, and seeks in them.
 
-ghost use Rattle.std.specs.Prelude.{◌≡◌, ◌≢◌, ◌/◌, ◌<◌, ◌≤◌, ◌^◌, IfOk, IfErr, OnOk};
+ghost use Rattle.std.specs.Prelude.{◌≡◌, ◌≢◌, ◌/◌, ◌<◌, ◌≤◌, ◌^◌, IsTrue, IfOk, IfErr, OnOk};
 ghost use Rattle.q3_io.specs.Faults.{HasCause};
 ghost use Rattle.q3_io.specs.Told.{Creates};
 ghost use Rattle.q3_profile.specs.Profile.{IsCodec};
@@ -9,7 +9,7 @@ ghost use Rattle.q3_index.specs.Text.{spacing};
 ghost use Rattle.q3_runs.specs.Faults.{build_fault, ReadCause, WriteCause, FileCause};
 ghost use Rattle.q3_runs.specs.Input.{as_told};
 ghost use Rattle.q3_runs.specs.Verdict.{IsPlayVerdict, IsIndexVerdict, IsSeekVerdict, indexed_text};
-ghost use Rattle.q3_runs.specs.Run.{SeekEndsWithPlayedState, Executes, LeavesFiles, PrintsAll};
+ghost use Rattle.q3_runs.specs.Run.{SeekEndsWithPlayedState, SeekAsksFromCheckpoint, Executes, LeavesFiles, PrintsAll};
 
 use crate::fault::Fault;
 use crate::input::{find_file, load_profile};
@@ -117,7 +117,8 @@ fn print_built<O: Sink>(built: Built, out: &mut O) -> Result<(), Fault>
     .map_err(|_| Fault::Write)
 }
 
-/// Prints what so many records of the demo of this name leave, by the index of that name.
+/// Prints what so many records of the demo of this name leave, by the index of that name. Where every read gives all that it is asked for, and
+/// the index was made of the demo, no more of that is asked for than the records have from the last 256th at or below on.
 pub fn seek<F: Files, O: Sink>(
     alloc: Global,
     profile: &str,
@@ -133,6 +134,8 @@ pub fn seek<F: Files, O: Sink>(
         (F.told files.old) (F.told files.new) result }
     ensures sought { SeekEndsWithPlayedState (F.told files.old) profile.now demo.now index.now records (O.written out.old)
         (O.written out.new) result }
+    ensures cheap { IsTrue F.reads_whole → SeekAsksFromCheckpoint (F.told files.old) (F.told files.new) profile.now
+        demo.now index.now records }
     ensures writes { F.write_faults files.new ≡ F.write_faults files.old }
     ensures read_cause { ReadCause (F.faults files.old) (F.faults files.new) result }
     ensures write_cause { WriteCause (O.faults out.old) (O.faults out.new) result }

@@ -2,12 +2,13 @@
 
 ghost use Rattle.std.specs.Prelude.{◌≡◌, ◌⊎◌, ◌+◌, ◌<◌, ◌≤◌, ◌^◌, [], ◌∷◌, All, length, Ok, Err, IfOk, OnOk, MatchResult};
 ghost use Rattle.q3_io.specs.Told.{LooksUp};
+ghost use Rattle.q3_demo.specs.Running.{AsksOf};
 ghost use Rattle.q3_profile.specs.declared.error.ProfileError.TheVariants as errors;
 ghost use Rattle.q3_profile.specs.Profile.{IsProfile, checked, longest_profile};
 ghost use Rattle.q3_script.specs.Grammar.{IsEventOf, AreOrdered};
 ghost use Rattle.q3_script.specs.Script.{most_events};
 ghost use Rattle.q3_runs.specs.Faults.{ReadCause};
-ghost use Rattle.q3_runs.specs.Input.{ReadsFile, ReadsPieces, Finds, Gives, as_told, with_items, may_begin_table, document_memory, most_memory};
+ghost use Rattle.q3_runs.specs.Input.{ReadsFile, ReadsPieces, Finds, Gives, AsksOfName, as_told, with_items, may_begin_table, document_memory, most_memory};
 ghost use Rattle.q3_runs.specs.Verdict.{GetsFrom, profile_in, events_in, with_events};
 
 use crate::fault::Fault;
@@ -32,6 +33,7 @@ pub fn load_profile<F: Files>(alloc: Global, name: &str, files: &mut F) -> Resul
     ensures gets { GetsFrom profile_in (F.told files.old) name.now result }
     ensures passes { IfOk result IsProfile }
     ensures gives { Gives result (name.now ∷ []) (F.told files.old) (F.told files.new) }
+    ensures asks { AsksOfName name.now (F.told files.old) (F.told files.new) }
     ensures writes { F.write_faults files.new ≡ F.write_faults files.old }
     ensures read_cause { ReadCause (F.faults files.old) (F.faults files.new) result }
 {
@@ -117,6 +119,7 @@ pub(crate) fn read_file<F: Files>(
     requires { most < 2 ^ 32 }
     ensures reads { ReadsFile most name.now (F.told files.old) (with_items result) }
     ensures gives { Gives result (name.now ∷ []) (F.told files.old) (F.told files.new) }
+    ensures asks { AsksOfName name.now (F.told files.old) (F.told files.new) }
     ensures cause { ReadCause (F.faults files.old) (F.faults files.new) result }
     ensures writes { F.write_faults files.new ≡ F.write_faults files.old }
 {
@@ -139,6 +142,7 @@ fn read_pieces<F: Files>(
     requires some { 0 < length piece.old }
     requires few { most + length piece.old < 2 ^ 33 }
     ensures reads { ReadsPieces most file (F.told files.old) (F.told files.new) (with_items result) }
+    ensures only { AsksOf file (F.told files.old) (F.told files.new) }
     ensures cause { ReadCause (F.faults files.old) (F.faults files.new) result }
     ensures writes { F.write_faults files.new ≡ F.write_faults files.old }
 {

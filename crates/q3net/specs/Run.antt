@@ -18,7 +18,7 @@ use Rattle.q3_command.specs.Command.{Command, Seek, files_of}
 use Rattle.q3_runs.specs.Faults.{IsOutside, FileCause}
 use Rattle.q3_runs.specs.Input.{looked_up, created, LeavesTold, LeavesFirst}
 use Rattle.q3_runs.specs.Lines.{fault_status, ending_line, ending_status}
-use Rattle.q3_runs.specs.Run.{Comes, place_of, EndsAs, wire_by, Left, WiredBy, HandedOn, FailsBy, WhereIndexWasMade, EndsWithPlayedState}
+use Rattle.q3_runs.specs.Run.{Comes, place_of, EndsAs, wire_by, Left, WiredBy, HandedOn, FailsBy, WhereIndexWasMade, EndsWithPlayedState, SeekAsksFromCheckpoint}
 use Rattle.q3_runs.specs.Verdict.{Stops, Verdict, Outside}
 use Rattle.q3net.specs.Verdict.{IsVerdict}
 use Rattle.q3_runs.specs.declared.fault.Fault.{Fault}
@@ -98,6 +98,11 @@ SeekReportsPlayedState command told old now status = WhereSeekIndexWasMade comma
 -- how a command that seeks so ends, before its status
 abbrev pub CommandEndsWithPlayedState : Option Command → Outside → Option Written → Option Written → Result (Unit {0}) Fault → Type 0
 CommandEndsWithPlayedState command told old now ended = WhereSeekIndexWasMade command told (λ by bytes records. EndsWithPlayedState by bytes records old now ended)
+
+-- and what such a command asks of the demo's file
+abbrev pub CommandAsksFromCheckpoint : Option Command → Option Told → Option Told → Type 0
+CommandAsksFromCheckpoint (Some (Seek profile demo index records)) told now = SeekAsksFromCheckpoint told now profile demo index records
+CommandAsksFromCheckpoint command told now = ⊤
 
 -- the names of the command's words are looked up, once each and in this order, and then the files that the verdict makes are created, or
 -- the first of these; its acts are done, or the first of them, and every other file stays

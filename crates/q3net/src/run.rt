@@ -1,6 +1,6 @@
 //! The top call: does all that the program does.
 
-ghost use Rattle.std.specs.Prelude.{◌≡◌, ◌⊎◌, ◌≤◌, true, false, map, Err, IfErr, IsNone, IsOk, OnOk};
+ghost use Rattle.std.specs.Prelude.{◌≡◌, ◌⊎◌, ◌≤◌, true, false, IsTrue, map, Err, IfErr, IsNone, IsOk, OnOk};
 ghost use Rattle.std.specs.String.{string_bytes};
 ghost use Rattle.q3_io.specs.Faults.{HasCause, Rose};
 ghost use Rattle.q3_io.specs.Written.{Adds, NothingWaits};
@@ -10,7 +10,7 @@ ghost use Rattle.q3_runs.specs.Lines.{fault_line, ending_line, ending_status};
 ghost use Rattle.q3_runs.specs.Verdict.{outside};
 ghost use Rattle.q3_runs.specs.Run.{PrintsAll, left_so, ExecutesWired, LeavesFiles, MayBind};
 ghost use Rattle.q3net.specs.Verdict.{IsVerdict};
-ghost use Rattle.q3net.specs.Run.{SeekReportsPlayedState, CommandEndsWithPlayedState, Took, Prints, Reports, FilesFail, IsDecided, IsComplete, HasLeft, Touched, Settles};
+ghost use Rattle.q3net.specs.Run.{SeekReportsPlayedState, CommandEndsWithPlayedState, CommandAsksFromCheckpoint, Took, Prints, Reports, FilesFail, IsDecided, IsComplete, HasLeft, Touched, Settles};
 
 use crate::generated::{make, trial};
 use crate::replay::replay;
@@ -75,6 +75,10 @@ pub fn run<F: Files, W: Wire, C: Clock, O: Sink>(
     ensures sought { SeekReportsPlayedState (command_of (map string_bytes words.now))
         (outside (F.told files.old) (W.told wire.old) (C.readings clock.old)) (O.written out.old)
         (O.written out.new) result }
+    // Where every read gives all that it is asked for, and the demo is another file than the profile and the index, no more of it is asked for
+    // than the records have that are played, from the last 256th at or below on.
+    ensures cheap { IsTrue F.reads_whole → CommandAsksFromCheckpoint (command_of (map string_bytes words.now))
+        (F.told files.old) (F.told files.new) }
 
     // When each status comes: it is that of the verdict, or 1, 3, 4 or 9 by something from outside.
     ensures statuses { result ≤ 11 }
@@ -126,6 +130,8 @@ fn execute<F: Files, W: Wire, C: Clock, O: Sink>(
     ensures sought { CommandEndsWithPlayedState (command_of (map string_bytes words.now))
         (outside (F.told files.old) (W.told wire.old) (C.readings clock.old)) (O.written out.old)
         (O.written out.new) result }
+    ensures cheap { IsTrue F.reads_whole → CommandAsksFromCheckpoint (command_of (map string_bytes words.now))
+        (F.told files.old) (F.told files.new) }
     ensures gives { LeavesFiles (IsVerdict (outside (F.told files.old) (W.told wire.old) (C.readings clock.old))
         (command_of (map string_bytes words.now))) (F.told files.old) (F.told files.new) result }
     ensures file_cause { FileCause (F.write_faults files.old) (F.write_faults files.new) result }

@@ -1,7 +1,9 @@
-use Rattle.std.proofs.Common.{inr}
+use Rattle.std.proofs.Common.{Ok, Err, inr}
 use Rattle.std.proofs.lemmas.Result.{err_from_is_err_and}
 use Rattle.q3_runs.proofs.Sought.{seek_unprofiled, seek_ended, seek_unopened, seek_refused, seek_printed, seek_gives_profile, seek_gives_demo, seek_gives_index, seek_gives_all, asks_then}
 use Rattle.q3_runs.proofs.SoughtPlays.{plays_unopened, plays_refused, plays_printed}
+use Rattle.q3_runs.specs.Input.{as_told}
+use Rattle.q3_runs.proofs.SoughtCheap.{cheap_unloaded, cheap_unfound, cheap_unlisted, cheap_unopened, cheap_sought}
 use Rattle.q3_runs.proofs.demos.seek.Goals as goal
 
 pub returns-in_err-profile-clause-executes : goal.returns-in_err-profile-clause-executes
@@ -112,3 +114,63 @@ returns-clause-sought g c =
       looks = c.in_ok-demo.ensures.looks;
       next = c.in_ok-index.ensures.looks;
     }) c.in_ok-opened.ensures.opens c.in_ok-opened.ensures.asks c.in_ok-state.ensures.seeks c.print_left.ensures.prints
+
+pub returns-in_err-profile-clause-cheap : goal.returns-in_err-profile-clause-cheap
+returns-in_err-profile-clause-cheap g c = λ reads. cheap_unloaded (g.F.Files.told c.args.files.now) (g.F.Files.told c.load_profile.new.files) c.args.profile.now c.args.demo.now c.args.index.now c.args.records c.in_err-profile.ensures.asks
+
+pub returns-in_err-demo-clause-cheap : goal.returns-in_err-demo-clause-cheap
+returns-in_err-demo-clause-cheap g c =
+    λ reads. cheap_unfound (g.F.Files.told c.args.files.now) (g.F.Files.told c.load_profile.new.files) (g.F.Files.told c.find_file.new.files) c.args.profile.now c.args.demo.now c.args.index.now c.args.records (as_told (Err c.in_err-demo.field-0.0)) c.in_ok-profile.ensures.asks c.in_err-demo.ensures.looks
+
+pub returns-in_err-index-clause-cheap : goal.returns-in_err-index-clause-cheap
+returns-in_err-index-clause-cheap g c =
+    λ reads. cheap_unlisted (g.F.Files.told c.args.files.now) (g.F.Files.told c.load_profile.new.files) (g.F.Files.told c.find_file.new.files) (g.F.Files.told c.find_file-2.new.files) c.args.profile.now c.args.demo.now c.args.index.now c.args.records (Ok c.in_ok-demo.demo) (as_told (Err c.in_err-index.field-0.0))
+    c.in_ok-profile.ensures.asks c.in_ok-demo.ensures.looks c.in_err-index.ensures.looks
+
+pub returns-in_err-opened-clause-cheap : goal.returns-in_err-opened-clause-cheap
+returns-in_err-opened-clause-cheap g c =
+    λ reads. cheap_unopened (g.F.Files.told c.args.files.now) (g.F.Files.told c.load_profile.new.files) (g.F.Files.told c.find_file.new.files) (g.F.Files.told c.find_file-2.new.files) (g.F.Files.told c.open_index.new.files) c.args.profile.now c.args.demo.now c.args.index.now c.in_ok-demo.demo c.in_ok-index.index c.args.records c.in_ok-profile.profile
+    (record {
+      opening = c.index_opens.ensures;
+      seeking = c.seeking_is_playing.ensures;
+      passes = c.in_ok-profile.ensures.gets;
+      is_profile = c.in_ok-profile.ensures.passes;
+      codec = c.codec_stands.ensures.codec;
+      mark = c.codec_stands.ensures.mark;
+      gives = c.in_ok-profile.ensures.gives;
+      looks = c.in_ok-demo.ensures.looks;
+      next = c.in_ok-index.ensures.looks;
+    })
+    c.in_ok-profile.ensures.asks c.open_index.ensures.asks c.open_index.ensures.only
+
+pub returns-in_err-state-clause-cheap : goal.returns-in_err-state-clause-cheap
+returns-in_err-state-clause-cheap g c =
+    cheap_sought g.F.Files.reads_whole (g.F.Files.told c.args.files.now) (g.F.Files.told c.load_profile.new.files) (g.F.Files.told c.find_file.new.files) (g.F.Files.told c.find_file-2.new.files) (g.F.Files.told c.open_index.new.files) (g.F.Files.told c.seek.new.files) c.args.profile.now c.args.demo.now c.args.index.now c.in_ok-demo.demo c.in_ok-index.index c.args.records c.in_ok-profile.profile c.in_ok-opened.opened
+    (record {
+      opening = c.index_opens.ensures;
+      seeking = c.seeking_is_playing.ensures;
+      passes = c.in_ok-profile.ensures.gets;
+      is_profile = c.in_ok-profile.ensures.passes;
+      codec = c.codec_stands.ensures.codec;
+      mark = c.codec_stands.ensures.mark;
+      gives = c.in_ok-profile.ensures.gives;
+      looks = c.in_ok-demo.ensures.looks;
+      next = c.in_ok-index.ensures.looks;
+    })
+    c.in_ok-profile.ensures.asks c.in_ok-opened.ensures.opens c.in_ok-opened.ensures.asks c.in_ok-opened.ensures.only c.seek.ensures.asks c.seek.ensures.only c.seek.ensures.cheap
+
+pub returns-clause-cheap : goal.returns-clause-cheap
+returns-clause-cheap g c =
+    cheap_sought g.F.Files.reads_whole (g.F.Files.told c.args.files.now) (g.F.Files.told c.load_profile.new.files) (g.F.Files.told c.find_file.new.files) (g.F.Files.told c.find_file-2.new.files) (g.F.Files.told c.open_index.new.files) (g.F.Files.told c.seek.new.files) c.args.profile.now c.args.demo.now c.args.index.now c.in_ok-demo.demo c.in_ok-index.index c.args.records c.in_ok-profile.profile c.in_ok-opened.opened
+    (record {
+      opening = c.index_opens.ensures;
+      seeking = c.seeking_is_playing.ensures;
+      passes = c.in_ok-profile.ensures.gets;
+      is_profile = c.in_ok-profile.ensures.passes;
+      codec = c.codec_stands.ensures.codec;
+      mark = c.codec_stands.ensures.mark;
+      gives = c.in_ok-profile.ensures.gives;
+      looks = c.in_ok-demo.ensures.looks;
+      next = c.in_ok-index.ensures.looks;
+    })
+    c.in_ok-profile.ensures.asks c.in_ok-opened.ensures.opens c.in_ok-opened.ensures.asks c.in_ok-opened.ensures.only c.seek.ensures.asks c.seek.ensures.only c.seek.ensures.cheap

@@ -1,9 +1,9 @@
-use Rattle.std.proofs.Common.{◌≡◌, ◌≤◌, Ok, Err, ap, arith}
+use Rattle.std.proofs.Common.{◌≡◌, ◌≤◌, Ok, Err, refl, ap, arith}
 use Rattle.std.proofs.lemmas.Result.{err_from_is_err_and}
 use Rattle.q3_io.specs.Told.{contents_at}
 use Rattle.q3_index.specs.Running.{IndexState}
 use Rattle.q3_index.specs.declared.error.SeekError.TheVariants.{PastEnd}
-use Rattle.q3_index.proofs.Asking.{asks_same}
+use Rattle.q3_index.proofs.Asking.{asks_same, two_asked}
 use Rattle.q3_index.proofs.Seeking.{past_end, starts_wrong, plays_wrong, plays_all}
 use Rattle.q3_index.proofs.Costing.{past_costs, start_costs, play_costs, made_is_cheap, made_plays}
 use Rattle.q3_index.proofs.index.Index.seek.Goals as goal
@@ -97,3 +97,17 @@ returns-clause-cost g c =
 pub returns-clause-cheap : goal.returns-clause-cheap
 returns-clause-cheap g c =
     made_is_cheap c.seeking_goes_on.ensures g.F.Files.reads_whole c.args.profile.now c.args.self.now c.args.number (g.F.Files.told c.args.files.now) (g.F.Files.told c.go_on.new.files) (returns-clause-cost g c)
+
+pub returns-then-number-self-clause-only : goal.returns-then-number-self-clause-only
+returns-then-number-self-clause-only g c = λ other apart away. refl
+
+pub returns-in_err-player-clause-only : goal.returns-in_err-player-clause-only
+returns-in_err-player-clause-only g c = λ other apart away. c.in_err-player.ensures.only other away
+
+pub returns-in_err-go_on-clause-only : goal.returns-in_err-go_on-clause-only
+returns-in_err-go_on-clause-only g c =
+    two_asked c.args.self.now.demo c.args.self.now.index c.self.inside.demo (g.F.Files.told c.args.files.now) (g.F.Files.told c.start.new.files) (g.F.Files.told c.go_on.new.files) (ap (λ (s : IndexState). s.demo) c.self.view_is) c.in_ok-player.ensures.only c.in_err-go_on.ensures.only
+
+pub returns-clause-only : goal.returns-clause-only
+returns-clause-only g c =
+    two_asked c.args.self.now.demo c.args.self.now.index c.self.inside.demo (g.F.Files.told c.args.files.now) (g.F.Files.told c.start.new.files) (g.F.Files.told c.go_on.new.files) (ap (λ (s : IndexState). s.demo) c.self.view_is) c.in_ok-player.ensures.only c.in_ok-go_on.ensures.only
