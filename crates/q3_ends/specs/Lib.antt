@@ -1,3 +1,4 @@
 pub mod AtServer
 pub mod AtClient
 pub mod Recording
+pub mod ClientLine

@@ -1,5 +1,5 @@
 -- What a client does at a line of its script, and at an arrival.
-use Rattle.std.specs.Prelude.{ℕ, ◌==◌, ◌&&◌, if◌then◌else◌, Bool, true, false, List, [], ◌∷◌, Option, Some, None, Ok}
+use Rattle.std.specs.Prelude.{ℕ, ◌==◌, ◌&&◌, if◌then◌else◌, Bool, false, List, [], ◌∷◌, Option, Some, None, is_some, Ok}
 use Rattle.q3_io.specs.declared.address.Address.{Address}
 use Rattle.q3_io.specs.Traffic.{Parcel}
 use Rattle.q3_profile.specs.declared.profile.Profile.{Profile}
@@ -10,9 +10,10 @@ use Rattle.q3_client.specs.Sending.{emit_at}
 use Rattle.q3_report.specs.declared.answer.HandedIn.TheVariants as handed
 use Rattle.q3_report.specs.declared.answer.Front.TheVariants.{Arrive}
 use Rattle.q3_report.specs.declared.answer.TakeRefused.TheVariants.{Stranger}
-use Rattle.q3_report.specs.Answers.{Given, SentOut, Untaken, Shown}
-use Rattle.q3_ends.specs.AtClient.{ClientStep, type_text, add_move, showing, taken_by_client}
-use Rattle.q3_ends.specs.Recording.{RecordingState, asking, new_recording, begin_at, stop_at, note_taken}
+use Rattle.q3_report.specs.Answers.{Given, SentOut, Untaken}
+use Rattle.q3_ends.specs.AtClient.{taken_by_client}
+use Rattle.q3_ends.specs.ClientLine.{ClientDone, client_line, fresh_of, client_after, recording_after, answer_in, acts_in}
+use Rattle.q3_ends.specs.Recording.{RecordingState, asking, stop_at, note_taken}
 use Rattle.q3_node.specs.Node.{LineDone, Arrived, Rules, answers, parcel_to}
 
 -- a client, its number in its script, the address of its server, and its recording, if one goes on
@@ -31,10 +32,6 @@ abbrev pub client_of : Profile → Address → List Event → Option ClientEnd
 client_of profile server (events.Client c challenge qport dup address ∷ others) = Some (new_end c (new_client profile challenge qport dup) server)
 client_of profile server other = None
 
--- a command or a move is issued
-abbrev pub issued : ClientEnd → ClientStep → LineDone ClientEnd
-issued end step = answers (record end { client = step.client }) (Some (Given step.answer))
-
 -- a datagram is made, and sent to the server; it asks for whole snapshots exactly while a recording waits
 abbrev pub send : ClientEnd → ℕ → ℕ → LineDone ClientEnd
 send end c number =
@@ -47,35 +44,29 @@ send end c number =
       memory = false;
     }
 
--- a recording begins, into the file of a name; memory is wanted also where it is refused
-abbrev pub record_to : ClientEnd → ℕ → List ℕ → LineDone ClientEnd
-record_to end c name =
-    let begun = begin_at end.client end.recording (new_recording name) in
-    record { end = record end { recording = begun.recording }; answer = Some (Given (handed.Record c begun.answer)); sends = None; acts = begun.acts; memory = true }
+-- a line of the client's own: memory is wanted where a recording would begin, also where it is refused
+abbrev pub own_done : ClientEnd → Event → Option ClientDone → LineDone ClientEnd
+own_done end event line =
+    record {
+      end = record end { client = client_after end.client line; recording = recording_after end.recording line };
+      answer = answer_in line;
+      sends = None;
+      acts = acts_in line;
+      memory = is_some (fresh_of event);
+    }
 
--- it has its end
-abbrev pub stop : ClientEnd → ℕ → LineDone ClientEnd
-stop end c =
-    let stopped = stop_at end.recording in
-    record { end = record end { recording = stopped.recording }; answer = Some (Given (handed.Stop c stopped.answer)); sends = None; acts = stopped.acts; memory = false }
-
--- and so it has with the node's own end, where one goes on
+-- the recording has its end with the node's own, where one goes on
 abbrev pub finish : ClientEnd → LineDone ClientEnd
 finish end =
     let stopped = stop_at end.recording in
     record { end = record end { recording = stopped.recording }; answer = None; sends = None; acts = stopped.acts; memory = false }
 
--- a line of a client's script; any other does nothing
+-- a line of a client's script; one that isn't the client's own does nothing
 abbrev pub line_done : ClientEnd → Event → ℕ → LineDone ClientEnd
 line_done end (events.Client c challenge qport dup address) number = answers end (Some (Given (handed.Client c (Ok tt))))
-line_done end (events.TypeText c text) number = issued end (type_text end.client c text)
-line_done end (events.Move c one) number = issued end (add_move end.client c one)
 line_done end (events.Send c) number = send end c number
-line_done end (events.RecordTo c name) number = record_to end c name
-line_done end (events.Stop c) number = stop end c
-line_done end (events.Show c) number = answers end (Some (Shown c (showing end.client)))
 line_done end (events.End ms) number = finish end
-line_done end other number = answers end None
+line_done end event number = own_done end event (client_line end.client end.recording event)
 
 abbrev pub is_address : Address → Address → Bool
 is_address one other = (one.host == other.host) && (one.port == other.port)

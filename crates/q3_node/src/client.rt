@@ -1,11 +1,12 @@
 //! A client at its end of a wire.
 
-ghost use Rattle.std.specs.Prelude.{◌≡◌, IfOk};
+ghost use Rattle.std.specs.Prelude.{◌≡◌, IfOk, IsSome};
 ghost use Rattle.q3_profile.specs.Profile.{IsProfile};
 ghost use Rattle.q3_client.specs.Client.{new_client};
+ghost use Rattle.q3_ends.specs.ClientLine.{client_line, client_named};
 ghost use Rattle.q3_ends.specs.Recording.{HasFile};
 ghost use Rattle.q3_node.specs.Running.{effects, DoesLine, WireCause, WriteCause, FileCause};
-ghost use Rattle.q3_node.specs.AtClient.{client_rules, client_of, new_end, send, record_to, stop, finish, is_address};
+ghost use Rattle.q3_node.specs.AtClient.{client_rules, client_of, new_end, send, own_done, finish, is_address};
 
 use crate::end::{End, hand_over, tell, tell_line};
 use crate::error::NodeError;
@@ -13,14 +14,13 @@ use q3_bits::NoMemory;
 use q3_chan::Datagram;
 use q3_client::Client;
 use q3_clstate::Log;
-use q3_ends::client::{add_move, show, type_text};
+use q3_ends::client::{client_line, client_named, fresh_for, line_answer};
 use q3_ends::recording::{self, Recording};
 use q3_io::{Address, Failed, Files, Sink, Wire};
 use q3_profile::Profile;
 use q3_report::{Answer, Front, HandedIn, TakeRefused, Taker};
 use q3_script::Event;
 use q3_text::Commands;
-use q3_words::Name;
 use std::alloc::Global;
 use std::marker::Model;
 
@@ -143,18 +143,19 @@ impl ClientEnd {
         hand_over(Some(self.server), &made, &answer, wire, out)
     }
 
-    /// Begins a recording into a file of this name.
-    fn record<F: Files, O: Sink>(
+    /// Does a line of the client's own.
+    fn own_line<F: Files, O: Sink>(
         &mut self,
         alloc: Global,
-        c: u8,
-        name: &Name,
+        event: &Event,
         file: &mut usize,
         files: &mut F,
         out: &mut O,
     ) -> Result<bool, NodeError>
+        requires line { IsSome (client_named event.now) }
         requires file { HasFile (F.told files.old) (F.given files.old) file.old self.old.recording }
-        ensures does { (wire : Option Traffic) → DoesLine (record_to self.old c name.now) self.new
+        ensures does { (wire : Option Traffic)
+            → DoesLine (own_done self.old event.now (client_line self.old.client self.old.recording event.now)) self.new
             (effects (O.written out.old) wire (F.told files.old))
             (effects (O.written out.new) wire (F.told files.new)) result }
         ensures file { OnOk result (HasFile (F.told files.new) (F.given files.new) file.new self.new.recording) }
@@ -164,37 +165,18 @@ impl ClientEnd {
         ensures file_cause { FileCause (F.write_faults files.old) (F.write_faults files.new) result }
         ensures reads { F.faults files.new ≡ F.faults files.old }
     {
-        let fresh = Recording::new(alloc, name)?;
-        let Ok(outcome) = recording::begin(&self.client, &mut self.recording, fresh, file, files)
-        else {
+        let fresh = fresh_for(alloc, event)?;
+        let Ok(answer) = client_line(
+            &mut self.client,
+            &mut self.recording,
+            event,
+            fresh,
+            file,
+            files,
+        ) else {
             return Err(NodeError::FileFault);
         };
-        tell_line(&Answer::HandedIn(HandedIn::Record { c, outcome }), out)
-    }
-
-    /// Ends the recording.
-    fn stop<F: Files, O: Sink>(
-        &mut self,
-        c: u8,
-        file: usize,
-        files: &mut F,
-        out: &mut O,
-    ) -> Result<bool, NodeError>
-        requires file { HasFile (F.told files.old) (F.given files.old) file self.old.recording }
-        ensures does { (wire : Option Traffic) → DoesLine (stop self.old c) self.new
-            (effects (O.written out.old) wire (F.told files.old))
-            (effects (O.written out.new) wire (F.told files.new)) result }
-        ensures none { self.new.recording ≡ None }
-        ensures flushed { OnOk result (NothingWaits (O.written out.new)) }
-        ensures wire_cause { (faults : ℕ) → WireCause faults faults result }
-        ensures write_cause { WriteCause (O.faults out.old) (O.faults out.new) result }
-        ensures file_cause { FileCause (F.write_faults files.old) (F.write_faults files.new) result }
-        ensures reads { F.faults files.new ≡ F.faults files.old }
-    {
-        let Ok(outcome) = recording::stop(&mut self.recording, file, files) else {
-            return Err(NodeError::FileFault);
-        };
-        tell_line(&Answer::HandedIn(HandedIn::Stop { c, outcome }), out)
+        tell_line(&line_answer(&self.client, answer), out)
     }
 
     /// Ends the recording, if one goes on, with the node's own end.
@@ -232,26 +214,17 @@ impl End for ClientEnd {
     ) -> Result<bool, NodeError> {
         match event {
             Event::Send { c } => self.send(*c, number, wire, out),
-            Event::RecordTo { c, name } => self.record(alloc, *c, &name.name(), file, files, out),
-            Event::Stop { c } => self.stop(*c, *file, files, out),
             Event::End { .. } => self.finish(*file, files),
-            Event::Show { c } => {
-                let shown = show(&self.client);
-                tell_line(&Answer::Show { c: *c, shown }, out)
-            }
             Event::Client { c, .. } => {
                 let outcome = Ok(());
                 tell_line(&Answer::HandedIn(HandedIn::Client { c: *c, outcome }), out)
             }
-            Event::TypeText { c, text } => {
-                let handed = type_text(&mut self.client, *c, &text.text());
-                tell_line(&Answer::HandedIn(handed), out)
+            _ => {
+                if client_named(event).is_none() {
+                    return Ok(false);
+                }
+                self.own_line(alloc, event, file, files, out)
             }
-            Event::Move { c, one } => {
-                let handed = add_move(&mut self.client, *c, one);
-                tell_line(&Answer::HandedIn(handed), out)
-            }
-            _ => Ok(false),
         }
     }
 

@@ -17,18 +17,13 @@ use Rattle.q3_client.specs.Moves.{add_move_at}
 use Rattle.q3_client.specs.Sending as speaks
 use Rattle.q3_report.specs.declared.answer.Front.{Front}
 use Rattle.q3_report.specs.declared.answer.Front.TheVariants as fronts
-use Rattle.q3_report.specs.declared.answer.HandedIn.{HandedIn}
-use Rattle.q3_report.specs.declared.answer.HandedIn.TheVariants as handed
-use Rattle.q3_report.specs.declared.answer.MoveRefused.TheVariants as refused
-use Rattle.q3_report.specs.declared.answer.TypeRefused.TheVariants as untyped
-use Rattle.q3_ends.specs.AtClient as at_client
-use Rattle.q3_ends.specs.AtClient.{ClientStep}
 use Rattle.q3_ends.specs.AtServer.{server_line}
-use Rattle.q3_ends.specs.Recording.{asking, begin_at, new_recording, note_taken, stop_at, waits_in}
+use Rattle.q3_ends.specs.Recording.{RecordingState, asking, note_taken, waits_in}
 use Rattle.q3_world.specs.declared.made.Direction.{Direction}
 use Rattle.q3_world.specs.declared.made.Direction.TheVariants.{ToClient, ToServer}
 use Rattle.q3_world.specs.declared.places.Place.{Place}
-use Rattle.q3_world.specs.Ends.{Ends, client_takes, hand_server_of, joined, line_of, Line, Sends, place_at, record_of, set_port_of, stop_of, to_client, with_place}
+use Rattle.q3_world.specs.Ends.{Ends, client_takes, hand_server_of, joined, line_of, Line, Sends, client_step_of, place_at, set_port_of, with_place}
+use Rattle.q3_ends.specs.ClientLine.{client_line, client_after, recording_after}
 use Rattle.q3_world.specs.Kept.{Kept, SentBytes, arrive_at, deliver_at, kept_line, kept_send, kept_step}
 use Rattle.q3_schedules.specs.Recorded.{bytes_for, sent_for, sent_to}
 use Rattle.q3_schedules.proofs.SlotsStay.{HaveSlots, joins, there, within}
@@ -156,19 +151,13 @@ sets_port profile by ends d port None at = nobody_changes profile by refl
 sets_port profile by ends d port (Some place) at =
     keeps_at profile by ends d place (record place { address = record place.address { port = port } }) at (same_client profile place.client)
 
-hands_line : (profile by : Profile) (ends : Ends) (d : ℕ) (nobody : HandedIn) (line : ClientState → ClientStep) → ((client : ClientState) → Keeps profile client (line client).client)
-    → (found : Option Place) → place_at ends d ≡ found → GoesOn profile by ends (to_client ends d nobody line found).ends (λ c. None)
-hands_line profile by ends d nobody line keeps None at = nobody_changes profile by refl
-hands_line profile by ends d nobody line keeps (Some place) at = keeps_at profile by ends d place (record place { client = (line place.client).client }) at (keeps place.client)
-
-records_at : (profile by : Profile) (ends : Ends) (d : ℕ) (name : List ℕ) (found : Option Place) → place_at ends d ≡ found → GoesOn profile by ends (record_of ends d name found).ends (λ c. None)
-records_at profile by ends d name None at = nobody_changes profile by refl
-records_at profile by ends d name (Some place) at =
-    keeps_at profile by ends d place (record place { recording = (begin_at place.client place.recording (new_recording name)).recording }) at (same_client profile place.client)
-
-stops_at : (profile by : Profile) (ends : Ends) (d : ℕ) (found : Option Place) → place_at ends d ≡ found → GoesOn profile by ends (stop_of ends d found).ends (λ c. None)
-stops_at profile by ends d None at = nobody_changes profile by refl
-stops_at profile by ends d (Some place) at = keeps_at profile by ends d place (record place { recording = (stop_at place.recording).recording }) at (same_client profile place.client)
+does_line : (profile by : Profile) (ends : Ends) (d : ℕ) (event : Event)
+    → ((client : ClientState) (recording : Option RecordingState) → Keeps profile client (client_after client (client_line client recording event)))
+    → (found : Option Place) → place_at ends d ≡ found → GoesOn profile by ends (client_step_of ends d event found).ends (λ c. None)
+does_line profile by ends d event keeps None at = nobody_changes profile by refl
+does_line profile by ends d event keeps (Some place) at =
+    let line = client_line place.client place.recording event in
+    keeps_at profile by ends d place (record place { client = client_after place.client line; recording = recording_after place.recording line }) at (keeps place.client place.recording)
 
 sends_at : (profile by : Profile) → ClientLaws profile → (kept : Kept) (d : ℕ) (found : Option Place) → place_at kept.ends d ≡ found
     → GoesOn profile by kept.ends (kept_send kept d found).kept.ends (λ c. None)
@@ -217,13 +206,17 @@ goes_on profile laws kept have (events.Client d challenge qport dup address) =
     (record { challenge = challenge; qport = qport; dup = dup; is = refl }) facts.free have
 goes_on profile laws kept have (events.Port d port) = sets_port profile kept.profile kept.ends d port (place_at kept.ends d) refl
 goes_on profile laws kept have (events.TypeText d text) =
-    hands_line profile kept.profile kept.ends d (handed.TypeText d (Err untyped.NoClient)) (λ client. at_client.type_text client d text) (λ client. laws.types client text) (place_at kept.ends d) refl
+    does_line profile kept.profile kept.ends d (events.TypeText d text) (λ client recording. laws.types client text) (place_at kept.ends d) refl
 goes_on profile laws kept have (events.Move d one) =
-    hands_line profile kept.profile kept.ends d (handed.Move d (Err refused.NoClient)) (λ client. at_client.add_move client d one) (λ client. laws.moves client one) (place_at kept.ends d) refl
+    does_line profile kept.profile kept.ends d (events.Move d one) (λ client recording. laws.moves client one) (place_at kept.ends d) refl
 goes_on profile laws kept have (events.Send d) = sends_at profile kept.profile laws kept d (place_at kept.ends d) refl
 goes_on profile laws kept have (events.Deliver number) = delivers_at profile kept.profile kept.ends number (slice_get kept.datagrams (number - 1))
-goes_on profile laws kept have (events.RecordTo d name) = records_at profile kept.profile kept.ends d name (place_at kept.ends d) refl
-goes_on profile laws kept have (events.Stop d) = stops_at profile kept.profile kept.ends d (place_at kept.ends d) refl
+goes_on profile laws kept have (events.RecordTo d name) =
+    does_line profile kept.profile kept.ends d (events.RecordTo d name) (λ client recording. same_client profile client) (place_at kept.ends d) refl
+goes_on profile laws kept have (events.Stop d) =
+    does_line profile kept.profile kept.ends d (events.Stop d) (λ client recording. same_client profile client) (place_at kept.ends d) refl
+goes_on profile laws kept have (events.Show d) =
+    does_line profile kept.profile kept.ends d (events.Show d) (λ client recording. same_client profile client) (place_at kept.ends d) refl
 goes_on profile laws kept have (events.Toclient d bytes) = takes_there profile kept.profile kept.ends d (fronts.Toclient d) bytes (place_at kept.ends d) refl
 goes_on profile laws kept have (events.Toserver d bytes) = hands_server profile kept.profile kept.ends d bytes (place_at kept.ends d)
 goes_on profile laws kept have event = nobody_changes profile kept.profile refl

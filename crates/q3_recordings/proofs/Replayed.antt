@@ -17,7 +17,7 @@ use Rattle.q3_report.specs.Answers.{Answered, Given}
 use Rattle.q3_demo.specs.Recording.{Noted}
 use Rattle.q3_ends.specs.Recording.{new_recording}
 use Rattle.q3_world.specs.declared.places.Place.{Place}
-use Rattle.q3_world.specs.Ends.{Ends, line_of, place_at, record_of}
+use Rattle.q3_world.specs.Ends.{Ends, client_step_of, line_of, place_at}
 use Rattle.q3_world.specs.Kept.{Kept, kept_after, kept_step, opening_kept}
 use Rattle.q3_world.specs.ByTags.{kept_then}
 use Rattle.q3_world.specs.StandsFor.{IsChecked}
@@ -102,7 +102,7 @@ pub record Records (ends : Ends) (c : ℕ) : Type 0 where
   pub at : place_at ends c ≡ Some place
   pub game : place.client.state.has_game ≡ true
 
-pub records_at : (ends : Ends) (c : ℕ) (name : List ℕ) (found : Option Place) → place_at ends c ≡ found → (record_of ends c name found).answer ≡ Given (handed.Record c (Ok tt)) → Records ends c
+pub records_at : (ends : Ends) (c : ℕ) (name : List ℕ) (found : Option Place) → place_at ends c ≡ found → (client_step_of ends c (events.RecordTo c name) found).answer ≡ Given (handed.Record c (Ok tt)) → Records ends c
 records_at ends c name None at is = absurd (refuses (Err unrecorded.NoClient) unrecorded.NoClient refl (ap result_of is))
 records_at ends c name (Some place) at is = record { place = place; at = at; game = begins_with_game place.client place.recording (new_recording name) (ap result_of is) }
 

@@ -22,9 +22,9 @@ use Rattle.q3_report.specs.declared.answer.RecordRefused.{RecordRefused}
 use Rattle.q3_report.specs.declared.answer.RecordRefused.TheVariants.{NoGame}
 use Rattle.q3_report.specs.declared.answer.TakeRefused.TheVariants.{Stranger}
 use Rattle.q3_world.specs.declared.places.Place.{Place}
-use Rattle.q3_world.specs.Ends.{Ends, line_of, place_at, record_of, recording_at, with_place}
+use Rattle.q3_world.specs.Ends.{Ends, client_step_of, line_of, place_at, recording_at, with_place}
 use Rattle.q3_world.specs.Kept.{Kept, kept_step, opening_kept}
-use Rattle.q3_world.specs.Files.{acts_from, acts_of as event_acts, begin_acts, ending_acts, line_acts, stop_acts, take_acts}
+use Rattle.q3_world.specs.Files.{acts_from, acts_of as event_acts, place_acts, ending_acts, line_acts, stop_acts, take_acts}
 use Rattle.q3_node.specs.AtClient.{ClientEnd, arrived, client_rules, is_address, line_done, took}
 use Rattle.q3_node.specs.Node.{Arrived, Node, Turn, acts_of, arrivals_after, cut_to_room, new_node, start_at, turn_at, turn_of, turns_of}
 use Rattle.q3_schedules.specs.Recorded.{MakesOther}
@@ -69,15 +69,19 @@ stop_never : (name : List ℕ) (found : Option Place) → NeverMade name (stop_a
 stop_never name None = tt
 stop_never name (Some place) = stopped_never name place.recording
 
-begin_never : (name n : List ℕ) (found : Option Place) → n ≢ name → NeverMade name (begin_acts found n)
-begin_never name n None other = tt
-begin_never name n (Some place) other = begun_never name n place.client place.recording other
+line_stop_never : (name : List ℕ) (c : ℕ) (found : Option Place) → NeverMade name (place_acts found (events.Stop c))
+line_stop_never name c None = tt
+line_stop_never name c (Some place) = stopped_never name place.recording
+
+begin_never : (name n : List ℕ) (c : ℕ) (found : Option Place) → n ≢ name → NeverMade name (place_acts found (events.RecordTo c n))
+begin_never name n c None other = tt
+begin_never name n c (Some place) other = begun_never name n place.client place.recording other
 
 event_never : (name : List ℕ) (kept : Kept) → HaveSlots kept.ends → (event : Event) → MakesOther name event → NeverMade name (event_acts kept event)
 unfolding event_acts line_acts
 event_never name kept have =
     by_kind (λ (event : Event). MakesOther name event → NeverMade name (event_acts kept event)) kept have
-    (λ c other. stop_never name (place_at kept.ends c)) (λ c n other. begin_never name n (place_at kept.ends c) other) (λ event not happens other. happened (event_acts kept event) happens)
+    (λ c other. line_stop_never name c (place_at kept.ends c)) (λ c n other. begin_never name n c (place_at kept.ends c) other) (λ event not happens other. happened (event_acts kept event) happens)
   where
     happened : {took : ℕ → Option (List ℕ)} {new : Ends} (acts : List FileAct) → Happens kept.ends new acts took → NeverMade name acts
     happened acts (inl takes) = subst (NeverMade name) (sym takes.does) (take_never name (place_at kept.ends takes.client) takes.bytes)
@@ -111,7 +115,7 @@ line_names name event = inl tt
 
 -- one that names it makes it, or does nothing
 begin_makes : (name : List ℕ) (c : ℕ) (ends : Ends) (found : Option Place) → place_at ends c ≡ found → Gone name ends
-    → (begin_acts found name ≡ Makes name ∷ []) ⊎ (Gone name (record_of ends c name found).ends × (begin_acts found name ≡ []))
+    → (place_acts found (events.RecordTo c name) ≡ Makes name ∷ []) ⊎ (Gone name (client_step_of ends c (events.RecordTo c name) found).ends × (place_acts found (events.RecordTo c name) ≡ []))
 begin_makes name c ends None at gone = inr (gone, refl)
 begin_makes name c ends (Some place) at gone = elim (cases_Bool (is_ok (begin_at place.client place.recording (new_recording name)).answer)) [
   | inl ok ↦ inl (begins_new name place.client place.recording ok).1

@@ -63,18 +63,16 @@ use Rattle.q3_client.specs.declared.client.ClientTook.{ClientTook}
 use Rattle.q3_report.specs.declared.answer.HandedIn.{HandedIn}
 use Rattle.q3_report.specs.declared.answer.HandedIn.TheVariants as handed
 use Rattle.q3_report.specs.declared.answer.BaselineRefused.TheVariants as unset
-use Rattle.q3_report.specs.declared.answer.MoveRefused.TheVariants as unmoving
-use Rattle.q3_report.specs.declared.answer.TypeRefused.TheVariants as untyped
 use Rattle.q3_report.specs.declared.answer.Front.TheVariants as fronts
 use Rattle.q3_report.specs.declared.answer.TakeRefused.{TakeRefused}
 use Rattle.q3_report.specs.Answers.{ByClient, ByServer, Given, Took, Untaken}
 use Rattle.q3_ends.specs.AtServer as at_server
 use Rattle.q3_ends.specs.AtServer.{ServerStep, in_range, ran_of, server_line}
 use Rattle.q3_world.proofs.Ranged.{in_range_or}
-use Rattle.q3_ends.specs.AtClient.{add_move, moved, type_text, typed}
+use Rattle.q3_ends.specs.AtClient.{moved, typed}
 use Rattle.q3_world.specs.declared.places.Place.{Place}
 use Rattle.q3_ends.specs.Recording.{asking}
-use Rattle.q3_world.specs.Ends.{line_of, place_at, record_of, set_port_of, stop_of, to_client as line_to_client}
+use Rattle.q3_world.specs.Ends.{client_step_of, line_of, place_at, set_port_of}
 use Rattle.q3_world.specs.Kept.{KeptStep}
 use Rattle.q3_world.specs.Layers.{Layers}
 use Rattle.q3_world.specs.ByTags.{BytesFollowTags, kept_then, whole_then}
@@ -412,15 +410,10 @@ module _ (profile : Profile) (whole : Whole) (old : List Move) (time c : ℕ) (l
   ports k port None = is
   ports k port (Some place) = is
 
-  -- a client begins a recording
-  records : (k : ℕ) (name : List ℕ) (found : Option Place) → Past old time (slot_at (record_of whole.ends k name found).ends.server c) (history_at whole.histories c).run
-  records k name None = is
-  records k name (Some place) = is
-
-  -- or its recording has its end
-  stops : (k : ℕ) (found : Option Place) → Past old time (slot_at (stop_of whole.ends k found).ends.server c) (history_at whole.histories c).run
-  stops k None = is
-  stops k (Some place) = is
+  -- a line of a client's own of which nothing is noted
+  owns : (k : ℕ) (event : Event) (found : Option Place) → Past old time (slot_at (client_step_of whole.ends k event found).ends.server c) (history_at whole.histories c).run
+  owns k event None = is
+  owns k event (Some place) = is
 
   -- a new map
   maps : (id feed : ℕ) → Past old time (slot_at (new_map_at whole.ends.server id feed).server c) (history_at whole.histories c).run
@@ -475,7 +468,7 @@ module _ (profile : Profile) (whole : Whole) (old : List Move) (time c : ℕ) (l
 
   -- one of a client
   types : (k : ℕ) (text : List ℕ) (found : Option Place)
-      → At old time c (noting whole k (line_to_client whole.ends k (handed.TypeText k (Err untyped.NoClient)) (λ client. type_text client k text) found) (with_typed (history_at whole.histories k) text))
+      → At old time c (noting whole k (client_step_of whole.ends k (events.TypeText k text) found) (with_typed (history_at whole.histories k) text))
   types k text None = unnoted k
   types k text (Some place) =
       let answer = (type_at place.client text).answer in
@@ -483,7 +476,7 @@ module _ (profile : Profile) (whole : Whole) (old : List Move) (time c : ℕ) (l
 
   -- a move that is issued
   moves : (k : ℕ) (one : Move) (found : Option Place)
-      → At old time c (noting whole k (line_to_client whole.ends k (handed.Move k (Err unmoving.NoClient)) (λ client. add_move client k one) found) (with_issued (history_at whole.histories k) one))
+      → At old time c (noting whole k (client_step_of whole.ends k (events.Move k one) found) (with_issued (history_at whole.histories k) one))
   moves k one None = unnoted k
   moves k one (Some place) =
       let answer = (add_move_at place.client one).answer in
@@ -566,8 +559,9 @@ module _ (profile : Profile) (whole : Whole) (old : List Move) (time c : ℕ) (l
   past_on (events.Send k) own = sends k (place_at whole.ends k)
   past_on (events.Deliver number) own =
       subst (λ (b : Bool). At old time c (deliver_as b profile whole number (slice_get whole.sent (number - 1))).whole) (sym holds.own) (delivers number (slice_get whole.sent (number - 1)) refl)
-  past_on (events.RecordTo k name) own = records k name (place_at whole.ends k)
-  past_on (events.Stop k) own = stops k (place_at whole.ends k)
+  past_on (events.RecordTo k name) own = owns k (events.RecordTo k name) (place_at whole.ends k)
+  past_on (events.Stop k) own = owns k (events.Stop k) (place_at whole.ends k)
+  past_on (events.Show k) own = owns k (events.Show k) (place_at whole.ends k)
   past_on (events.Toclient k bytes) own = absurd own
   past_on (events.Toserver k bytes) own = absurd own
   past_on event own = is

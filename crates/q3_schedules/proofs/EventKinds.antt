@@ -14,18 +14,15 @@ use Rattle.q3_server.specs.Server.{ServerState, add_client_at, slot_at}
 use Rattle.q3_client.specs.Client.{new_client}
 use Rattle.q3_report.specs.declared.answer.Front.{Front}
 use Rattle.q3_report.specs.declared.answer.Front.TheVariants as fronts
-use Rattle.q3_report.specs.declared.answer.HandedIn.TheVariants as handed
-use Rattle.q3_report.specs.declared.answer.MoveRefused.TheVariants as refused
-use Rattle.q3_report.specs.declared.answer.TypeRefused.TheVariants as untyped
-use Rattle.q3_ends.specs.AtClient as at_client
+use Rattle.q3_ends.specs.ClientLine.{client_line, recording_after, acts_in}
 use Rattle.q3_ends.specs.AtServer.{server_line}
 use Rattle.q3_world.specs.declared.made.Direction.{Direction}
 use Rattle.q3_world.specs.declared.made.Direction.TheVariants.{ToClient, ToServer}
 use Rattle.q3_world.specs.declared.places.Place.{Place}
-use Rattle.q3_world.specs.Ends.{Ends, client_takes, joined, line_of, place_at, recording_at, with_place}
+use Rattle.q3_world.specs.Ends.{Ends, client_step, client_takes, joined, line_of, place_at, recording_at, with_place}
 use Rattle.q3_world.specs.Kept.{Kept, SentBytes, arrive_at, deliver_at, kept_step}
-use Rattle.q3_world.specs.Files.{acts_of, line_acts, arrive_acts, deliver_acts, take_acts}
-use Rattle.q3_world.proofs.Filing.{SameRecordings, same_handed, same_line, same_port, same_sent}
+use Rattle.q3_world.specs.Files.{acts_of, place_acts, line_acts, arrive_acts, deliver_acts, take_acts}
+use Rattle.q3_world.proofs.Filing.{SameRecordings, quiet_client, same_client, same_handed, same_port, same_sent}
 use Rattle.q3_schedules.specs.Recorded.{bytes_for, is_stop, sent_for, sent_to}
 use Rattle.q3_schedules.proofs.SlotsStay.{HaveSlots, joins, within}
 
@@ -87,6 +84,16 @@ joins_same ends server c place (Ok x) none free have = λ d. elim (cases_eq d c)
     puts_none (Some old) at = absurd (free_slot (have c (rw at refl)))
 joins_same ends server c place (Err e) none free have = λ d. refl
 
+-- a line of a client's own that leaves its recording, and files alone
+quiet_own : (ends : Ends) (c : ℕ) (event : Event) → ((place : Place) → recording_after place.recording (client_line place.client place.recording event) ≡ place.recording)
+    → ((place : Place) → acts_in (client_line place.client place.recording event) ≡ [])
+    → Happens ends (client_step ends c event).ends (place_acts (place_at ends c) event) (λ c. None)
+quiet_own ends c event leaves spares = inr (record {
+  same = same_client ends c event (place_at ends c) refl leaves;
+  none = quiet_client event (place_at ends c) spares;
+  untaken = λ c. refl;
+})
+
 -- an event either ends a recording, or begins one, or is of one of both kinds
 pub by_kind : (P : Event → Type 0) (kept : Kept) → HaveSlots kept.ends → ((c : ℕ) → P (events.Stop c)) → ((c : ℕ) (name : List ℕ) → P (events.RecordTo c name))
     → ((event : Event) → ((c : ℕ) → is_stop c event ≡ false) → Happens kept.ends (kept_step kept event).kept.ends (acts_of kept event) (λ c. bytes_for kept event c) → P event)
@@ -98,11 +105,9 @@ by_kind P kept have stop begun on (events.Client c challenge qport dup address) 
     let place : Place = record { client = new_client kept.profile challenge qport dup; address = address; recording = None } in
     on (events.Client c challenge qport dup address) (λ d. refl) (quiet (joins_same kept.ends added.server c place added.answer refl facts.free have))
 by_kind P kept have stop begun on (events.Port c port) = on (events.Port c port) (λ d. refl) (quiet (same_port kept.ends c port (place_at kept.ends c) refl))
-by_kind P kept have stop begun on (events.TypeText c text) =
-    on (events.TypeText c text) (λ d. refl)
-    (quiet (same_line kept.ends c (handed.TypeText c (Err untyped.NoClient)) (λ client. at_client.type_text client c text) (place_at kept.ends c) refl))
-by_kind P kept have stop begun on (events.Move c one) =
-    on (events.Move c one) (λ d. refl) (quiet (same_line kept.ends c (handed.Move c (Err refused.NoClient)) (λ client. at_client.add_move client c one) (place_at kept.ends c) refl))
+by_kind P kept have stop begun on (events.TypeText c text) = on (events.TypeText c text) (λ d. refl) (quiet_own kept.ends c (events.TypeText c text) (λ place. refl) (λ place. refl))
+by_kind P kept have stop begun on (events.Move c one) = on (events.Move c one) (λ d. refl) (quiet_own kept.ends c (events.Move c one) (λ place. refl) (λ place. refl))
+by_kind P kept have stop begun on (events.Show c) = on (events.Show c) (λ d. refl) (quiet_own kept.ends c (events.Show c) (λ place. refl) (λ place. refl))
 by_kind P kept have stop begun on (events.Send c) = on (events.Send c) (λ d. refl) (quiet (same_sent kept c (place_at kept.ends c) refl))
 by_kind P kept have stop begun on (events.Deliver number) = on (events.Deliver number) (λ d. refl) (delivers kept.ends number (slice_get kept.datagrams (number - 1)))
 by_kind P kept have stop begun on (events.RecordTo c name) = begun c name

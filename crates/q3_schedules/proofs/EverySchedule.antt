@@ -44,7 +44,7 @@ use Rattle.q3_server.specs.Server.{places, slot_at}
 use Rattle.q3_client.specs.Client.{ClientState, Taken, Reception, receive_message, take_answer, take_gathered}
 use Rattle.q3_report.specs.ServerLines.{Run}
 use Rattle.q3_world.specs.declared.places.Place.{Place}
-use Rattle.q3_world.specs.Ends.{Ends, client_at, client_of, line_of, newest, place_at, showing_at, with_client}
+use Rattle.q3_world.specs.Ends.{Ends, client_at, client_of, client_step_of, line_of, newest, place_at, with_client}
 use Rattle.q3_world.specs.Kept.{SentBytes, Kept, KeptStep, kept_step}
 use Rattle.q3_world.specs.World.{Tag, Step, Whole, History, history_at, built_at, step, after, deliver, arrive, to_client, to_server, named, Played, bytes_of}
 use Rattle.q3_world.specs.StandsFor.{IsSent, WasBuilt, WasAccepted, Rise}
@@ -87,13 +87,13 @@ shown_newest : (c : ℕ) (found : Option Snapshot) → snapshot_in (Shown c (sho
 shown_newest c None = refl
 shown_newest c (Some snapshot) = refl
 
-shown_at : (c : ℕ) (found : Option Place) → snapshot_in (Shown c (showing_at found)) ≡ newest (option_map client_of found)
-shown_at c None = refl
-shown_at c (Some place) = shown_newest c (newest_of place.client)
+shown_at : (ends : Ends) (c : ℕ) (found : Option Place) → snapshot_in (client_step_of ends c (events.Show c) found).answer ≡ newest (option_map client_of found)
+shown_at ends c None = refl
+shown_at ends c (Some place) = shown_newest c (newest_of place.client)
 
 pub shows : (kept : Kept) (c : ℕ) → snapshot_in (kept_step kept (events.Show c)).answer ≡ newest (client_at kept.ends c)
 unfolding kept_step line_of
-shows kept c = shown_at c (place_at kept.ends c)
+shows kept c = shown_at kept.ends c (place_at kept.ends c)
 
 -- what a client that is there shows was built
 pub shown_was_built : BytesFollowTags → Layers → ShownWasBuilt

@@ -35,16 +35,15 @@ use Rattle.q3_window.specs.Outgoing.{issued_of}
 use Rattle.q3_window.specs.declared.outgoing.WindowFull.{WindowFull}
 use Rattle.q3_report.specs.declared.answer.HandedIn.TheVariants as answers
 use Rattle.q3_report.specs.declared.answer.BaselineRefused.TheVariants as unset
-use Rattle.q3_report.specs.declared.answer.MoveRefused.TheVariants as refused
-use Rattle.q3_report.specs.declared.answer.TypeRefused.TheVariants as untyped
 use Rattle.q3_report.specs.Answers.{Given}
 use Rattle.q3_ends.specs.AtServer as at_server
 use Rattle.q3_ends.specs.AtServer.{ran_of, server_line}
-use Rattle.q3_ends.specs.AtClient.{add_move, moved, type_text, typed}
+use Rattle.q3_ends.specs.AtClient.{moved, typed}
 use Rattle.q3_ends.specs.Recording.{asking, note_taken}
 use Rattle.q3_world.specs.declared.places.Place.{Place}
 use Rattle.q3_world.specs.Layers.{ConfigLaws}
-use Rattle.q3_world.specs.Ends.{line_of, place_at, to_client as line_to_client}
+use Rattle.q3_world.specs.Ends.{Ends, client_step_of, line_of, place_at}
+use Rattle.q3_world.proofs.OnePlace.{show_stays}
 use Rattle.q3_schedules.specs.Schedules.{SaysNoChange}
 use Rattle.q3_world.specs.StandsFor.{IsSent, IsWay, acks_said, carried_built}
 use Rattle.q3_world.specs.World.{History, Tag, Whole, arrive, deliver, deliver_as, history_at, named, no_message, said_under, send, serve, step, to_client, to_server, with_built, with_history, with_issued, with_run, with_said, with_taken, with_typed}
@@ -137,7 +136,7 @@ module _ (profile : Profile) (whole : Whole) (old : History) (c : ℕ) (lt : c <
 
   -- it issues a command
   types : (k : ℕ) (text : List ℕ) (found : Option Place) → place_at whole.ends k ≡ found
-      → At old c (noting whole k (line_to_client whole.ends k (answers.TypeText k (Err untyped.NoClient)) (λ client. type_text client k text) found) (with_typed (history_at whole.histories k) text))
+      → At old c (noting whole k (client_step_of whole.ends k (events.TypeText k text) found) (with_typed (history_at whole.histories k) text))
   types k text None at = unnoted profile whole old c lt holds is k
   types k text (Some place) at =
       let issuing = type_at place.client text in
@@ -147,7 +146,7 @@ module _ (profile : Profile) (whole : Whole) (old : History) (c : ℕ) (lt : c <
 
   -- or a move
   moves : (k : ℕ) (one : Move) (found : Option Place) → place_at whole.ends k ≡ found
-      → At old c (noting whole k (line_to_client whole.ends k (answers.Move k (Err refused.NoClient)) (λ client. add_move client k one) found) (with_issued (history_at whole.histories k) one))
+      → At old c (noting whole k (client_step_of whole.ends k (events.Move k one) found) (with_issued (history_at whole.histories k) one))
   moves k one None at = unnoted profile whole old c lt holds is k
   moves k one (Some place) at =
       let given = add_move_at place.client one in
@@ -263,6 +262,7 @@ module _ (profile : Profile) (whole : Whole) (old : History) (c : ℕ) (lt : c <
       subst (λ (b : Bool). At old c (deliver_as b profile whole number (slice_get whole.sent (number - 1))).whole) (sym holds.own) (delivers flow does_so number (slice_get whole.sent (number - 1)) refl)
   follows_on flow does_so laws (events.RecordTo k name) replay none = records profile whole old c lt holds is k name (place_at whole.ends k) refl
   follows_on flow does_so laws (events.Stop k) replay none = stops profile whole old c lt holds is k (place_at whole.ends k) refl
+  follows_on flow does_so laws (events.Show k) replay none = subst (λ (ends : Ends). At old c (record whole { ends = ends })) (sym (show_stays whole.ends k (place_at whole.ends k) refl)) is
   follows_on flow does_so laws (events.Toclient k bytes) replay none = absurd replay.1
   follows_on flow does_so laws (events.Toserver k bytes) replay none = absurd replay.1
   follows_on flow does_so laws event replay none = is

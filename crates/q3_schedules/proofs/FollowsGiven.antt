@@ -35,7 +35,8 @@ use Rattle.q3_slot.specs.declared.stage.ClientStage.TheVariants.{Active, Connect
 use Rattle.q3_report.specs.Answers.{Answered, Given}
 use Rattle.q3_world.specs.declared.places.Place.{Place}
 use Rattle.q3_ends.specs.Recording.{begin_at, new_recording, stop_at}
-use Rattle.q3_world.specs.Ends.{EndsStep, joined, place_at, record_of, set_port_of, stop_of}
+use Rattle.q3_script.specs.declared.event.Event.TheVariants as events
+use Rattle.q3_world.specs.Ends.{EndsStep, client_step_of, joined, place_at, set_port_of}
 use Rattle.q3_world.specs.Games.{Carries, HasLast, Tells}
 use Rattle.q3_world.specs.Layers.{ConfigLaws}
 use Rattle.q3_world.specs.StandsFor.{IsClient}
@@ -230,7 +231,7 @@ module _ (profile : Profile) (whole : Whole) (old : History) (c : ℕ) (lt : c <
       (λ was. same_state old map place after history refl (subst (λ (e : Option Place). Of old map e history) at was)) is
 
   -- a client begins a recording
-  pub records : (k : ℕ) (name : List ℕ) (found : Option Place) → place_at whole.ends k ≡ found → At old c (record whole { ends = (record_of whole.ends k name found).ends })
+  pub records : (k : ℕ) (name : List ℕ) (found : Option Place) → place_at whole.ends k ≡ found → At old c (record whole { ends = (client_step_of whole.ends k (events.RecordTo k name) found).ends })
   records k name None at = is
   records k name (Some place) at =
       let map = whole.ends.server.map in
@@ -240,7 +241,7 @@ module _ (profile : Profile) (whole : Whole) (old : History) (c : ℕ) (lt : c <
       (λ was. same_state old map place after history refl (subst (λ (e : Option Place). Of old map e history) at was)) is
 
   -- or its recording has its end
-  pub stops : (k : ℕ) (found : Option Place) → place_at whole.ends k ≡ found → At old c (record whole { ends = (stop_of whole.ends k found).ends })
+  pub stops : (k : ℕ) (found : Option Place) → place_at whole.ends k ≡ found → At old c (record whole { ends = (client_step_of whole.ends k (events.Stop k) found).ends })
   stops k None at = is
   stops k (Some place) at =
       let map = whole.ends.server.map in

@@ -36,12 +36,11 @@ use Rattle.q3_client.specs.Sending.{said_bits, said_bytes, next_message, next_sa
 use Rattle.q3_ends.specs.AtServer.{server_line}
 use Rattle.q3_world.specs.declared.made.Direction.{Direction}
 use Rattle.q3_world.specs.declared.made.Direction.TheVariants.{ToClient, ToServer}
-use Rattle.q3_report.specs.declared.answer.HandedIn.{HandedIn}
 use Rattle.q3_report.specs.Answers.{Answered, SentOut}
-use Rattle.q3_ends.specs.AtClient.{ClientStep}
 use Rattle.q3_world.specs.declared.places.Place.{Place}
 use Rattle.q3_ends.specs.Recording.{asking}
-use Rattle.q3_world.specs.Ends.{Ends, joined, line_of, place_at, record_of, set_port_of, stop_of, to_client as line_to_client}
+use Rattle.q3_world.specs.Ends.{Ends, client_step_of, joined, line_of, place_at, set_port_of, told_as}
+use Rattle.q3_ends.specs.ClientLine.{answer_in, client_line, unjoined}
 use Rattle.q3_world.specs.Kept.{Kept, opening_kept, kept_step, kept_answers}
 use Rattle.q3_world.specs.World.{Tag, Whole, history_at, opening, step, send, named, to_client, said_under, to_server, arrive, deliver, deliver_as}
 use Rattle.q3_world.specs.StandsFor.{IsSent, StandsFor}
@@ -70,17 +69,11 @@ legible_port : (ends : Ends) (c port : ℕ) (found : Option Place) → IsLegible
 legible_port ends c port None = tt
 legible_port ends c port (Some place) = tt
 
-legible_line : (ends : Ends) (c : ℕ) (nobody : HandedIn) (line : ClientState → ClientStep) (found : Option Place) → IsLegible (line_to_client ends c nobody line found).answer
-legible_line ends c nobody line None = tt
-legible_line ends c nobody line (Some place) = tt
-
-legible_record : (ends : Ends) (c : ℕ) (name : List ℕ) (found : Option Place) → IsLegible (record_of ends c name found).answer
-legible_record ends c name None = tt
-legible_record ends c name (Some place) = tt
-
-legible_stop : (ends : Ends) (c : ℕ) (found : Option Place) → IsLegible (stop_of ends c found).answer
-legible_stop ends c None = tt
-legible_stop ends c (Some place) = tt
+-- a line of a client's own is answered with no bytes taken
+legible_line : (ends : Ends) (c : ℕ) (event : Event) (found : Option Place) → ((place : Place) → IsLegible (told_as (answer_in (client_line place.client place.recording event))))
+    → IsLegible (told_as (unjoined event)) → IsLegible (client_step_of ends c event found).answer
+legible_line ends c event None there nobody = nobody
+legible_line ends c event (Some place) there nobody = there place
 
 -- ---- what a client sends
 
@@ -226,14 +219,15 @@ legible_step profile whole (events.Client c challenge qport dup address) cited i
     let added = add_client_at whole.ends.server c challenge qport address in
     legible_joined (record whole.ends { server = added.server }) c (record { client = new_client profile challenge qport dup; address = address; recording = None }) added.answer
 legible_step profile whole (events.Port c port) cited is holds = legible_port whole.ends c port (place_at whole.ends c)
-legible_step profile whole (events.TypeText c text) cited is holds = legible_line whole.ends c _ _ (place_at whole.ends c)
-legible_step profile whole (events.Move c one) cited is holds = legible_line whole.ends c _ _ (place_at whole.ends c)
+legible_step profile whole (events.TypeText c text) cited is holds = legible_line whole.ends c (events.TypeText c text) (place_at whole.ends c) (λ place. tt) tt
+legible_step profile whole (events.Move c one) cited is holds = legible_line whole.ends c (events.Move c one) (place_at whole.ends c) (λ place. tt) tt
 legible_step profile whole (events.Send c) cited is holds =
     legible_send whole c (place_at whole.ends c) (λ place found. (has_client profile whole c place (omega (arith, is.0)) found holds).1.joined.of_client.legible)
 legible_step profile whole (events.Deliver number) cited is holds =
     subst (λ (b : Bool). IsLegible (deliver_as b profile whole number (slice_get whole.sent (number - 1))).answer) (sym holds.own) (legible_deliver profile whole number (slice_get whole.sent (number - 1)) cited refl holds)
-legible_step profile whole (events.RecordTo c name) cited is holds = legible_record whole.ends c name (place_at whole.ends c)
-legible_step profile whole (events.Stop c) cited is holds = legible_stop whole.ends c (place_at whole.ends c)
+legible_step profile whole (events.RecordTo c name) cited is holds = legible_line whole.ends c (events.RecordTo c name) (place_at whole.ends c) (λ place. tt) tt
+legible_step profile whole (events.Stop c) cited is holds = legible_line whole.ends c (events.Stop c) (place_at whole.ends c) (λ place. tt) tt
+legible_step profile whole (events.Show c) cited is holds = legible_line whole.ends c (events.Show c) (place_at whole.ends c) (λ place. tt) tt
 legible_step profile whole (events.Toclient c bytes) cited is holds = absurd is.1
 legible_step profile whole (events.Toserver c bytes) cited is holds = absurd is.1
 legible_step profile whole event cited is holds = tt

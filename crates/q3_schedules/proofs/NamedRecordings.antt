@@ -17,8 +17,9 @@ use Rattle.q3_demo.specs.declared.recorder.Stage.TheVariants.{Waits, Runs, Ended
 use Rattle.q3_demo.specs.Recording.{Noted, closing, noted_from}
 use Rattle.q3_ends.specs.Recording.{RecordingState, RecordingStep, RecorderTook, RecordingTook, begin_at, begin_new, extends, is_ended, new_recording, note_taken, recorder_took, stop_at}
 use Rattle.q3_world.specs.declared.places.Place.{Place}
-use Rattle.q3_world.specs.Ends.{Ends, client_takes, place_at, record_of, recording_at, stop_of, with_place}
-use Rattle.q3_world.specs.Files.{begin_acts, stop_acts, take_acts}
+use Rattle.q3_script.specs.declared.event.Event.TheVariants as events
+use Rattle.q3_world.specs.Ends.{Ends, client_step_of, client_takes, place_at, recording_at, with_place}
+use Rattle.q3_world.specs.Files.{place_acts, take_acts}
 use Rattle.q3_world.proofs.Filing.{SameRecordings}
 use Rattle.q3_schedules.specs.Recorded.{noted_at, noted_of}
 use Rattle.q3_schedules.proofs.NamedFiles.{SparesAll, extended, spared, spares_extended}
@@ -190,12 +191,12 @@ at_put name d ends place now acts at stays = record {
       (subst (λ (found : Option Place). Unnamed name (recording_at found)) (sym (there ends d place now at)) after.0, after.1);
 }
 
-pub stops_at : (name : List ℕ) (d : ℕ) (ends : Ends) (found : Option Place) → place_at ends d ≡ found → AtOne name d ends (stop_of ends d found).ends (stop_acts found)
+pub stops_at : (name : List ℕ) (d : ℕ) (ends : Ends) (found : Option Place) → place_at ends d ≡ found → AtOne name d ends (client_step_of ends d (events.Stop d) found).ends (place_acts found (events.Stop d))
 stops_at name d ends None at = at_same name d ends ends (λ k. refl)
 stops_at name d ends (Some place) at =
     at_put name d ends place (record place { recording = (stop_at place.recording).recording }) (stop_at place.recording).acts at (stops_one name place.recording)
 
-pub begins_at : (name n : List ℕ) (d : ℕ) (ends : Ends) (found : Option Place) → n ≢ name → place_at ends d ≡ found → AtOne name d ends (record_of ends d n found).ends (begin_acts found n)
+pub begins_at : (name n : List ℕ) (d : ℕ) (ends : Ends) (found : Option Place) → n ≢ name → place_at ends d ≡ found → AtOne name d ends (client_step_of ends d (events.RecordTo d n) found).ends (place_acts found (events.RecordTo d n))
 begins_at name n d ends None ne at = at_same name d ends ends (λ k. refl)
 begins_at name n d ends (Some place) ne at =
     let begun = begin_at place.client place.recording (new_recording n) in
@@ -283,7 +284,7 @@ takes_named name c stage ends front bytes (Some place) at goes =
 
 -- it is stopped
 pub stops_named : (name : List ℕ) (c : ℕ) (stage : Stage) (ends : Ends) (found : Option Place) → place_at ends c ≡ found → Goes name c stage ends
-    → Gone name (stop_of ends c found).ends × (stop_acts found ≡ extends name (closing stage))
+    → Gone name (client_step_of ends c (events.Stop c) found).ends × (place_acts found (events.Stop c) ≡ extends name (closing stage))
 stops_named name c stage ends None at goes = absurd (nobody (record { name = name; stage = stage }) (recording_at (place_at ends c)) (ap recording_at at) goes.going)
 stops_named name c stage ends (Some place) at goes =
     let going : place.recording ≡ Some (record { name = name; stage = stage }) = ap recording_at (sym at) ∙ goes.going in
@@ -295,7 +296,7 @@ stops_named name c stage ends (Some place) at goes =
 
 -- a line that would begin another is refused
 pub begins_named : (name n : List ℕ) (c : ℕ) (stage : Stage) (ends : Ends) (found : Option Place) → place_at ends c ≡ found → Goes name c stage ends
-    → Goes name c stage (record_of ends c n found).ends × (begin_acts found n ≡ [])
+    → Goes name c stage (client_step_of ends c (events.RecordTo c n) found).ends × (place_acts found (events.RecordTo c n) ≡ [])
 begins_named name n c stage ends None at goes = (goes, refl)
 begins_named name n c stage ends (Some place) at goes =
     let going : place.recording ≡ Some (record { name = name; stage = stage }) = ap recording_at (sym at) ∙ goes.going in
@@ -309,7 +310,7 @@ begins_named name n c stage ends (Some place) at goes =
 -- it begins where the line is answered so
 pub begun_named : (name : List ℕ) (c : ℕ) (ends : Ends) (place : Place) → place_at ends c ≡ Some place → Gone name ends
     → (begin_at place.client place.recording (new_recording name)).answer ≡ Ok tt
-    → Goes name c Waits (record_of ends c name (Some place)).ends × (begin_acts (Some place) name ≡ Makes name ∷ [])
+    → Goes name c Waits (client_step_of ends c (events.RecordTo c name) (Some place)).ends × (place_acts (Some place) (events.RecordTo c name) ≡ Makes name ∷ [])
 begun_named name c ends place at gone ok =
     let begun = begin_at place.client place.recording (new_recording name) in
     let now : Place = record place { recording = begun.recording } in

@@ -21,9 +21,9 @@ use Rattle.q3_demo.specs.declared.recorder.Stage.TheVariants.{Waits, Ended}
 use Rattle.q3_demo.specs.Recording.{Noted, Noting, closing, note_of, noted_from, recording}
 use Rattle.q3_ends.specs.Recording.{extends}
 use Rattle.q3_world.specs.declared.places.Place.{Place}
-use Rattle.q3_world.specs.Ends.{Ends, client_takes, line_of, place_at, record_of, recording_at, stop_of}
+use Rattle.q3_world.specs.Ends.{Ends, client_takes, client_step_of, line_of, place_at, recording_at}
 use Rattle.q3_world.specs.Kept.{Kept, kept_after, kept_step, opening_kept}
-use Rattle.q3_world.specs.Files.{acts_from, acts_of, begin_acts, ending_acts, line_acts, stop_acts, take_acts}
+use Rattle.q3_world.specs.Files.{acts_from, acts_of, place_acts, ending_acts, line_acts, stop_acts, take_acts}
 use Rattle.q3_world.specs.ByTags.{kept_then}
 use Rattle.q3_schedules.specs.Recorded.{MakesOther, RecordingIsItsMessages, applied_until, bytes_for, is_stop, noted_at}
 use Rattle.q3_schedules.proofs.NamedFiles.{SparesAll, acts_over, extended, made, spared, spares_both}
@@ -44,9 +44,9 @@ pub gone_on : (name : List ℕ) (kept : Kept) → HaveSlots kept.ends → (event
 unfolding kept_step line_of acts_of line_acts
 gone_on name kept have =
     by_kind (λ (event : Event). MakesOther name event → Gone name kept.ends → Gone name (kept_step kept event).kept.ends × SparesAll name (acts_of kept event)) kept have
-    (λ c other gone. gone_at name c kept.ends (stop_of kept.ends c (place_at kept.ends c)).ends (stop_acts (place_at kept.ends c)) (stops_at name c kept.ends (place_at kept.ends c) refl) gone)
+    (λ c other gone. gone_at name c kept.ends (client_step_of kept.ends c (events.Stop c) (place_at kept.ends c)).ends (place_acts (place_at kept.ends c) (events.Stop c)) (stops_at name c kept.ends (place_at kept.ends c) refl) gone)
     (λ c n other gone.
-    gone_at name c kept.ends (record_of kept.ends c n (place_at kept.ends c)).ends (begin_acts (place_at kept.ends c) n) (begins_at name n c kept.ends (place_at kept.ends c) other refl) gone)
+    gone_at name c kept.ends (client_step_of kept.ends c (events.RecordTo c n) (place_at kept.ends c)).ends (place_acts (place_at kept.ends c) (events.RecordTo c n)) (begins_at name n c kept.ends (place_at kept.ends c) other refl) gone)
     (λ event not happens other gone.
     let at = one_at name kept.ends (kept_step kept event).kept.ends (acts_of kept event) (λ c. bytes_for kept event c) happens in
     gone_at name at.0 kept.ends (kept_step kept event).kept.ends (acts_of kept event) at.1 gone)
@@ -116,10 +116,10 @@ becomes name c stage kept have goes =
           let here : Stopped name c stage kept (events.Stop c) = record { stops = (Decides-eqb c c).1 refl; gone = now.0; acts = now.1 } in
           inl (subst (λ (k : ℕ). Stopped name c stage kept (events.Stop k)) (sym same) here)
       | inr not ↦
-          let after = goes_at name c d stage kept.ends (stop_of kept.ends d (place_at kept.ends d)).ends (stop_acts (place_at kept.ends d)) not (stops_at name d kept.ends (place_at kept.ends d) refl) goes in
+          let after = goes_at name c d stage kept.ends (client_step_of kept.ends d (events.Stop d) (place_at kept.ends d)).ends (place_acts (place_at kept.ends d) (events.Stop d)) not (stops_at name d kept.ends (place_at kept.ends d) refl) goes in
           inr (record {
             goes = eqb_other d c not;
-            on = untouched name c stage (stop_of kept.ends d (place_at kept.ends d)).ends (stop_acts (place_at kept.ends d)) (place_at kept.ends c) None refl after.0 after.1;
+            on = untouched name c stage (client_step_of kept.ends d (events.Stop d) (place_at kept.ends d)).ends (place_acts (place_at kept.ends d) (events.Stop d)) (place_at kept.ends c) None refl after.0 after.1;
           })
     ])
     (λ d n other. inr (record {
@@ -127,13 +127,13 @@ becomes name c stage kept have goes =
       on = elim (cases_eq d c) [
         | inl same ↦
             let now = begins_named name n c stage kept.ends (place_at kept.ends c) refl goes in
-            let spares : SparesAll name (begin_acts (place_at kept.ends c) n) = rw now.1 tt in
-            subst (λ (k : ℕ). GoesOn name c stage (noted_at (place_at kept.ends c) None) (record_of kept.ends k n (place_at kept.ends k)).ends (begin_acts (place_at kept.ends k) n)) (sym same)
-            (untouched name c stage (record_of kept.ends c n (place_at kept.ends c)).ends (begin_acts (place_at kept.ends c) n) (place_at kept.ends c) None refl now.0 spares)
+            let spares : SparesAll name (place_acts (place_at kept.ends c) (events.RecordTo c n)) = rw now.1 tt in
+            subst (λ (k : ℕ). GoesOn name c stage (noted_at (place_at kept.ends c) None) (client_step_of kept.ends k (events.RecordTo k n) (place_at kept.ends k)).ends (place_acts (place_at kept.ends k) (events.RecordTo k n))) (sym same)
+            (untouched name c stage (client_step_of kept.ends c (events.RecordTo c n) (place_at kept.ends c)).ends (place_acts (place_at kept.ends c) (events.RecordTo c n)) (place_at kept.ends c) None refl now.0 spares)
         | inr not ↦
-            let after = goes_at name c d stage kept.ends (record_of kept.ends d n (place_at kept.ends d)).ends (begin_acts (place_at kept.ends d) n) not
+            let after = goes_at name c d stage kept.ends (client_step_of kept.ends d (events.RecordTo d n) (place_at kept.ends d)).ends (place_acts (place_at kept.ends d) (events.RecordTo d n)) not
             (begins_at name n d kept.ends (place_at kept.ends d) other refl) goes in
-            untouched name c stage (record_of kept.ends d n (place_at kept.ends d)).ends (begin_acts (place_at kept.ends d) n) (place_at kept.ends c) None refl after.0 after.1
+            untouched name c stage (client_step_of kept.ends d (events.RecordTo d n) (place_at kept.ends d)).ends (place_acts (place_at kept.ends d) (events.RecordTo d n)) (place_at kept.ends c) None refl after.0 after.1
       ];
     }))
     (λ event not happens other. inr (record {
@@ -288,8 +288,8 @@ abbrev result_of : Answered → Result (Unit {0}) RecordRefused
 result_of (Given (handed.Record c result)) = result
 result_of other = Err NoGame
 
-begun_at : (name : List ℕ) (c : ℕ) (ends : Ends) (found : Option Place) → place_at ends c ≡ found → Gone name ends → (record_of ends c name found).answer ≡ Given (handed.Record c (Ok tt))
-    → Goes name c Waits (record_of ends c name found).ends × (begin_acts found name ≡ Makes name ∷ [])
+begun_at : (name : List ℕ) (c : ℕ) (ends : Ends) (found : Option Place) → place_at ends c ≡ found → Gone name ends → (client_step_of ends c (events.RecordTo c name) found).answer ≡ Given (handed.Record c (Ok tt))
+    → Goes name c Waits (client_step_of ends c (events.RecordTo c name) found).ends × (place_acts found (events.RecordTo c name) ≡ Makes name ∷ [])
 begun_at name c ends None at gone is = absurd (refused (Err unrecorded.NoClient) refl (ap result_of is))
   where
     refused : (result : Result (Unit {0}) RecordRefused) → result ≡ Err unrecorded.NoClient → result ≡ Ok tt → ⊥
@@ -306,7 +306,7 @@ recording_is_its_messages profile first rest c name told before behind answer =
     (λ d. subst (λ (found : Option Place). Unnamed name (recording_at found)) (sym (nobody_yet profile d)) tt) in
     let begun = begun_at name c kept.ends (place_at kept.ends c) refl start.1 answer in
     let next = (kept_step kept (events.RecordTo c name)).kept in
-    let acts = begin_acts (place_at kept.ends c) name in
+    let acts = place_acts (place_at kept.ends c) (events.RecordTo c name) in
     after_all name (opening_kept profile) first (events.RecordTo c name ∷ rest) (Some (recording (applied_until next rest c)))
     (λ t.
     over_files name t acts (acts_from next rest)

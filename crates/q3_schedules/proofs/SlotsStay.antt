@@ -30,25 +30,22 @@ use Rattle.q3_server.specs.Taking as hears
 use Rattle.q3_server.specs.Taking.{take_by, take_from, take_headed}
 use Rattle.q3_script.specs.declared.event.Event.{Event}
 use Rattle.q3_script.specs.declared.event.Event.TheVariants as events
-use Rattle.q3_client.specs.Client.{ClientState, new_client, take_at}
+use Rattle.q3_client.specs.Client.{new_client, take_at}
 use Rattle.q3_client.specs.Sending as speaks
 use Rattle.q3_report.specs.declared.answer.Front.{Front}
 use Rattle.q3_report.specs.declared.answer.Front.TheVariants as fronts
 use Rattle.q3_report.specs.declared.answer.HandedIn.{HandedIn}
 use Rattle.q3_report.specs.declared.answer.HandedIn.TheVariants as handed
 use Rattle.q3_report.specs.declared.answer.BaselineRefused.TheVariants as unset
-use Rattle.q3_report.specs.declared.answer.MoveRefused.TheVariants as refused
-use Rattle.q3_report.specs.declared.answer.TypeRefused.TheVariants as untyped
-use Rattle.q3_ends.specs.AtClient as at_client
-use Rattle.q3_ends.specs.AtClient.{ClientStep}
 use Rattle.q3_ends.specs.AtServer as at_server
 use Rattle.q3_ends.specs.AtServer.{ServerStep, in_range, server_line}
 use Rattle.q3_world.proofs.Ranged.{in_range_or}
-use Rattle.q3_ends.specs.Recording.{asking, begin_at, new_recording, note_taken, stop_at}
+use Rattle.q3_ends.specs.Recording.{asking, note_taken}
 use Rattle.q3_world.specs.declared.made.Direction.{Direction}
 use Rattle.q3_world.specs.declared.made.Direction.TheVariants.{ToClient, ToServer}
 use Rattle.q3_world.specs.declared.places.Place.{Place}
-use Rattle.q3_world.specs.Ends.{Ends, client_takes, hand_server_of, joined, line_of, new_ends, place_at, record_of, set_port_of, stop_of, to_client, with_place}
+use Rattle.q3_world.specs.Ends.{Ends, client_takes, hand_server_of, joined, line_of, new_ends, place_at, client_step_of, set_port_of, with_place}
+use Rattle.q3_ends.specs.ClientLine.{client_line, client_after, recording_after}
 use Rattle.q3_world.specs.Kept.{Kept, SentBytes, arrive_at, deliver_at, kept_send, kept_step}
 
 -- ---- lists of slots
@@ -198,18 +195,11 @@ port_puts : (ends : Ends) (c port : ℕ) (found : Option Place) → place_at end
 port_puts ends c port None at have = have
 port_puts ends c port (Some place) at have = puts ends c place (record place { address = record place.address { port = port } }) at have
 
-line_puts : (ends : Ends) (c : ℕ) (nobody : HandedIn) (line : ClientState → ClientStep) (found : Option Place) → place_at ends c ≡ found → HaveSlots ends
-    → HaveSlots (to_client ends c nobody line found).ends
-line_puts ends c nobody line None at have = have
-line_puts ends c nobody line (Some place) at have = puts ends c place (record place { client = (line place.client).client }) at have
-
-record_puts : (ends : Ends) (c : ℕ) (name : List ℕ) (found : Option Place) → place_at ends c ≡ found → HaveSlots ends → HaveSlots (record_of ends c name found).ends
-record_puts ends c name None at have = have
-record_puts ends c name (Some place) at have = puts ends c place (record place { recording = (begin_at place.client place.recording (new_recording name)).recording }) at have
-
-stop_puts : (ends : Ends) (c : ℕ) (found : Option Place) → place_at ends c ≡ found → HaveSlots ends → HaveSlots (stop_of ends c found).ends
-stop_puts ends c None at have = have
-stop_puts ends c (Some place) at have = puts ends c place (record place { recording = (stop_at place.recording).recording }) at have
+line_puts : (ends : Ends) (c : ℕ) (event : Event) (found : Option Place) → place_at ends c ≡ found → HaveSlots ends → HaveSlots (client_step_of ends c event found).ends
+line_puts ends c event None at have = have
+line_puts ends c event (Some place) at have =
+    let line = client_line place.client place.recording event in
+    puts ends c place (record place { client = client_after place.client line; recording = recording_after place.recording line }) at have
 
 send_puts : (kept : Kept) (c : ℕ) (found : Option Place) → place_at kept.ends c ≡ found → HaveSlots kept.ends → HaveSlots (kept_send kept c found).kept.ends
 send_puts kept c None at have = have
@@ -271,15 +261,14 @@ have_slots kept (events.Area c area) have =
     let change : SlotState → SlotState = λ slot. with_area slot area.items in
     by_server kept.ends (give kept.ends.server c change (slot_at kept.ends.server c)).server (gives kept.ends.server c change (slot_at kept.ends.server c)) have
 have_slots kept (events.Say c text) have = by_server kept.ends (say_at kept.ends.server c text).server (says kept.ends.server c text (slot_at kept.ends.server c)) have
-have_slots kept (events.TypeText c text) have =
-    line_puts kept.ends c (handed.TypeText c (Err untyped.NoClient)) (λ client. at_client.type_text client c text) (place_at kept.ends c) refl have
-have_slots kept (events.Move c one) have =
-    line_puts kept.ends c (handed.Move c (Err refused.NoClient)) (λ client. at_client.add_move client c one) (place_at kept.ends c) refl have
+have_slots kept (events.TypeText c text) have = line_puts kept.ends c (events.TypeText c text) (place_at kept.ends c) refl have
+have_slots kept (events.Move c one) have = line_puts kept.ends c (events.Move c one) (place_at kept.ends c) refl have
 have_slots kept (events.Serve c) have = by_server kept.ends (emit_at kept.ends.server c).server (emit_stays kept.ends.server c) have
 have_slots kept (events.Send c) have = send_puts kept c (place_at kept.ends c) refl have
 have_slots kept (events.Deliver number) have = deliver_puts kept.ends number (slice_get kept.datagrams (number - 1)) have
-have_slots kept (events.RecordTo c name) have = record_puts kept.ends c name (place_at kept.ends c) refl have
-have_slots kept (events.Stop c) have = stop_puts kept.ends c (place_at kept.ends c) refl have
+have_slots kept (events.RecordTo c name) have = line_puts kept.ends c (events.RecordTo c name) (place_at kept.ends c) refl have
+have_slots kept (events.Stop c) have = line_puts kept.ends c (events.Stop c) (place_at kept.ends c) refl have
+have_slots kept (events.Show c) have = line_puts kept.ends c (events.Show c) (place_at kept.ends c) refl have
 have_slots kept (events.Toclient c bytes) have = take_puts kept.ends c (fronts.Toclient c) bytes (place_at kept.ends c) refl have
 have_slots kept (events.Toserver c bytes) have = handed_puts kept.ends c bytes (place_at kept.ends c) have
 have_slots kept event have = have

@@ -34,8 +34,9 @@ pub record IsMap (profile : Profile) (map : MapState) : Type 0 where
   pub baselines : AreBaselines profile.entity map.baselines
   pub entities : AreHeld profile.entity map.entities
 
--- a client on a map of this id: its player is in normal form, its area bytes are bytes and few, one for which no gamestate was begun is connected, and one is owed on a
--- map alone; what goes to it has the header of a server, and what its slot hears the form of a client, by its challenge and the protocol
+-- a client on a map of this id: its player is in normal form, its area bytes are bytes and few, one for which no gamestate was begun is
+-- connected, and one is owed on a map alone; what goes to it has the header of a server, and what its slot hears the form of a client, by
+-- its challenge and the protocol
 pub record IsJoined (profile : Profile) (id : ℕ) (slot : SlotState) : Type 0 where
   pub player : IsHeld profile slot.player
   pub area : IsArea slot.area.items

@@ -1,9 +1,10 @@
 -- An event of one client leaves what the others have.
-use Rattle.std.proofs.Common.{None, Option, Some, refl, ◌≡◌, ◌-◌, ℕ, List}
+use Rattle.std.proofs.Common.{None, Option, Some, refl, subst, sym, ◌≡◌, ◌-◌, ℕ, List}
 use Rattle.std.specs.Prelude.{Err, IfSome, Ok, Result, slice_get, ◌≢◌}
 use Rattle.std.proofs.lemmas.List.{get_or-set_other}
+use Rattle.q3_script.specs.declared.event.Event.{Event}
 use Rattle.q3_script.specs.declared.event.Event.TheVariants as events
-use Rattle.q3_client.specs.Client.{ClientState, new_client, take_at}
+use Rattle.q3_client.specs.Client.{new_client, take_at}
 use Rattle.q3_client.specs.Sending as speaks
 use Rattle.q3_server.specs.declared.server.SlotError.{SlotError}
 use Rattle.q3_server.specs.Server.{ServerState, add_client_at, remove_entity_at, say_at, set_area_at, set_baseline_at, set_entity_at, set_player_at, set_time_at, slot_at}
@@ -14,20 +15,18 @@ use Rattle.q3_report.specs.declared.answer.Front.{Front}
 use Rattle.q3_report.specs.declared.answer.Front.TheVariants as fronts
 use Rattle.q3_report.specs.declared.answer.HandedIn.{HandedIn}
 use Rattle.q3_report.specs.declared.answer.HandedIn.TheVariants as handed
-use Rattle.q3_report.specs.declared.answer.MoveRefused.TheVariants as refused
-use Rattle.q3_report.specs.declared.answer.TypeRefused.TheVariants as untyped
-use Rattle.q3_ends.specs.AtClient as at_client
-use Rattle.q3_ends.specs.AtClient.{ClientStep}
-use Rattle.q3_ends.specs.Recording.{asking, begin_at, new_recording, note_taken, stop_at}
+use Rattle.q3_ends.specs.ClientLine.{client_line, client_after, recording_after}
+use Rattle.q3_ends.specs.Recording.{asking, note_taken}
 use Rattle.q3_ends.specs.AtServer as at_server
 use Rattle.q3_ends.specs.AtServer.{ServerStep, in_range, server_line}
 use Rattle.q3_report.specs.declared.answer.BaselineRefused.TheVariants as unset
+use Rattle.q3_world.proofs.OnePlace.{show_stays}
 use Rattle.q3_world.proofs.Ranged.{in_range_or}
 use Rattle.q3_world.specs.declared.made.Direction.{Direction}
 use Rattle.q3_world.specs.declared.made.Direction.TheVariants.{ToClient, ToServer}
 use Rattle.q3_world.specs.declared.places.Place.{Place}
 use Rattle.q3_world.specs.Apart.{IsOfOther, IsOfOthers, SlotsApart}
-use Rattle.q3_world.specs.Ends.{Ends, client_takes, hand_server_of, joined, line_of, place_at, record_of, set_port_of, stop_of, to_client, with_place}
+use Rattle.q3_world.specs.Ends.{Ends, client_takes, hand_server_of, joined, line_of, place_at, client_step_of, set_port_of, with_place}
 use Rattle.q3_world.specs.Kept.{Kept, SentBytes, arrive_at, deliver_at, kept_send, kept_step}
 
 -- ---- both ends
@@ -58,9 +57,12 @@ ports : (c d port : ℕ) (ends : Ends) (found : Option Place) → d ≢ c → St
 ports c d port ends None ne = nothing d ends
 ports c d port ends (Some place) ne = of_place c d ends (record place { address = record place.address { port = port } }) ne
 
-hands_in : (c d : ℕ) (nobody : HandedIn) (line : ClientState → ClientStep) (ends : Ends) (found : Option Place) → d ≢ c → Stays d ends (to_client ends c nobody line found).ends
-hands_in c d nobody line ends None ne = nothing d ends
-hands_in c d nobody line ends (Some place) ne = of_place c d ends (record place { client = (line place.client).client }) ne
+-- a line of a client's own
+lines_of : (c d : ℕ) (event : Event) (ends : Ends) (found : Option Place) → d ≢ c → Stays d ends (client_step_of ends c event found).ends
+lines_of c d event ends None ne = nothing d ends
+lines_of c d event ends (Some place) ne =
+    let line = client_line place.client place.recording event in
+    of_place c d ends (record place { client = client_after place.client line; recording = recording_after place.recording line }) ne
 
 sends : (kept : Kept) (c d : ℕ) (found : Option Place) → d ≢ c → Stays d kept.ends (kept_send kept c found).kept.ends
 sends kept c d None ne = nothing d kept.ends
@@ -71,14 +73,6 @@ takes ends c d front bytes None ne = nothing d ends
 takes ends c d front bytes (Some place) ne =
     let taken = take_at place.client bytes in
     of_place c d ends (record place { client = taken.client; recording = (note_taken place.recording place.client taken).recording }) ne
-
-records : (c d : ℕ) (name : List ℕ) (ends : Ends) (found : Option Place) → d ≢ c → Stays d ends (record_of ends c name found).ends
-records c d name ends None ne = nothing d ends
-records c d name ends (Some place) ne = of_place c d ends (record place { recording = (begin_at place.client place.recording (new_recording name)).recording }) ne
-
-stops : (c d : ℕ) (ends : Ends) (found : Option Place) → d ≢ c → Stays d ends (stop_of ends c found).ends
-stops c d ends None ne = nothing d ends
-stops c d ends (Some place) ne = of_place c d ends (record place { recording = (stop_at place.recording).recording }) ne
 
 comes_to : calls.SlotsApart → (ends : Ends) (number d : ℕ) (sent : SentBytes) (direction : Direction) → IsOfOther ends d sent direction → Stays d ends (arrive_at ends number sent direction).ends
 comes_to laws ends number d sent ToClient other = takes ends sent.client d (fronts.Deliver number) sent.bytes (place_at ends sent.client) other
@@ -143,10 +137,10 @@ slots_apart laws kept (events.Say c text) d ne =
     let left = of_server d kept.ends (say_at kept.ends.server c text).server (laws.says kept.ends.server c d text ne) in
     record { slot = left.slot; frames = left.frames; place = left.place }
 slots_apart laws kept (events.TypeText c text) d ne =
-    let left = hands_in c d (handed.TypeText c (Err untyped.NoClient)) (λ client. at_client.type_text client c text) kept.ends (place_at kept.ends c) ne in
+    let left = lines_of c d (events.TypeText c text) kept.ends (place_at kept.ends c) ne in
     record { slot = left.slot; frames = left.frames; place = left.place }
 slots_apart laws kept (events.Move c one) d ne =
-    let left = hands_in c d (handed.Move c (Err refused.NoClient)) (λ client. at_client.add_move client c one) kept.ends (place_at kept.ends c) ne in
+    let left = lines_of c d (events.Move c one) kept.ends (place_at kept.ends c) ne in
     record { slot = left.slot; frames = left.frames; place = left.place }
 slots_apart laws kept (events.Serve c) d ne =
     let left = laws.emits kept.ends.server c d ne in
@@ -158,10 +152,13 @@ slots_apart laws kept (events.Deliver number) d others =
     let left = delivers laws kept.ends number d (slice_get kept.datagrams (number - 1)) others in
     record { slot = left.slot; frames = left.frames; place = left.place }
 slots_apart laws kept (events.RecordTo c name) d ne =
-    let left = records c d name kept.ends (place_at kept.ends c) ne in
+    let left = lines_of c d (events.RecordTo c name) kept.ends (place_at kept.ends c) ne in
     record { slot = left.slot; frames = left.frames; place = left.place }
 slots_apart laws kept (events.Stop c) d ne =
-    let left = stops c d kept.ends (place_at kept.ends c) ne in
+    let left = lines_of c d (events.Stop c) kept.ends (place_at kept.ends c) ne in
+    record { slot = left.slot; frames = left.frames; place = left.place }
+slots_apart laws kept (events.Show c) d ne =
+    let left = subst (λ (ends : Ends). Stays d kept.ends ends) (sym (show_stays kept.ends c (place_at kept.ends c) refl)) (nothing d kept.ends) in
     record { slot = left.slot; frames = left.frames; place = left.place }
 slots_apart laws kept (events.Toclient c bytes) d ne =
     let left = takes kept.ends c d (fronts.Toclient c) bytes (place_at kept.ends c) ne in

@@ -8,7 +8,7 @@ use Rattle.q3_ends.specs.AtServer.{server_line}
 use Rattle.q3_world.specs.ByTags.{IsOwn}
 use Rattle.q3_world.proofs.Foreign.{bytes_seen, handed_seen, line_seen}
 use Rattle.q3_world.proofs.Ported.{holds_port}
-use Rattle.q3_world.proofs.Recorded.{holds_record, holds_stop}
+use Rattle.q3_world.proofs.Recorded.{holds_own}
 use Rattle.q3_world.proofs.StaysForeign.{stays_foreign}
 use Rattle.q3_profile.specs.declared.profile.Profile.{Profile}
 use Rattle.q3_script.specs.declared.event.Event.{Event}
@@ -16,7 +16,7 @@ use Rattle.q3_script.specs.declared.event.Event.TheVariants as events
 use Rattle.q3_script.specs.Grammar.{IsReplayEvent}
 use Rattle.q3_server.specs.Server.{emit_at}
 use Rattle.q3_world.specs.declared.places.Place.{Place}
-use Rattle.q3_world.specs.Ends.{Ends, EndsStep, place_at, hand_client, hand_server, join, set_port, to_server, type_text, add_move, record_to, stop, line_of}
+use Rattle.q3_world.specs.Ends.{Ends, EndsStep, place_at, hand_client, hand_server, join, set_port, to_server, client_step, line_of}
 use Rattle.q3_world.specs.Kept.{SentBytes, Kept, KeptStep, kept_ends, kept_step}
 use Rattle.q3_world.specs.World.{Whole, History, history_at, with_history, with_joined, with_spoken, with_typed, with_issued, noted, with_noted, step, whole_line, with_handed, bytes_of}
 use Rattle.q3_world.specs.StandsFor.{StandsFor}
@@ -62,17 +62,18 @@ steps_agree profile whole (events.Say c text) cited is own holds =
     noted_so profile whole c (to_server whole.ends (at_server.say_command whole.ends.server c text)) (with_spoken (history_at whole.histories c) text)
     (holds_say profile whole c text cited is.1 (omega (arith, is.0)) holds)
 steps_agree profile whole (events.TypeText c text) cited is own holds =
-    noted_so profile whole c (type_text whole.ends c text) (with_typed (history_at whole.histories c) text) (holds_type profile whole c text cited is.1 (omega (arith, is.0)) holds)
+    noted_so profile whole c (client_step whole.ends c (events.TypeText c text)) (with_typed (history_at whole.histories c) text) (holds_type profile whole c text cited is.1 (omega (arith, is.0)) holds)
 steps_agree profile whole (events.Move c one) cited is own holds =
-    noted_so profile whole c (add_move whole.ends c one) (with_issued (history_at whole.histories c) one) (holds_move profile whole c one is.1 (omega (arith, is.0)) holds)
+    noted_so profile whole c (client_step whole.ends c (events.Move c one)) (with_issued (history_at whole.histories c) one) (holds_move profile whole c one is.1 (omega (arith, is.0)) holds)
 steps_agree profile whole (events.Serve c) cited is own holds = served profile whole c cited (omega (arith, is)) holds
 steps_agree profile whole (events.Send c) cited is own holds = sends_agree profile whole c cited (omega (arith, is)) holds
 steps_agree profile whole (events.Deliver number) cited is own holds = delivers_agree profile whole number cited holds
 steps_agree profile whole (events.RecordTo c name) cited is own holds =
-    handed profile whole (record_to whole.ends c name) (holds_record profile whole c name (omega (arith, is.0)) holds)
+    handed profile whole (client_step whole.ends c (events.RecordTo c name)) (holds_own profile whole c (events.RecordTo c name) (λ place. refl) (omega (arith, is.0)) holds)
 steps_agree profile whole (events.Stop c) cited is own holds =
-    handed profile whole (stop whole.ends c) (holds_stop profile whole c (omega (arith, is)) holds)
-steps_agree profile whole (events.Show c) cited is own holds = record { same = refl; holds = holds }
+    handed profile whole (client_step whole.ends c (events.Stop c)) (holds_own profile whole c (events.Stop c) (λ place. refl) (omega (arith, is)) holds)
+steps_agree profile whole (events.Show c) cited is own holds =
+    handed profile whole (client_step whole.ends c (events.Show c)) (holds_own profile whole c (events.Show c) (λ place. refl) (omega (arith, is)) holds)
 steps_agree profile whole (events.Bytes number) cited is own holds = record { same = rw (bytes_seen whole.sent number) refl; holds = holds }
 steps_agree profile whole (events.Toclient c bytes) cited is own holds = absurd own
 steps_agree profile whole (events.Toserver c bytes) cited is own holds = absurd own

@@ -1,6 +1,6 @@
 -- What calls do to files, and which numbers stand for the files of recordings.
 use Rattle.std.proofs.Common.{◌≡◌, ◌≢◌, ℕ, ◌<◌, ◌≤◌, List, [], length, get_or, set, Option, Some, None, Result, Ok, Err, refl, sym, subst, ◌∙◌, inl, inr, arith}
-use Rattle.std.specs.Prelude.{IfSome, IsErrOf, ◌⊎◌, nat_lt, slice_get, slice_index}
+use Rattle.std.specs.Prelude.{IfSome, IsSome, is_some, true, IsErrOf, ◌⊎◌, nat_lt, slice_get, slice_index}
 use Rattle.std.proofs.lemmas.Bool.{cases_Bool, cases_eq, ltb-false, ltb-true}
 use Rattle.std.proofs.lemmas.Option.{slice_get_cases}
 use Rattle.std.proofs.Math.ListN.{get_or-eq_default}
@@ -11,14 +11,13 @@ use Rattle.q3_profile.specs.declared.profile.Profile.{Profile}
 use Rattle.q3_io.specs.declared.address.Address.{Address}
 use Rattle.q3_script.specs.declared.event.Event.{Event}
 use Rattle.q3_script.specs.declared.event.Event.TheVariants as events
-use Rattle.q3_client.specs.Client.{ClientState, new_client}
+use Rattle.q3_script.specs.Grammar.{IsReplayEvent}
+use Rattle.q3_client.specs.Client.{new_client}
 use Rattle.q3_client.specs.Sending as speaks
 use Rattle.q3_server.specs.declared.server.SlotError.{SlotError}
 use Rattle.q3_report.specs.declared.answer.Front.TheVariants as fronts
-use Rattle.q3_report.specs.declared.answer.HandedIn.{HandedIn}
 use Rattle.q3_world.specs.declared.made.Direction.TheVariants.{ToClient, ToServer}
-use Rattle.q3_ends.specs.AtClient.{ClientStep}
-use Rattle.q3_clmsg.specs.declared.moves.Move.{Move}
+use Rattle.q3_ends.specs.ClientLine.{client_line, client_named, fresh_of, client_after, recording_after, acts_in}
 use Rattle.q3_ends.specs.AtServer.{ServerStep, server_line}
 use Rattle.q3_world.specs.Kept.{Kept, SentBytes, deliver_at, kept_send}
 use Rattle.q3_server.specs.Server.{ServerState, add_client_at, places}
@@ -27,13 +26,14 @@ use Rattle.q3_ends.proofs.Files.{writes_nothing}
 use Rattle.q3_world.specs.declared.places.Place.{Place}
 use Rattle.q3_world.specs.declared.told.StepError.{StepError}
 use Rattle.q3_world.specs.declared.told.StepError.TheVariants.{NoMemory, WriteFault, FileFault}
-use Rattle.q3_world.specs.Ends.{Ends, place_at, recording_at, with_place, client_takes, game_step, hand_server_of, join, joined, line_of, server_takes, set_port_of, step_in, to_client}
+use Rattle.q3_world.specs.Ends.{Ends, place_at, recording_at, with_place, client_step_of, client_takes, game_step, hand_server_of, join, joined, line_of, own_step, server_takes, set_port_of, step_in}
 use Rattle.q3_io.specs.Written.{Written}
 use Rattle.q3_counts.specs.declared.counts.Counts.{Counts}
 use Rattle.q3_world.specs.Counting.{Counting}
 use Rattle.q3_world.specs.Doing.{EndsDo, LeavesRecordings, Tells}
 use Rattle.q3_world.specs.Ends.{EndsStep}
-use Rattle.q3_world.specs.Files.{AreNumbered, DoesFiles, line_acts, deliver_acts, take_acts}
+use Rattle.q3_world.specs.Files.{AreNumbered, DoesFiles, place_acts, line_acts, own_acts, deliver_acts, take_acts}
+use Rattle.q3_world.specs.Outcome.{TakesMemory}
 use Rattle.q3_world.proofs.OnePlace.{set_there}
 
 -- nothing is done
@@ -155,10 +155,13 @@ same_put ends c place is = λ d. elim (cases_eq d c) [
       | inr ge ↦ inr (ltb-false c count ge)
     ]
 
-pub same_line : (ends : Ends) (c : ℕ) (nobody : HandedIn) (line : ClientState → ClientStep) (found : Option Place) → place_at ends c ≡ found
-    → SameRecordings ends (to_client ends c nobody line found).ends
-same_line ends c nobody line None at = λ d. refl
-same_line ends c nobody line (Some place) at = same_put ends c (record place { client = (line place.client).client }) (sym (rw at refl))
+-- a line of a client's own that leaves its recording
+pub same_client : (ends : Ends) (c : ℕ) (event : Event) (found : Option Place) → place_at ends c ≡ found
+    → ((place : Place) → recording_after place.recording (client_line place.client place.recording event) ≡ place.recording) → SameRecordings ends (client_step_of ends c event found).ends
+same_client ends c event None at leaves = λ d. refl
+same_client ends c event (Some place) at leaves =
+    let line = client_line place.client place.recording event in
+    same_put ends c (record place { client = client_after place.client line; recording = recording_after place.recording line }) (leaves place ∙ sym (rw at refl))
 
 pub same_port : (ends : Ends) (c port : ℕ) (found : Option Place) → place_at ends c ≡ found → SameRecordings ends (set_port_of ends c port found).ends
 same_port ends c port None at = λ d. refl
@@ -199,15 +202,70 @@ numbered_joined told given c numbers profile ends challenge qport dup address nu
         ]
     by_answer server place none (Err e) = numbered
 
--- ---- lines that do nothing to files
+-- ---- lines of the client that they name, or of the game
 
-pub quiet_line : (ends : Ends) (event : Event) → ((c : ℕ) (name : List ℕ) → event ≡ events.RecordTo c name → ⊥) → ((c : ℕ) → event ≡ events.Stop c → ⊥)
-    → ((c : ℕ) (bytes : List ℕ) → event ≡ events.Toclient c bytes → ⊥) → line_acts ends event ≡ []
+-- a line but for bytes that are handed to a client does to files what it does as one of a client's own
+pub acts_of_own : (ends : Ends) (event : Event) → ((c : ℕ) (bytes : List ℕ) → event ≡ events.Toclient c bytes → ⊥) → line_acts ends event ≡ own_acts ends event (client_named event)
 unfolding line_acts
-quiet_line ends (events.RecordTo c name) begun stop toclient = absurd (begun c name refl)
-quiet_line ends (events.Stop c) begun stop toclient = absurd (stop c refl)
-quiet_line ends (events.Toclient c bytes) begun stop toclient = absurd (toclient c bytes refl)
-quiet_line ends other begun stop toclient = refl
+acts_of_own ends (events.Toclient c bytes) toclient = absurd (toclient c bytes refl)
+acts_of_own ends other toclient = refl
+
+-- and a line that leaves files alone at every client does nothing to them
+pub quiet_client : (event : Event) (found : Option Place) → ((place : Place) → acts_in (client_line place.client place.recording event) ≡ []) → place_acts found event ≡ []
+quiet_client event None leaves = refl
+quiet_client event (Some place) leaves = leaves place
+
+pub does_own : (Says : EndsStep → Type 0) (profile : Profile) (ends : Ends) (event : Event)
+    → ((c challenge qport dup : ℕ) (address : Address) → event ≡ events.Client c challenge qport dup address → ⊥) → ((c port : ℕ) → event ≡ events.Port c port → ⊥)
+    → ((c : ℕ) (bytes : List ℕ) → event ≡ events.Toclient c bytes → ⊥) → ((c : ℕ) (bytes : List ℕ) → event ≡ events.Toserver c bytes → ⊥)
+    → Says (own_step ends event (client_named event)) → IfSome (step_in (line_of profile ends event)) Says
+unfolding line_of
+does_own Says profile ends (events.Client c challenge qport dup address) client port toclient toserver says = absurd (client c challenge qport dup address refl)
+does_own Says profile ends (events.Port c at) client port toclient toserver says = absurd (port c at refl)
+does_own Says profile ends (events.Toclient c bytes) client port toclient toserver says = absurd (toclient c bytes refl)
+does_own Says profile ends (events.Toserver c bytes) client port toclient toserver says = absurd (toserver c bytes refl)
+does_own Says profile ends (events.Serve c) client port toclient toserver says = tt
+does_own Says profile ends (events.Send c) client port toclient toserver says = tt
+does_own Says profile ends (events.Deliver number) client port toclient toserver says = tt
+does_own Says profile ends (events.Bytes number) client port toclient toserver says = tt
+does_own Says profile ends other client port toclient toserver says = says
+
+-- where it names no client, it is one of the game
+pub is_game : (profile : Profile) (ends : Ends) (event : Event) → IsReplayEvent event
+    → ((c challenge qport dup : ℕ) (address : Address) → event ≡ events.Client c challenge qport dup address → ⊥) → ((c port : ℕ) → event ≡ events.Port c port → ⊥)
+    → ((c : ℕ) (bytes : List ℕ) → event ≡ events.Toclient c bytes → ⊥) → ((c : ℕ) (bytes : List ℕ) → event ≡ events.Toserver c bytes → ⊥)
+    → IsSome (step_in (line_of profile ends event)) → client_named event ≡ None → IsSome (server_line ends.server event)
+unfolding line_of server_line
+is_game profile ends (events.Client c challenge qport dup address) is client port toclient toserver line none = absurd (client c challenge qport dup address refl)
+is_game profile ends (events.Port c at) is client port toclient toserver line none = absurd (port c at refl)
+is_game profile ends (events.Toclient c bytes) is client port toclient toserver line none = absurd (toclient c bytes refl)
+is_game profile ends (events.Toserver c bytes) is client port toclient toserver line none = absurd (toserver c bytes refl)
+is_game profile ends (events.TypeText c text) is client port toclient toserver line none = absurd cc
+is_game profile ends (events.Move c one) is client port toclient toserver line none = absurd cc
+is_game profile ends (events.RecordTo c name) is client port toclient toserver line none = absurd cc
+is_game profile ends (events.Stop c) is client port toclient toserver line none = absurd cc
+is_game profile ends (events.Show c) is client port toclient toserver line none = absurd cc
+is_game profile ends (events.Serve c) is client port toclient toserver line none = line
+is_game profile ends (events.Send c) is client port toclient toserver line none = line
+is_game profile ends (events.Deliver number) is client port toclient toserver line none = line
+is_game profile ends (events.Bytes number) is client port toclient toserver line none = line
+is_game profile ends (events.At ms) is client port toclient toserver line none = absurd is
+is_game profile ends (events.End ms) is client port toclient toserver line none = absurd is
+is_game profile ends other is client port toclient toserver line none = refl
+
+-- the client that it names has a place
+pub named_within : (event : Event) → IsReplayEvent event → IfSome (client_named event) (λ c. c < places)
+named_within (events.TypeText c text) is = omega (arith, is.0)
+named_within (events.Move c one) is = omega (arith, is.0)
+named_within (events.RecordTo c name) is = omega (arith, is.0)
+named_within (events.Stop c) is = omega (arith, is)
+named_within (events.Show c) is = omega (arith, is)
+named_within other is = tt
+
+-- and the recording that it would begin takes memory
+pub fresh_takes : (event : Event) → is_some (fresh_of event) ≡ true → TakesMemory event
+fresh_takes (events.RecordTo c name) is = tt
+fresh_takes other is = absurd cc
 
 -- a datagram that was made goes to its end
 pub delivers_none : (ends : Ends) (datagrams : List SentBytes) (k : ℕ) → length datagrams ≤ k → deliver_acts ends (slice_get datagrams k) ≡ []
@@ -245,23 +303,3 @@ client_does Says ends number k c datagrams sent bytes found way of is says = rw 
 pub client_acts : (ends : Ends) (k c : ℕ) (datagrams : List SentBytes) (sent : SentBytes) (bytes : List ℕ) → slice_get datagrams k ≡ Some sent → sent.direction ≡ ToClient → sent.client ≡ c
     → sent.bytes ≡ bytes → deliver_acts ends (slice_get datagrams k) ≡ take_acts (place_at ends c) bytes
 client_acts ends k c datagrams sent bytes found way of is = rw (found, way, of, is) refl
-
--- ---- a line of the game
-
-pub game_does : (Says : EndsStep → Type 0) (profile : Profile) (ends : Ends) (event : Event)
-    → ((c challenge qport dup : ℕ) (address : Address) → event ≡ events.Client c challenge qport dup address → ⊥) → ((c port : ℕ) → event ≡ events.Port c port → ⊥)
-    → ((c : ℕ) (text : List ℕ) → event ≡ events.TypeText c text → ⊥) → ((c : ℕ) (one : Move) → event ≡ events.Move c one → ⊥) → ((c : ℕ) (name : List ℕ) → event ≡ events.RecordTo c name → ⊥)
-    → ((c : ℕ) → event ≡ events.Stop c → ⊥) → ((c : ℕ) → event ≡ events.Show c → ⊥) → ((c : ℕ) (bytes : List ℕ) → event ≡ events.Toclient c bytes → ⊥)
-    → ((c : ℕ) (bytes : List ℕ) → event ≡ events.Toserver c bytes → ⊥)
-    → Says (game_step ends (server_line ends.server event)) → IfSome (step_in (line_of profile ends event)) Says
-unfolding line_of
-game_does Says profile ends (events.Client c challenge qport dup address) client port types move begun stop show toclient toserver says = absurd (client c challenge qport dup address refl)
-game_does Says profile ends (events.Port c at) client port types move begun stop show toclient toserver says = absurd (port c at refl)
-game_does Says profile ends (events.TypeText c text) client port types move begun stop show toclient toserver says = absurd (types c text refl)
-game_does Says profile ends (events.Move c one) client port types move begun stop show toclient toserver says = absurd (move c one refl)
-game_does Says profile ends (events.RecordTo c name) client port types move begun stop show toclient toserver says = absurd (begun c name refl)
-game_does Says profile ends (events.Stop c) client port types move begun stop show toclient toserver says = absurd (stop c refl)
-game_does Says profile ends (events.Show c) client port types move begun stop show toclient toserver says = absurd (show c refl)
-game_does Says profile ends (events.Toclient c bytes) client port types move begun stop show toclient toserver says = absurd (toclient c bytes refl)
-game_does Says profile ends (events.Toserver c bytes) client port types move begun stop show toclient toserver says = absurd (toserver c bytes refl)
-game_does Says profile ends other client port types move begun stop show toclient toserver says = assumption

@@ -46,7 +46,8 @@ use Rattle.q3_ends.specs.AtServer.{ServerStep}
 use Rattle.q3_ends.specs.AtClient as at_client
 use Rattle.q3_world.specs.declared.places.Place.{Place}
 use Rattle.q3_world.specs.Layers.{WindowLaws}
-use Rattle.q3_world.specs.Ends.{EndsStep, place_at, with_client, given, join, to_server, type_text, add_move}
+use Rattle.q3_script.specs.declared.event.Event.TheVariants as events
+use Rattle.q3_world.specs.Ends.{EndsStep, place_at, with_client, given, join, to_server, client_step}
 use Rattle.q3_world.specs.Games.{standing_of}
 use Rattle.q3_world.specs.Kept.{kept_ends}
 use Rattle.q3_server.specs.Standing.{IsMap}
@@ -407,7 +408,7 @@ moves_on client one =
     else record { client = client; answer = Err Range }
 
 pub holds_move : (profile : Profile) (whole : Whole) (c : ℕ) (one : Move) → IsHeldMove one → c < places → Holds profile whole
-    → Holds profile (noting whole c (add_move whole.ends c one) (with_issued (history_at whole.histories c) one))
+    → Holds profile (noting whole c (client_step whole.ends c (events.Move c one)) (with_issued (history_at whole.histories c) one))
 holds_move profile whole c one held lt holds =
     elim (found_or (place_at whole.ends c)) [
       | inl none ↦ rw none (unnoted profile whole c holds)
@@ -466,7 +467,7 @@ holds_say profile whole c text cited is lt holds =
 
 -- and a client issues one
 pub holds_type : (profile : Profile) (whole : Whole) (c : ℕ) (text : List ℕ) → Cited profile → IsText text → c < places → Holds profile whole
-    → Holds profile (noting whole c (type_text whole.ends c text) (with_typed (history_at whole.histories c) text))
+    → Holds profile (noting whole c (client_step whole.ends c (events.TypeText c text)) (with_typed (history_at whole.histories c) text))
 holds_type profile whole c text cited is lt holds =
     elim (found_or (place_at whole.ends c)) [
       | inl none ↦ rw none (unnoted profile whole c holds)

@@ -1,11 +1,12 @@
 -- Lists with a place for each client, of which one changes.
-use Rattle.std.proofs.Common.{◌≡◌, ℕ, ◌<◌, List, length, get_or, set, Option, None, refl, sym, subst, inl, inr, arith}
-use Rattle.std.proofs.lemmas.List.{get_or-set_same, get_or-set_other, length-set}
+use Rattle.std.proofs.Common.{◌≡◌, ℕ, ◌<◌, List, length, get_or, set, Option, Some, None, refl, sym, subst, ap, ◌∙◌, inl, inr, arith}
+use Rattle.std.proofs.lemmas.List.{get_or-set_same, get_or-set_other, length-set, set-get_or}
 use Rattle.std.proofs.lemmas.Bool.{cases_eq}
+use Rattle.q3_script.specs.declared.event.Event.TheVariants as events
 use Rattle.q3_slot.specs.Slot.{SlotState}
 use Rattle.q3_server.specs.Server.{places, slot_at}
 use Rattle.q3_world.specs.declared.places.Place.{Place}
-use Rattle.q3_world.specs.Ends.{Ends, place_at}
+use Rattle.q3_world.specs.Ends.{Ends, place_at, client_step_of}
 use Rattle.q3_world.specs.World.{History, no_history, history_at}
 
 -- what stands at a place where it was put
@@ -45,3 +46,9 @@ each_at Says c old new histories histories' differ here all k lt =
       | inl same ↦ subst (λ (j : ℕ). Says (slot_at new.server j) (place_at new j) (history_at histories' j)) (sym same) here
       | inr other ↦ rw (differ.slots.others k other, differ.clients.others k other, differ.histories.others k other) (all k lt)
     ]
+
+-- a client that is shown stays as it is
+pub show_stays : (ends : Ends) (c : ℕ) (found : Option Place) → place_at ends c ≡ found → (client_step_of ends c (events.Show c) found).ends ≡ ends
+show_stays ends c None at = refl
+show_stays ends c (Some place) at =
+    ap (λ (clients : List (Option Place)). record ends { clients = clients }) (ap (λ (there : Option Place). set ends.clients c there) (sym at) ∙ set-get_or ends.clients c None)

@@ -1,5 +1,5 @@
 -- What a client records, and whether it asks for whole snapshots: what holds stays.
-use Rattle.std.proofs.Common.{None, Option, Some, List, refl, subst, ◌<◌, ◌≡◌, ℕ}
+use Rattle.std.proofs.Common.{sym, None, Option, Some, List, refl, subst, ◌<◌, ◌≡◌, ℕ}
 use Rattle.std.specs.Prelude.{Bool}
 use Rattle.std.proofs.lemmas.List.{set-set}
 use Rattle.q3_profile.specs.declared.profile.Profile.{Profile}
@@ -13,7 +13,9 @@ use Rattle.q3_client.specs.Client.{ClientState}
 use Rattle.q3_client.specs.Sending.{Said}
 use Rattle.q3_ends.specs.Recording.{RecordingState, asking}
 use Rattle.q3_world.specs.declared.places.Place.{Place}
-use Rattle.q3_world.specs.Ends.{place_at, with_place, record_of, record_to, stop_of, stop}
+use Rattle.q3_ends.specs.ClientLine.{client_line, client_after, recording_after}
+use Rattle.q3_script.specs.declared.event.Event.{Event}
+use Rattle.q3_world.specs.Ends.{place_at, with_place, client_step, client_step_of}
 use Rattle.q3_world.specs.World.{History, Tag, Whole, history_at, no_history}
 use Rattle.q3_world.specs.StandsFor.{IsClient, IsJoined, KeepsClient, TakesBuilt}
 use Rattle.q3_world.proofs.Holding.{Holds, Holds-at, with_client_of}
@@ -83,23 +85,17 @@ with_recording profile whole c place client new history sent lt before holds =
     subst (λ (clients : List (Option Place)). Holds profile (record world { ends = record whole.ends { clients = clients } })) (set-set whole.ends.clients c (Some there) (Some then))
     (holds_recording profile world c there new lt (set_there whole.ends.clients c None (Some there) before.facts.clients lt) holds)
 
--- a recording begins, or has its end
-begins_there : (profile : Profile) (whole : Whole) (c : ℕ) (name : List ℕ) (found : Option Place) → c < places → place_at whole.ends c ≡ found → Holds profile whole
-    → Holds profile (record whole { ends = (record_of whole.ends c name found).ends })
-begins_there profile whole c name None lt at holds = holds
-begins_there profile whole c name (Some place) lt at holds = holds_recording profile whole c place _ lt at holds
-
-pub holds_record : (profile : Profile) (whole : Whole) (c : ℕ) (name : List ℕ) → c < places → Holds profile whole
-    → Holds profile (record whole { ends = (record_to whole.ends c name).ends })
-holds_record profile whole c name lt holds = begins_there profile whole c name (place_at whole.ends c) lt refl holds
-
-stops_there : (profile : Profile) (whole : Whole) (c : ℕ) (found : Option Place) → c < places → place_at whole.ends c ≡ found → Holds profile whole
-    → Holds profile (record whole { ends = (stop_of whole.ends c found).ends })
-stops_there profile whole c None lt at holds = holds
-stops_there profile whole c (Some place) lt at holds = holds_recording profile whole c place _ lt at holds
-
-pub holds_stop : (profile : Profile) (whole : Whole) (c : ℕ) → c < places → Holds profile whole → Holds profile (record whole { ends = (stop whole.ends c).ends })
-holds_stop profile whole c lt holds = stops_there profile whole c (place_at whole.ends c) lt refl holds
+-- a line of a client's own that leaves the client: a recording begins or has its end, or the client is shown
+pub holds_own : (profile : Profile) (whole : Whole) (c : ℕ) (event : Event) → ((place : Place) → client_after place.client (client_line place.client place.recording event) ≡ place.client) → c < places
+    → Holds profile whole → Holds profile (record whole { ends = (client_step whole.ends c event).ends })
+holds_own profile whole c event leaves lt holds = there (place_at whole.ends c) refl
+  where
+    there : (found : Option Place) → place_at whole.ends c ≡ found → Holds profile (record whole { ends = (client_step_of whole.ends c event found).ends })
+    there None at = holds
+    there (Some place) at =
+        let new = recording_after place.recording (client_line place.client place.recording event) in
+        subst (λ (client : ClientState). Holds profile (record whole { ends = with_place whole.ends c (record place { client = client; recording = new }) })) (sym (leaves place))
+        (holds_recording profile whole c place new lt at holds)
 
 -- ---- a client that asks for whole snapshots, or doesn't
 

@@ -9,11 +9,12 @@ use Rattle.q3_counts.specs.declared.counts.Counts.{Counts}
 use Rattle.q3_world.specs.declared.told.StepError.{StepError}
 use Rattle.q3_world.specs.declared.told.StepError.TheVariants.{NoMemory, FileFault}
 use Rattle.q3_ends.specs.AtClient.{taken_by_client}
+use Rattle.q3_ends.specs.ClientLine.{ClientDone, client_after, recording_after, answer_in}
 use Rattle.q3_ends.specs.Recording.{note_taken}
 use Rattle.q3_world.specs.declared.places.Place.{Place}
 use Rattle.q3_world.specs.Counting.{Counting}
 use Rattle.q3_counts.specs.Counts.{counted}
-use Rattle.q3_world.specs.Ends.{Ends, EndsStep, place_at, recording_at}
+use Rattle.q3_world.specs.Ends.{Ends, EndsStep, place_at, recording_at, told_as}
 use Rattle.q3_world.specs.Kept.{KeptStep}
 use Rattle.q3_world.specs.Outcome.{Prints, HasStepCause}
 
@@ -32,6 +33,16 @@ pub record TakesAt (old : Place) (taken : Taken) (new : Place) (front : Front) (
   pub recording : OnOk result (new.recording ≡ (note_taken old.recording old.client taken).recording)
   pub told : OnOk result (counts ≡ counted counts_old (taken_by_client front c taken (note_taken old.recording old.client taken).ended))
   pub printed : Prints before after (lines_of (taken_by_client front c taken (note_taken old.recording old.client taken).ended)) result
+  pub flushed : OnOk result (NothingWaits after)
+  pub cause : HasStepCause were are result
+  pub memory : IsErrOf result NoMemory → ⊥
+
+-- a client did a line of its own; that is told, unless a file can't be made or written
+pub record LineAt (old : Place) (line : Option ClientDone) (new : Place) (counts_old counts : Counts) (before after : Option Written) (were are : ℕ) (result : Result (Unit {0}) StepError) : Type 0 where
+  pub kept : new ≡ record old { client = client_after old.client line; recording = new.recording }
+  pub recording : OnOk result (new.recording ≡ recording_after old.recording line)
+  pub told : OnOk result (counts ≡ counted counts_old (told_as (answer_in line)))
+  pub printed : Prints before after (lines_of (told_as (answer_in line))) result
   pub flushed : OnOk result (NothingWaits after)
   pub cause : HasStepCause were are result
   pub memory : IsErrOf result NoMemory → ⊥

@@ -3,7 +3,6 @@ use Rattle.std.specs.Prelude.{ℕ, List, replicate, Option, Some, None, option_m
 use Rattle.q3_profile.specs.declared.profile.Profile.{Profile}
 use Rattle.q3_io.specs.declared.address.Address.{Address}
 use Rattle.q3_world.specs.declared.places.Place.{Place}
-use Rattle.q3_clmsg.specs.declared.moves.Move.{Move}
 use Rattle.q3_entity_ring.specs.Snapshot.{Snapshot}
 use Rattle.q3_script.specs.declared.event.Event.{Event}
 use Rattle.q3_script.specs.declared.event.Event.TheVariants as events
@@ -13,19 +12,15 @@ use Rattle.q3_server.specs.Taking as hears
 use Rattle.q3_client.specs.Client.{ClientState, new_client}
 use Rattle.q3_client.specs.Client as takes
 use Rattle.q3_report.specs.declared.answer.HandedIn.{HandedIn}
-use Rattle.q3_report.specs.declared.answer.HandedIn.TheVariants.{Client, Port, Time, TypeText, Move as Moved, Record as Recorded, Stop as Stopped}
-use Rattle.q3_report.specs.declared.answer.MoveRefused.TheVariants as refused
-use Rattle.q3_report.specs.declared.answer.TypeRefused.TheVariants as untyped
+use Rattle.q3_report.specs.declared.answer.HandedIn.TheVariants.{Client, Port, Time}
 use Rattle.q3_report.specs.declared.answer.Front.{Front}
-use Rattle.q3_report.specs.declared.answer.RecordRefused.TheVariants as unrecorded
-use Rattle.q3_report.specs.declared.answer.StopRefused.TheVariants as unstopped
 use Rattle.q3_report.specs.declared.answer.Front.TheVariants.{Toclient, Toserver}
 use Rattle.q3_report.specs.declared.answer.TakeRefused.TheVariants.{NoClient}
-use Rattle.q3_report.specs.Answers.{Answered, Given, Untaken, Shown, Showing, ShowsNobody}
+use Rattle.q3_report.specs.Answers.{Answered, Given, Untaken}
 use Rattle.q3_ends.specs.AtServer.{ServerStep, server_line, taken_by_server}
-use Rattle.q3_ends.specs.AtClient as at_client
-use Rattle.q3_ends.specs.AtClient.{ClientStep, taken_by_client, newest_of, showing}
-use Rattle.q3_ends.specs.Recording.{RecordingState, new_recording, begin_at, stop_at, note_taken}
+use Rattle.q3_ends.specs.AtClient.{taken_by_client, newest_of}
+use Rattle.q3_ends.specs.ClientLine.{client_line, client_named, unjoined, client_after, recording_after, answer_in}
+use Rattle.q3_ends.specs.Recording.{RecordingState, note_taken}
 
 -- the server, and at its place each client with the address that its datagrams come from, and its recording, if one goes on
 pub record Ends : Type 0 where
@@ -97,54 +92,38 @@ set_port ends c port = set_port_of ends c port (place_at ends c)
 abbrev pub to_server : Ends → ServerStep → EndsStep
 to_server ends step = given (record ends { server = step.server }) step.answer
 
--- and so is each line that `line_of` doesn't name: with no step it never comes there
+-- and so is each line that `line_of` doesn't name and that names no client: with no step it never comes there
 abbrev pub game_step : Ends → Option ServerStep → EndsStep
 game_step ends (Some step) = to_server ends step
 game_step ends None = given ends Time
 
--- a line of a client, at its end, if it is there
-abbrev pub to_client : Ends → ℕ → HandedIn → (ClientState → ClientStep) → Option Place → EndsStep
-to_client ends c nobody line None = given ends nobody
-to_client ends c nobody line (Some place) = given (with_client ends c place (line place.client).client) (line place.client).answer
+-- the answer to a line of a client; with none it never comes there
+abbrev pub told_as : Option Answered → Answered
+told_as (Some answer) = answer
+told_as None = Given Time
 
-abbrev pub type_text : Ends → ℕ → List ℕ → EndsStep
-type_text ends c text = to_client ends c (TypeText c (Err untyped.NoClient)) (λ client. at_client.type_text client c text) (place_at ends c)
+-- a line of a client's own, at its end, if it is there
+abbrev pub client_step_of : Ends → ℕ → Event → Option Place → EndsStep
+client_step_of ends c event None = record { ends = ends; answer = told_as (unjoined event) }
+client_step_of ends c event (Some place) =
+    let line = client_line place.client place.recording event in
+    record {
+      ends = with_place ends c (record place { client = client_after place.client line; recording = recording_after place.recording line });
+      answer = told_as (answer_in line);
+    }
 
-abbrev pub add_move : Ends → ℕ → Move → EndsStep
-add_move ends c one = to_client ends c (Moved c (Err refused.NoClient)) (λ client. at_client.add_move client c one) (place_at ends c)
+abbrev pub client_step : Ends → ℕ → Event → EndsStep
+client_step ends c event = client_step_of ends c event (place_at ends c)
 
--- a client begins a recording into the file of a name, if it is there
-abbrev pub record_of : Ends → ℕ → List ℕ → Option Place → EndsStep
-record_of ends c name None = given ends (Recorded c (Err unrecorded.NoClient))
-record_of ends c name (Some place) =
-    let begun = begin_at place.client place.recording (new_recording name) in
-    given (with_place ends c (record place { recording = begun.recording })) (Recorded c begun.answer)
-
-abbrev pub record_to : Ends → ℕ → List ℕ → EndsStep
-record_to ends c name = record_of ends c name (place_at ends c)
-
--- and the recording of a client has its end
-abbrev pub stop_of : Ends → ℕ → Option Place → EndsStep
-stop_of ends c None = given ends (Stopped c (Err unstopped.NoClient))
-stop_of ends c (Some place) =
-    let stopped = stop_at place.recording in
-    given (with_place ends c (record place { recording = stopped.recording })) (Stopped c stopped.answer)
-
-abbrev pub stop : Ends → ℕ → EndsStep
-stop ends c = stop_of ends c (place_at ends c)
+-- a line of the client that it names, or of the game
+abbrev pub own_step : Ends → Event → Option ℕ → EndsStep
+own_step ends event (Some c) = client_step ends c event
+own_step ends event None = game_step ends (server_line ends.server event)
 
 -- the newest snapshot that a client accepted, if it is there
 abbrev pub newest : Option ClientState → Option Snapshot
 newest None = None
 newest (Some client) = newest_of client
-
--- a client is shown, and nothing changes
-abbrev pub showing_at : Option Place → Showing
-showing_at None = ShowsNobody
-showing_at (Some place) = showing place.client
-
-abbrev pub show : Ends → ℕ → EndsStep
-show ends c = record { ends = ends; answer = Shown c (showing_at (place_at ends c)) }
 
 -- ---- bytes come to an end
 
@@ -198,18 +177,13 @@ pub data Line : Type 0 where
 unfoldable pub line_of : Profile → Ends → Event → Line
 line_of profile ends (events.Client c challenge qport dup address) = Hands (join profile ends c challenge qport dup address)
 line_of profile ends (events.Port c port) = Hands (set_port ends c port)
-line_of profile ends (events.TypeText c text) = Hands (type_text ends c text)
-line_of profile ends (events.Move c one) = Hands (add_move ends c one)
 line_of profile ends (events.Serve c) = Serves c
 line_of profile ends (events.Send c) = Sends c
 line_of profile ends (events.Deliver number) = Delivers number
-line_of profile ends (events.RecordTo c name) = Hands (record_to ends c name)
-line_of profile ends (events.Stop c) = Hands (stop ends c)
-line_of profile ends (events.Show c) = Hands (show ends c)
 line_of profile ends (events.Bytes number) = TellsBytes number
 line_of profile ends (events.Toclient c bytes) = HandsBytes c (hand_client ends c bytes)
 line_of profile ends (events.Toserver c bytes) = HandsBytes c (hand_server ends c bytes)
-line_of profile ends game = Hands (game_step ends (server_line ends.server game))
+line_of profile ends other = Hands (own_step ends other (client_named other))
 
 -- the step of a line that hands something in, hands bytes to an end, or shows a client
 abbrev pub step_in : Line → Option EndsStep

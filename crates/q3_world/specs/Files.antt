@@ -8,7 +8,8 @@ use Rattle.q3_script.specs.declared.event.Event.{Event}
 use Rattle.q3_script.specs.declared.event.Event.TheVariants as events
 use Rattle.q3_server.specs.Server.{places}
 use Rattle.q3_client.specs.Client as takes
-use Rattle.q3_ends.specs.Recording.{new_recording, begin_at, stop_at, note_taken, HasFile, WritesFiles}
+use Rattle.q3_ends.specs.ClientLine.{client_line, client_named, acts_in}
+use Rattle.q3_ends.specs.Recording.{stop_at, note_taken, HasFile, WritesFiles}
 use Rattle.q3_world.specs.declared.made.Direction.{Direction}
 use Rattle.q3_world.specs.declared.made.Direction.TheVariants.{ToClient, ToServer}
 use Rattle.q3_world.specs.declared.places.Place.{Place}
@@ -17,10 +18,10 @@ use Rattle.q3_world.specs.declared.told.StepError.TheVariants.{NoMemory, WriteFa
 use Rattle.q3_world.specs.Ends.{Ends, place_at, recording_at}
 use Rattle.q3_world.specs.Kept.{SentBytes, Kept, kept_step}
 
--- a recording begins; it has its end; or it goes on by bytes that its client takes
-abbrev pub begin_acts : Option Place → List ℕ → List FileAct
-begin_acts None name = []
-begin_acts (Some place) name = (begin_at place.client place.recording (new_recording name)).acts
+-- a line of a client's own; its recording has its end; or it goes on by bytes that the client takes
+abbrev pub place_acts : Option Place → Event → List FileAct
+place_acts None event = []
+place_acts (Some place) event = acts_in (client_line place.client place.recording event)
 
 abbrev pub stop_acts : Option Place → List FileAct
 stop_acts None = []
@@ -39,12 +40,15 @@ abbrev pub deliver_acts : Ends → Option SentBytes → List FileAct
 deliver_acts ends None = []
 deliver_acts ends (Some sent) = arrive_acts ends sent sent.direction
 
+-- a line of the client that it names; any other does nothing to files
+abbrev pub own_acts : Ends → Event → Option ℕ → List FileAct
+own_acts ends event (Some c) = place_acts (place_at ends c) event
+own_acts ends event None = []
+
 -- what a line does to files that hands something in, or hands bytes to an end
 unfoldable pub line_acts : Ends → Event → List FileAct
-line_acts ends (events.RecordTo c name) = begin_acts (place_at ends c) name
-line_acts ends (events.Stop c) = stop_acts (place_at ends c)
 line_acts ends (events.Toclient c bytes) = take_acts (place_at ends c) bytes
-line_acts ends other = []
+line_acts ends other = own_acts ends other (client_named other)
 
 -- what an event does to files
 unfoldable pub acts_of : Kept → Event → List FileAct

@@ -1,13 +1,13 @@
 //! Both ends of every client, and what a line of a script does at them.
 
-ghost use Rattle.std.specs.Prelude.{◌≡◌, ◌<◌, ◌≤◌, ◌+◌, ◌-◌, [], length, slice_get, slice_set, vec_capacity, IfOk, IfSome, IsSome, IsErrOf, OnErr, OnOk};
+ghost use Rattle.std.specs.Prelude.{◌≡◌, ◌<◌, ◌≤◌, ◌+◌, ◌-◌, [], None, length, slice_get, slice_set, vec_capacity, IfOk, IfSome, IsSome, IsErrOf, OnErr, OnOk};
 ghost use Rattle.q3_profile.specs.Profile.{IsProfile, IsCodec};
 ghost use Rattle.q3_script.specs.Grammar.{IsReplayEvent};
 ghost use Rattle.q3_server.specs.Server.{places, emit_at};
-ghost use Rattle.q3_report.specs.Answers.{Given, Shown};
-ghost use Rattle.q3_report.specs.Tellings.{answered_of};
+ghost use Rattle.q3_report.specs.Answers.{Given};
 ghost use Rattle.q3_ends.specs.AtServer.{server_line};
-ghost use Rattle.q3_ends.specs.Recording.{new_recording, HasFile};
+ghost use Rattle.q3_ends.specs.ClientLine.{client_named, fresh_of};
+ghost use Rattle.q3_ends.specs.Recording.{HasFile};
 ghost use Rattle.q3_world.specs.Ends.{recording_at};
 
 use crate::made::{Direction, Made, keep};
@@ -15,21 +15,16 @@ use crate::places::{Place, no_places, put_place};
 use crate::told::{StepError, tell};
 use q3_bits::NoMemory;
 use q3_chan::{DATAGRAM_ROOM, Datagram};
-use q3_clmsg::Move;
 use q3_clstate::Log;
 use q3_counts::Counts;
-use q3_ends::client::show;
+use q3_ends::client::{client_named, fresh_for, unjoined};
 use q3_ends::recording::Recording;
 use q3_ends::server::{server_line, server_takes};
 use q3_io::{Address, Failed, Files, Sink};
 use q3_profile::Profile;
-use q3_report::{
-    Answer, Front, HandedIn, MoveRefused, RecordRefused, Shown, StopRefused, TakeRefused,
-    TypeRefused,
-};
+use q3_report::{Answer, Front, HandedIn, TakeRefused};
 use q3_script::Event;
 use q3_server::{Heard, MOST_SLOTS, NoClient, Server};
-use q3_text::Text;
 use std::alloc::Global;
 use std::marker::Model;
 
@@ -54,10 +49,10 @@ impl Model for Ends {
 }
 
 impl Ends {
-    ghost use Rattle.q3_world.specs.Ends.{place_at, new_ends, join, join_with, set_port, game_step, type_text, add_move, record_to, stop, show, client_takes, server_takes, hand_server, step_in, line_of};
+    ghost use Rattle.q3_world.specs.Ends.{place_at, new_ends, join, join_with, set_port, game_step, client_step, own_step, client_takes, server_takes, hand_server, step_in, line_of};
     ghost use Rattle.q3_world.specs.Kept.{Kept, most_datagrams, deliver_at, kept_serve, kept_send};
     ghost use Rattle.q3_world.specs.Doing.{Tells, EndsDo};
-    ghost use Rattle.q3_world.specs.Files.{AreNumbered, DoesFiles, without, ended, begin_acts, stop_acts, take_acts, deliver_acts, line_acts, ending_acts};
+    ghost use Rattle.q3_world.specs.Files.{AreNumbered, DoesFiles, without, ended, own_acts, place_acts, stop_acts, take_acts, deliver_acts, line_acts, ending_acts};
     ghost use Rattle.q3_world.specs.Outcome.{TakesMemory};
     ghost use Rattle.q3_ends.specs.Recording.{WritesFiles};
 
@@ -123,22 +118,6 @@ impl Ends {
                 let handed = self.set_port(*c, *port);
                 tell(&Answer::HandedIn(handed), counts, out)
             }
-            Event::TypeText { c, text } => {
-                let handed = self.type_text(*c, &text.text());
-                tell(&Answer::HandedIn(handed), counts, out)
-            }
-            Event::Move { c, one } => {
-                let handed = self.add_move(*c, one);
-                tell(&Answer::HandedIn(handed), counts, out)
-            }
-            Event::RecordTo { c, name } => {
-                let Ok(fresh) = Recording::new(alloc, &name.name()) else {
-                    return Err(StepError::NoMemory);
-                };
-                self.record(*c, fresh, numbers, counts, files, out)
-            }
-            Event::Stop { c } => self.stop(*c, numbers, counts, files, out),
-            Event::Show { c } => tell(&self.show(*c), counts, out),
             Event::Toclient { c, bytes } => {
                 let front = Front::Toclient { c: *c };
                 self.client_takes(front, *c, bytes.bytes(), numbers, log, counts, files, out)
@@ -146,7 +125,7 @@ impl Ends {
             Event::Toserver { c, bytes } => {
                 self.hand_server(*c, bytes.bytes(), heard, counts, out)
             }
-            _ => self.game_line(event, counts, out),
+            _ => self.own_line(alloc, event, numbers, counts, files, out),
         }
     }
 
@@ -220,112 +199,69 @@ impl Ends {
         tell(&Answer::HandedIn(handed), counts, out)
     }
 
-    /// A client issues a command.
-    fn type_text(&mut self, c: u8, text: &Text) -> HandedIn
-        requires { c < places }
-        ensures { type_text self.old c text.now ≡ record { ends = self.new; answer = Given result } }
+    /// A line of the client that it names, or of the game.
+    fn own_line<F: Files, O: Sink>(
+        &mut self,
+        alloc: Global,
+        event: &Event,
+        numbers: &mut [usize; 16],
+        counts: &mut Counts,
+        files: &mut F,
+        out: &mut O,
+    ) -> Result<(), StepError>
+        requires event { IsReplayEvent event.now }
+        requires line { client_named event.now ≡ None → IsSome (server_line self.old.server event.now) }
+        requires numbered { AreNumbered (F.told files.old) (F.given files.old) numbers.old self.old }
+        ensures does { EndsDo self.old self.new counts.old counts.new (O.written out.old) (O.written out.new)
+            (O.faults out.old) (O.faults out.new) (own_step self.old event.now (client_named event.now)) result }
+        ensures memory { IsErrOf result StepError.NoMemory → TakesMemory event.now }
+        ensures files { DoesFiles (F.told files.old) (F.told files.new) (F.given files.old) (F.given files.new)
+            (F.faults files.old) (F.faults files.new)
+            (F.write_faults files.old) (F.write_faults files.new)
+            (own_acts self.old event.now (client_named event.now)) result }
+        ensures numbered { AreNumbered (F.told files.new) (F.given files.new) numbers.new self.new }
+        ensures same { IsErrOf result StepError.NoMemory → numbers.new ≡ numbers.old }
     {
-        let Some(place) = &mut self.clients[c as usize] else {
-            return HandedIn::TypeText {
-                c,
-                outcome: Err(TypeRefused::NoClient),
-            };
+        let Some(c) = client_named(event) else {
+            return self.game_line(event, counts, out);
         };
-        place.type_text(c, text)
+        let Ok(fresh) = fresh_for(alloc, event) else {
+            return Err(StepError::NoMemory);
+        };
+        self.client_line(c, event, fresh, numbers, counts, files, out)
     }
 
-    /// A client issues a move.
-    fn add_move(&mut self, c: u8, one: &Move) -> HandedIn
-        requires { c < places }
-        ensures { add_move self.old c one.now ≡ record { ends = self.new; answer = Given result } }
-    {
-        let Some(place) = &mut self.clients[c as usize] else {
-            return HandedIn::Move {
-                c,
-                outcome: Err(MoveRefused::NoClient),
-            };
-        };
-        place.add_move(c, one)
-    }
-
-    /// A client begins this recording, if it is there.
-    fn record<F: Files, O: Sink>(
+    /// A line of a client's own, at its end, if it is there.
+    fn client_line<F: Files, O: Sink>(
         &mut self,
         c: u8,
-        fresh: Recording,
+        event: &Event,
+        fresh: Option<Recording>,
         numbers: &mut [usize; 16],
         counts: &mut Counts,
         files: &mut F,
         out: &mut O,
     ) -> Result<(), StepError>
         requires place { c < places }
-        requires fresh { fresh ≡ new_recording fresh.name }
+        requires line { IsSome (client_named event.now) }
+        requires fresh { fresh ≡ fresh_of event.now }
         requires numbered { AreNumbered (F.told files.old) (F.given files.old) numbers.old self.old }
         ensures does { EndsDo self.old self.new counts.old counts.new (O.written out.old) (O.written out.new)
-            (O.faults out.old) (O.faults out.new) (record_to self.old c fresh.name) result }
+            (O.faults out.old) (O.faults out.new) (client_step self.old c event.now) result }
         ensures memory { IsErrOf result StepError.NoMemory → ⊥ }
         ensures files { DoesFiles (F.told files.old) (F.told files.new) (F.given files.old) (F.given files.new)
             (F.faults files.old) (F.faults files.new)
             (F.write_faults files.old) (F.write_faults files.new)
-            (begin_acts (place_at self.old c) fresh.name) result }
+            (place_acts (place_at self.old c) event.now) result }
         ensures numbered { AreNumbered (F.told files.new) (F.given files.new) numbers.new self.new }
     {
         let Some(place) = &mut self.clients[c as usize] else {
-            let outcome = Err(RecordRefused::NoClient);
-            return tell(
-                &Answer::HandedIn(HandedIn::Record { c, outcome }),
-                counts,
-                out,
-            );
+            return tell(&unjoined(event), counts, out);
         };
         let mut number = numbers[c as usize];
-        let begun = place.record(fresh, &mut number, files);
+        let done = place.line(event, fresh, &mut number, counts, files, out);
         numbers[c as usize] = number;
-        let Ok(outcome) = begun else {
-            return Err(StepError::FileFault);
-        };
-        tell(
-            &Answer::HandedIn(HandedIn::Record { c, outcome }),
-            counts,
-            out,
-        )
-    }
-
-    /// A client's recording has its end, if the client is there.
-    fn stop<F: Files, O: Sink>(
-        &mut self,
-        c: u8,
-        numbers: &[usize; 16],
-        counts: &mut Counts,
-        files: &mut F,
-        out: &mut O,
-    ) -> Result<(), StepError>
-        requires place { c < places }
-        requires numbered { AreNumbered (F.told files.old) (F.given files.old) numbers.now self.old }
-        ensures does { EndsDo self.old self.new counts.old counts.new (O.written out.old) (O.written out.new)
-            (O.faults out.old) (O.faults out.new) (stop self.old c) result }
-        ensures memory { IsErrOf result StepError.NoMemory → ⊥ }
-        ensures files { DoesFiles (F.told files.old) (F.told files.new) (F.given files.old) (F.given files.new)
-            (F.faults files.old) (F.faults files.new)
-            (F.write_faults files.old) (F.write_faults files.new) (stop_acts (place_at self.old c)) result }
-        ensures numbered { AreNumbered (F.told files.new) (F.given files.new) numbers.now self.new }
-    {
-        let Some(place) = &mut self.clients[c as usize] else {
-            let outcome = Err(StopRefused::NoClient);
-            return tell(
-                &Answer::HandedIn(HandedIn::Stop { c, outcome }),
-                counts,
-                out,
-            );
-        };
-        let Ok(outcome) = place.stop(numbers[c as usize], files) else {
-            return Err(StepError::FileFault);
-        };
-        tell(
-            &Answer::HandedIn(HandedIn::Stop { c, outcome }),
-            counts,
-            out,
-        )
+        done
     }
 
     /// The recording of the client at a place has its end, if the client is there and one goes on.
@@ -368,18 +304,6 @@ impl Ends {
         ensures { length self.now.clients ≡ places }
     {
         let _clients = &self.clients;
-    }
-
-    /// What a client shows.
-    fn show(&self, c: u8) -> Answer<'_>
-        requires { c < places }
-        ensures { show self.now c ≡ record { ends = self.now; answer = answered_of result } }
-    {
-        let shown = match &self.clients[c as usize] {
-            None => Shown::NoClient,
-            Some(place) => show(&place.client),
-        };
-        Answer::Show { c, shown }
     }
 
     /// The client at a place takes bytes, if it is there, and records what it applied.

@@ -9,16 +9,15 @@ use crate::told::{StepError, tell};
 use q3_bits::NoMemory;
 use q3_chan::Datagram;
 use q3_client::{Client, Sent};
-use q3_clmsg::Move;
 use q3_clstate::Log;
 use q3_counts::Counts;
-use q3_ends::client::{add_move, type_text};
-use q3_ends::recording::{Recording, begin, emit, stop, take};
+use q3_ends::client::{client_line, line_answer};
+use q3_ends::recording::{Recording, emit, stop, take};
 use q3_io::{Address, Failed, Files, Sink};
 use q3_profile::Profile;
-use q3_report::{Answer, Front, HandedIn, RecordRefused, StopRefused, Taker};
+use q3_report::{Answer, Front, StopRefused, Taker};
+use q3_script::Event;
 use q3_server::MOST_SLOTS;
-use q3_text::Text;
 use std::alloc::Global;
 
 /// A client, at its own end.
@@ -34,11 +33,12 @@ pub struct Place {
 impl Place {
     ghost use Rattle.q3_profile.specs.Profile.{IsProfile};
     ghost use Rattle.q3_client.specs.Client.{new_client, take_at};
-    ghost use Rattle.std.specs.Prelude.{OnOk, IfOk, IsErrOf};
-    ghost use Rattle.q3_ends.specs.AtClient.{type_text, add_move, taken_by_client};
-    ghost use Rattle.q3_ends.specs.Recording.{new_recording, begin_at, stop_at, note_taken, asking, HasFile, WritesFiles};
+    ghost use Rattle.std.specs.Prelude.{OnOk, IfOk, IsErrOf, IsSome};
+    ghost use Rattle.q3_ends.specs.AtClient.{taken_by_client};
+    ghost use Rattle.q3_ends.specs.ClientLine.{client_line, client_named, fresh_of, acts_in};
+    ghost use Rattle.q3_ends.specs.Recording.{stop_at, note_taken, asking, HasFile, WritesFiles};
     ghost use Rattle.q3_demo.specs.Recorder.{done};
-    ghost use Rattle.q3_world.specs.Doing.{Tells, TakesAt};
+    ghost use Rattle.q3_world.specs.Doing.{Tells, LineAt, TakesAt};
     ghost use Rattle.q3_world.specs.Files.{DoesFiles};
 
     /// A new client, which sends from this address and records nothing. `Err` is want of memory.
@@ -64,41 +64,40 @@ impl Place {
         })
     }
 
-    /// The client issues a command.
-    pub(crate) fn type_text(&mut self, c: u8, text: &Text) -> HandedIn
-        ensures place { self.new ≡ record self.old { client = (type_text self.old.client c text.now).client } }
-        ensures answer { result ≡ (type_text self.old.client c text.now).answer }
-    {
-        type_text(&mut self.client, c, text)
-    }
-
-    /// The client issues a move.
-    pub(crate) fn add_move(&mut self, c: u8, one: &Move) -> HandedIn
-        ensures place { self.new ≡ record self.old { client = (add_move self.old.client c one.now).client } }
-        ensures answer { result ≡ (add_move self.old.client c one.now).answer }
-    {
-        add_move(&mut self.client, c, one)
-    }
-
-    /// The client begins this recording, whose file gets a number.
-    pub(crate) fn record<F: Files>(
+    /// The client does a line of its own, and its answer is told. `fresh` is the recording that the line would begin, and `number`
+    /// that of the recording's file, also after it.
+    pub(crate) fn line<F: Files, O: Sink>(
         &mut self,
-        fresh: Recording,
+        event: &Event,
+        fresh: Option<Recording>,
         number: &mut usize,
+        counts: &mut Counts,
         files: &mut F,
-    ) -> Result<Result<(), RecordRefused>, Failed>
+        out: &mut O,
+    ) -> Result<(), StepError>
+        requires line { IsSome (client_named event.now) }
+        requires fresh { fresh ≡ fresh_of event.now }
         requires file { HasFile (F.told files.old) (F.given files.old) number.old self.old.recording }
-        ensures kept { self.new ≡ record self.old { recording = self.new.recording } }
-        ensures recording { OnOk result (self.new.recording
-            ≡ (begin_at self.old.client self.old.recording fresh).recording) }
-        ensures answer { IfOk result (λ answer. answer ≡ (begin_at self.old.client self.old.recording fresh).answer) }
-        ensures files { WritesFiles (F.told files.old) (F.told files.new) (F.given files.old) (F.given files.new)
+        ensures does { LineAt self.old (client_line self.old.client self.old.recording event.now) self.new
+            counts.old counts.new (O.written out.old) (O.written out.new)
+            (O.faults out.old) (O.faults out.new) result }
+        ensures files { DoesFiles (F.told files.old) (F.told files.new) (F.given files.old) (F.given files.new)
             (F.faults files.old) (F.faults files.new)
             (F.write_faults files.old) (F.write_faults files.new)
-            (begin_at self.old.client self.old.recording fresh).acts (done result) }
+            (acts_in (client_line self.old.client self.old.recording event.now)) result }
         ensures file { HasFile (F.told files.new) (F.given files.new) number.new self.new.recording }
     {
-        begin(&self.client, &mut self.recording, fresh, number, files)
+        let Ok(answer) = client_line(
+            &mut self.client,
+            &mut self.recording,
+            event,
+            fresh,
+            number,
+            files,
+        ) else {
+            return Err(StepError::FileFault);
+        };
+        tell(&line_answer(&self.client, answer), counts, out)
     }
 
     /// The client's recording has its end.

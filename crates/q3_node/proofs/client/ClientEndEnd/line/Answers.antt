@@ -1,4 +1,4 @@
-use Rattle.std.proofs.Common.{rules, refl, sym}
+use Rattle.std.proofs.Common.{rules, refl}
 use Rattle.q3_node.proofs.Parts.{memory_stays, nothing_done}
 use Rattle.q3_node.proofs.Joining.{other_line}
 use Rattle.q3_node.proofs.client.ClientEndEnd.line.Goals as goal
@@ -9,18 +9,6 @@ returns-in-Send-clause-does g c = rw c.in-Send.is (c.send.ensures.does (g.F.File
 pub returns-in-Send-clause-file_cause : goal.returns-in-Send-clause-file_cause
 returns-in-Send-clause-file_cause g c = c.send.ensures.file_cause (g.F.Files.write_faults c.args.files.now)
 
-pub returns-in-RecordTo-clause-does : goal.returns-in-RecordTo-clause-does
-returns-in-RecordTo-clause-does g c = rw (c.in-RecordTo.is, sym c.name.ensures) (c.record.ensures.does (g.W.Wire.told c.args.wire.now))
-
-pub returns-in-RecordTo-clause-wire_cause : goal.returns-in-RecordTo-clause-wire_cause
-returns-in-RecordTo-clause-wire_cause g c = c.record.ensures.wire_cause (g.W.Wire.faults c.args.wire.now)
-
-pub returns-in-Stop-clause-does : goal.returns-in-Stop-clause-does
-returns-in-Stop-clause-does g c = rw c.in-Stop.is (c.stop.ensures.does (g.W.Wire.told c.args.wire.now))
-
-pub returns-in-Stop-clause-wire_cause : goal.returns-in-Stop-clause-wire_cause
-returns-in-Stop-clause-wire_cause g c = c.stop.ensures.wire_cause (g.W.Wire.faults c.args.wire.now)
-
 pub returns-in-End-clause-does : goal.returns-in-End-clause-does
 returns-in-End-clause-does g c = rw c.in-End.is (c.finish.ensures.does (g.O.Sink.written c.args.out.now) (g.W.Wire.told c.args.wire.now))
 
@@ -29,19 +17,6 @@ returns-in-End-clause-wire_cause g c = c.finish.ensures.wire_cause (g.W.Wire.fau
 
 pub returns-in-End-clause-write_cause : goal.returns-in-End-clause-write_cause
 returns-in-End-clause-write_cause g c = c.finish.ensures.write_cause (g.O.Sink.faults c.args.out.now)
-
-pub returns-in-Show-clause-does : goal.returns-in-Show-clause-does
-returns-in-Show-clause-does g c =
-    let told = c.tell_line.ensures.told (g.W.Wire.told c.args.wire.now) in
-    let files = c.tell_line.ensures.files (g.F.Files.told c.args.files.now) in
-    let memory = memory_stays c.tell_line.result c.tell_line.ensures.only in
-    rw c.in-Show.is (search rules)
-
-pub returns-in-Show-clause-wire_cause : goal.returns-in-Show-clause-wire_cause
-returns-in-Show-clause-wire_cause g c = c.tell_line.ensures.wire_cause (g.W.Wire.faults c.args.wire.now)
-
-pub returns-in-Show-clause-file_cause : goal.returns-in-Show-clause-file_cause
-returns-in-Show-clause-file_cause g c = c.tell_line.ensures.file_cause (g.F.Files.write_faults c.args.files.now)
 
 pub returns-in-Client-clause-does : goal.returns-in-Client-clause-does
 returns-in-Client-clause-does g c =
@@ -55,32 +30,6 @@ returns-in-Client-clause-wire_cause g c = c.tell_line-in-Client.ensures.wire_cau
 
 pub returns-in-Client-clause-file_cause : goal.returns-in-Client-clause-file_cause
 returns-in-Client-clause-file_cause g c = c.tell_line-in-Client.ensures.file_cause (g.F.Files.write_faults c.args.files.now)
-
-pub returns-in-TypeText-clause-does : goal.returns-in-TypeText-clause-does
-returns-in-TypeText-clause-does g c =
-    let told = c.tell_line-in-TypeText.ensures.told (g.W.Wire.told c.args.wire.now) in
-    let files = c.tell_line-in-TypeText.ensures.files (g.F.Files.told c.args.files.now) in
-    let memory = memory_stays c.tell_line-in-TypeText.result c.tell_line-in-TypeText.ensures.only in
-    rw c.in-TypeText.is (search rules)
-
-pub returns-in-TypeText-clause-wire_cause : goal.returns-in-TypeText-clause-wire_cause
-returns-in-TypeText-clause-wire_cause g c = c.tell_line-in-TypeText.ensures.wire_cause (g.W.Wire.faults c.args.wire.now)
-
-pub returns-in-TypeText-clause-file_cause : goal.returns-in-TypeText-clause-file_cause
-returns-in-TypeText-clause-file_cause g c = c.tell_line-in-TypeText.ensures.file_cause (g.F.Files.write_faults c.args.files.now)
-
-pub returns-in-Move-clause-does : goal.returns-in-Move-clause-does
-returns-in-Move-clause-does g c =
-    let told = c.tell_line-in-Move.ensures.told (g.W.Wire.told c.args.wire.now) in
-    let files = c.tell_line-in-Move.ensures.files (g.F.Files.told c.args.files.now) in
-    let memory = memory_stays c.tell_line-in-Move.result c.tell_line-in-Move.ensures.only in
-    rw c.in-Move.is (search rules)
-
-pub returns-in-Move-clause-wire_cause : goal.returns-in-Move-clause-wire_cause
-returns-in-Move-clause-wire_cause g c = c.tell_line-in-Move.ensures.wire_cause (g.W.Wire.faults c.args.wire.now)
-
-pub returns-in-Move-clause-file_cause : goal.returns-in-Move-clause-file_cause
-returns-in-Move-clause-file_cause g c = c.tell_line-in-Move.ensures.file_cause (g.F.Files.write_faults c.args.files.now)
 
 pub returns-in_default : goal.returns-in_default
 returns-in_default g c =
