@@ -1,6 +1,6 @@
 //! A client at its end of a wire.
 
-ghost use Rattle.std.specs.Prelude.{◌≡◌, IfOk};
+ghost use Rattle.std.specs.Prelude.{◌≡◌, ◌≤◌, IfOk};
 ghost use Rattle.q3_profile.specs.Profile.{IsProfile};
 ghost use Rattle.q3_client.specs.Client.{new_client};
 ghost use Rattle.q3_ends.specs.Recording.{HasFile};
@@ -163,6 +163,7 @@ impl ClientEnd {
         ensures write_cause { WriteCause (O.faults out.old) (O.faults out.new) result }
         ensures file_cause { FileCause (F.write_faults files.old) (F.write_faults files.new) result }
         ensures reads { F.faults files.new ≡ F.faults files.old }
+        ensures numbers { F.given files.old ≤ F.given files.new }
     {
         let fresh = Recording::new(alloc, name)?;
         let Ok(outcome) = recording::begin(&self.client, &mut self.recording, fresh, file, files)
@@ -190,6 +191,7 @@ impl ClientEnd {
         ensures write_cause { WriteCause (O.faults out.old) (O.faults out.new) result }
         ensures file_cause { FileCause (F.write_faults files.old) (F.write_faults files.new) result }
         ensures reads { F.faults files.new ≡ F.faults files.old }
+        ensures numbers { F.given files.old ≤ F.given files.new }
     {
         let Ok(outcome) = recording::stop(&mut self.recording, file, files) else {
             return Err(NodeError::FileFault);
@@ -207,6 +209,7 @@ impl ClientEnd {
         ensures write_cause { (faults : ℕ) → WriteCause faults faults result }
         ensures file_cause { FileCause (F.write_faults files.old) (F.write_faults files.new) result }
         ensures reads { F.faults files.new ≡ F.faults files.old }
+        ensures numbers { F.given files.old ≤ F.given files.new }
     {
         match recording::stop(&mut self.recording, file, files) {
             Ok(_) => Ok(false),
