@@ -1,6 +1,6 @@
 //! A client at its end of a wire.
 
-ghost use Rattle.std.specs.Prelude.{◌≡◌, IfOk, IsSome};
+ghost use Rattle.std.specs.Prelude.{◌≡◌, ◌≤◌, IfOk, IsSome};
 ghost use Rattle.q3_profile.specs.Profile.{IsProfile};
 ghost use Rattle.q3_client.specs.Client.{new_client};
 ghost use Rattle.q3_ends.specs.ClientLine.{client_line, client_named};
@@ -164,6 +164,7 @@ impl ClientEnd {
         ensures write_cause { WriteCause (O.faults out.old) (O.faults out.new) result }
         ensures file_cause { FileCause (F.write_faults files.old) (F.write_faults files.new) result }
         ensures reads { F.faults files.new ≡ F.faults files.old }
+        ensures numbers { F.given files.old ≤ F.given files.new }
     {
         let fresh = fresh_for(alloc, event)?;
         let Ok(answer) = client_line(
@@ -189,6 +190,7 @@ impl ClientEnd {
         ensures write_cause { (faults : ℕ) → WriteCause faults faults result }
         ensures file_cause { FileCause (F.write_faults files.old) (F.write_faults files.new) result }
         ensures reads { F.faults files.new ≡ F.faults files.old }
+        ensures numbers { F.given files.old ≤ F.given files.new }
     {
         match recording::stop(&mut self.recording, file, files) {
             Ok(_) => Ok(false),

@@ -1,6 +1,6 @@
 //! What a node asks of its end.
 
-ghost use Rattle.std.specs.Prelude.{◌≡◌, ℕ, true, [], Option, None, Some, OnOk, IfErr, IsErrOf};
+ghost use Rattle.std.specs.Prelude.{◌≡◌, ◌≤◌, ℕ, true, [], Option, None, Some, OnOk, IfErr, IsErrOf};
 ghost use Rattle.q3_io.specs.Told.{Told};
 ghost use Rattle.q3_io.specs.Traffic.{Traffic};
 ghost use Rattle.q3_io.specs.Written.{NothingWaits};
@@ -50,7 +50,8 @@ pub(crate) trait End {
         ensures wire_cause { WireCause (W.faults wire.old) (W.faults wire.new) result }
         ensures write_cause { WriteCause (O.faults out.old) (O.faults out.new) result }
         ensures file_cause { FileCause (F.write_faults files.old) (F.write_faults files.new) result }
-        ensures reads { F.faults files.new ≡ F.faults files.old };
+        ensures reads { F.faults files.new ≡ F.faults files.old }
+        ensures numbers { F.given files.old ≤ F.given files.new };
 
     /// Takes an arrival, and tells what it made of it.
     fn arrive<F: Files, O: Sink>(
@@ -68,7 +69,8 @@ pub(crate) trait End {
         ensures flushed { OnOk result (NothingWaits (O.written out.new)) }
         ensures write_cause { WriteCause (O.faults out.old) (O.faults out.new) result }
         ensures file_cause { FileCause (F.write_faults files.old) (F.write_faults files.new) result }
-        ensures reads { F.faults files.new ≡ F.faults files.old };
+        ensures reads { F.faults files.new ≡ F.faults files.old }
+        ensures numbers { F.given files.old ≤ F.given files.new };
 }
 
 /// Prints the lines of an answer, and hands them on.

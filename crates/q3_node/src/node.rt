@@ -66,7 +66,7 @@ pub fn serve_loop<W: Wire, C: Clock, O: Sink>(
 }
 
 /// Runs a client of the server at `server`, likewise. The client is that of the first line. An arrival from another address isn't
-/// taken. What it records is written to `files`; memory may be wanted at a line `record` too.
+/// taken. What it records is written to `files`, of which no number is taken back; memory may be wanted at a line `record` too.
 pub fn join_loop<F: Files, W: Wire, C: Clock, O: Sink>(
     alloc: Global,
     profile: &Profile,
@@ -94,6 +94,7 @@ pub fn join_loop<F: Files, W: Wire, C: Clock, O: Sink>(
     ensures write_cause { WriteCause (O.faults out.old) (O.faults out.new) result }
     ensures file_cause { FileCause (F.write_faults files.old) (F.write_faults files.new) result }
     ensures reads { F.faults files.new ≡ F.faults files.old }
+    ensures numbers { F.given files.old ≤ F.given files.new }
     ensures no_memory { IsErrOf result NodeError.NoMemory → W.bound wire.new ≡ false → wire.new ≡ wire.old }
 {
     events_are_in_range();
@@ -126,6 +127,7 @@ fn run<E: End, F: Files, W: Wire, C: Clock, O: Sink>(
     ensures write_cause { WriteCause (O.faults out.old) (O.faults out.new) result }
     ensures file_cause { FileCause (F.write_faults files.old) (F.write_faults files.new) result }
     ensures reads { F.faults files.new ≡ F.faults files.old }
+    ensures numbers { F.given files.old ≤ F.given files.new }
     ensures no_memory { IsErrOf result NodeError.NoMemory → W.bound wire.new ≡ false → wire.new ≡ wire.old }
 {
     let mut buffer = vec![in alloc; 0; RECEIVE_ROOM]?;

@@ -142,6 +142,7 @@ pub(crate) fn run_turns<E: End, F: Files, W: Wire, C: Clock, O: Sink>(
     ensures write_cause { WriteCause (O.faults out.old) (O.faults out.new) result }
     ensures file_cause { FileCause (F.write_faults files.old) (F.write_faults files.new) result }
     ensures reads { F.faults files.new ≡ F.faults files.old }
+    ensures numbers { F.given files.old ≤ F.given files.new }
 {
     laws::texts_follow();
     let mut course = Course::new();
@@ -197,6 +198,7 @@ fn turn<E: End, F: Files, W: Wire, C: Clock, O: Sink>(
     ensures write_cause { WriteCause (O.faults out.old) (O.faults out.new) result }
     ensures file_cause { FileCause (F.write_faults files.old) (F.write_faults files.new) result }
     ensures reads { F.faults files.new ≡ F.faults files.old }
+    ensures numbers { F.given files.old ≤ F.given files.new }
 {
     let ms = course.since_start(clock.now());
     match course.next_due(events, ms) {
@@ -234,6 +236,7 @@ fn do_line<E: End, F: Files, W: Wire, O: Sink>(
     ensures write_cause { WriteCause (O.faults out.old) (O.faults out.new) result }
     ensures file_cause { FileCause (F.write_faults files.old) (F.write_faults files.new) result }
     ensures reads { F.faults files.new ≡ F.faults files.old }
+    ensures numbers { F.given files.old ≤ F.given files.new }
 {
     let made = end.line(alloc, event, course.made + 1, file, files, wire, out)?;
     course.go_on(event, made);
@@ -264,6 +267,7 @@ fn receive<E: End, F: Files, W: Wire, O: Sink>(
     ensures write_cause { WriteCause (O.faults out.old) (O.faults out.new) result }
     ensures file_cause { FileCause (F.write_faults files.old) (F.write_faults files.new) result }
     ensures reads { F.faults files.new ≡ F.faults files.old }
+    ensures numbers { F.given files.old ≤ F.given files.new }
 {
     laws::texts_follow();
     let Ok(found) = wire.receive(buffer) else {

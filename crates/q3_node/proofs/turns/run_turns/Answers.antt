@@ -20,6 +20,7 @@ loop-init g c = record {
   sink = refl;
   writes = refl;
   reads = refl;
+  numbers = omega arith;
 }
 
 pub returns-in_err-turn-clause-ran : goal.returns-in_err-turn-clause-ran
@@ -69,6 +70,7 @@ loop-preserved g c = record {
   sink = grind (arith, common_steps);
   writes = grind (arith, common_steps);
   reads = grind (arith, common_steps);
+  numbers = grind (arith, common_steps);
 }
 
 pub returns-clause-ran : goal.returns-clause-ran

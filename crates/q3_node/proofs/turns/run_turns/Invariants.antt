@@ -1,4 +1,4 @@
-use Rattle.std.proofs.Common.{◌≡◌, ◌-◌, length, true}
+use Rattle.std.proofs.Common.{◌≡◌, ◌≤◌, ◌-◌, length, true}
 use Rattle.q3_io.specs.Written.{NothingWaits}
 use Rattle.q3_ends.specs.Recording.{HasFile}
 use Rattle.q3_node.specs.Node.{most_turns, new_node, receive_room}
@@ -19,4 +19,5 @@ invariant-loop g l = record {
   sink : g.O.Sink.faults l.out ≡ g.O.Sink.faults l.initial.out;
   writes : g.F.Files.write_faults l.files ≡ g.F.Files.write_faults l.initial.files;
   reads : g.F.Files.faults l.files ≡ g.F.Files.faults l.initial.files;
+  numbers : g.F.Files.given l.initial.files ≤ g.F.Files.given l.files;
 }

@@ -1,4 +1,4 @@
-use Rattle.std.proofs.Common.{rules, refl}
+use Rattle.std.proofs.Common.{rules, refl, arith}
 use Rattle.q3_node.proofs.Parts.{memory_stays, nothing_done}
 use Rattle.q3_node.proofs.Joining.{other_line}
 use Rattle.q3_node.proofs.client.ClientEndEnd.line.Goals as goal
@@ -45,4 +45,5 @@ returns-in_default g c =
       write_cause = refl;
       file_cause = refl;
       reads = refl;
+      numbers = omega arith;
     }
