@@ -110,17 +110,18 @@ recording_bytes messages = bytes_from Waits messages
 pub record Tailed (bytes : List ℕ) (records : List Record) : Type 0 where
   pub tail : List ℕ
   pub ends : IsTail tail
+  pub few : length tail ≤ 8
   pub whole : bytes ≡ bytes_of records ++ tail
 
 tailed : (stage : Stage) (bytes : List ℕ) (records : List Record) → bytes ++ closing stage ≡ bytes_of records ++ end_bytes → Tailed bytes records
-tailed Ended bytes records same = record { tail = end_bytes; ends = end_is_tail; whole = sym (append-nil bytes) ∙ same }
+tailed Ended bytes records same = record { tail = end_bytes; ends = end_is_tail; few = omega arith; whole = sym (append-nil bytes) ∙ same }
 tailed Waits bytes records same =
-    record { tail = []; ends = none_is_tail; whole = append_cancel_right bytes (bytes_of records) end_bytes same ∙ sym (append-nil (bytes_of records)) }
+    record { tail = []; ends = none_is_tail; few = omega arith; whole = append_cancel_right bytes (bytes_of records) end_bytes same ∙ sym (append-nil (bytes_of records)) }
 tailed (Runs first) bytes records same =
-    record { tail = []; ends = none_is_tail; whole = append_cancel_right bytes (bytes_of records) end_bytes same ∙ sym (append-nil (bytes_of records)) }
+    record { tail = []; ends = none_is_tail; few = omega arith; whole = append_cancel_right bytes (bytes_of records) end_bytes same ∙ sym (append-nil (bytes_of records)) }
 
 pub written_tailed : (over : Bool) (messages : List Noted) → Tailed (written_of over messages) (records_from Waits messages)
-written_tailed true messages = record { tail = end_bytes; ends = end_is_tail; whole = recording_bytes messages }
+written_tailed true messages = record { tail = end_bytes; ends = end_is_tail; few = omega arith; whole = recording_bytes messages }
 written_tailed false messages = tailed (noted_from Waits messages).stage (noted_from Waits messages).bytes (records_from Waits messages) (bytes_from Waits messages)
 
 -- ---- how many they are

@@ -1,5 +1,5 @@
 -- What the records of a demo do, by its bytes.
-use Rattle.std.proofs.Common.{◌≡◌, ℕ, zero, suc, ◌+◌, ◌-◌, ◌<◌, ◌≤◌, List, [], ◌∷◌, ◌++◌, length, take, drop, Option, Some, None, Result, Ok, refl, sym, ap, ◌∙◌, arith, append_assoc}
+use Rattle.std.proofs.Common.{◌≡◌, ℕ, zero, suc, ◌+◌, ◌-◌, ◌*◌, ◌<◌, ◌≤◌, List, [], ◌∷◌, ◌++◌, length, take, drop, Option, Some, None, Result, Ok, refl, sym, ap, ◌∙◌, arith, append_assoc}
 use Rattle.std.specs.Prelude.{flat_map}
 use Rattle.std.specs.Result.{result_ok}
 use Rattle.std.proofs.lemmas.List.{length-append, length-drop, drop-drop, drop_at, take_at}
@@ -51,6 +51,13 @@ head_of number message rest below short = record {
 
 long_record : (number : ℕ) (message : List ℕ) → length (record_bytes number message) ≡ head_bytes + length message
 long_record number message = omega arith
+
+-- each takes a head and 16,384 bytes at most
+pub bytes_short : (state : AppliedState) (last : ℕ) (records : List Record) (applied : List Application) → Does state last records applied → length (bytes_of records) ≤ 16392 * length records
+bytes_short state last [] applied does = omega arith
+bytes_short state last (r ∷ records) [] does = absurd does
+bytes_short state last (r ∷ records) (a ∷ applied) does =
+    omega (arith, does.2, bytes_short a.state r.number records applied does.4, long_record r.number r.message, length-append (record_bytes r.number r.message) (bytes_of records))
 
 -- a record follows what was played, and the others follow it
 record Next (demo : List ℕ) (played : Played) (r : Record) (rest : List ℕ) : Type 0 where

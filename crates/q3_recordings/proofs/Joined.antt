@@ -1,5 +1,5 @@
 -- What a client's node applies after the turn that begins its recording may be noted.
-use Rattle.std.proofs.Common.{◌≡◌, ℕ, zero, suc, ◌+◌, ◌-◌, ◌<◌, ◌≤◌, Bool, true, false, List, [], ◌++◌, length, Option, Some, None, Result, Ok, Err, refl, sym, ap, subst, arith}
+use Rattle.std.proofs.Common.{◌≡◌, ℕ, zero, suc, ◌+◌, ◌-◌, ◌<◌, Bool, true, false, List, [], ◌++◌, length, Option, Some, None, Result, Ok, Err, refl, sym, ap, subst, arith}
 use Rattle.std.specs.Prelude.{◌&&◌, if◌then◌else◌}
 use Rattle.std.specs.Result.{is_ok}
 use Rattle.std.specs.Str.{bytes_eq}
@@ -19,7 +19,6 @@ use Rattle.q3_report.specs.declared.answer.Front.TheVariants.{Arrive}
 use Rattle.q3_report.specs.declared.answer.TakeRefused.TheVariants.{Stranger}
 use Rattle.q3_report.specs.Answers.{Untaken}
 use Rattle.q3_demo.specs.declared.recorder.Stage.TheVariants.{Waits}
-use Rattle.q3_demo.specs.Records.{most_bytes}
 use Rattle.q3_demo.specs.Recording.{Noted}
 use Rattle.q3_ends.specs.Recording.{begin_at, new_recording, waits_in}
 use Rattle.q3_node.specs.AtClient.{ClientEnd, client_rules, is_address, line_done, new_end, took}
@@ -27,7 +26,7 @@ use Rattle.q3_node.specs.Node.{Arrived, Node, arrivals_after, cut_to_room, new_n
 use Rattle.q3_world.specs.StandsFor.{IsChecked}
 use Rattle.q3_schedules.specs.NodeRecorded.{applied_in, begins_it, ends_it, has_end, left_in, line_at, noted_turn, written_of}
 use Rattle.q3_schedules.specs.Recorded.{noted_of}
-use Rattle.q3_recordings.specs.Plays.{recorded_from, AreNoted, AreBy, PlaysTo, RecordingPlays}
+use Rattle.q3_recordings.specs.Plays.{IsShort, recorded_from, AreNoted, AreBy, PlaysTo, RecordingPlays}
 use Rattle.q3_recordings.specs.Joins.{noted_in, JoinPlays}
 use Rattle.q3_recordings.proofs.Sound.{IsSound, Keeps, keeps_same}
 use Rattle.q3_recordings.proofs.AtPlace.{ClientLaws, Becomes}
@@ -193,7 +192,7 @@ plays_so laws plays profile count c challenge qport dup server events readings a
     let noted = all_noted laws profile checked name count node readings arrivals (is.joins challenge qport dup) in
     let written = all_written name count node readings arrivals demo left in
     subst (λ (demo : List ℕ). PlaysTo profile demo (recorded_from Waits messages)) (sym written.is)
-    (plays profile messages written.over noted.are noted.by told (subst (λ (demo : List ℕ). length demo ≤ most_bytes) written.is short) few)
+    (plays profile messages written.over noted.are noted.by told (subst (λ (demo : List ℕ). IsShort demo (length messages)) written.is short) few)
 
 pub join_plays : RecordingPlays → ReadIsSpelled → ApplyStays → AppliedIsContext → AppliesItsMessage → JoinPlays
 join_plays plays read stays contexts applies = plays_so (record { read = read; stays = stays; contexts = contexts; applies = applies }) plays

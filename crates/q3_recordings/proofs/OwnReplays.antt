@@ -226,7 +226,8 @@ own_plays law laws plays profile first rest c name checked are answer short few 
     let tell = after_said IsScheduled Tells laws profile checked
     (λ done c client are lt at has. told_by (server_id client.state.strings) client.state.id (law profile done c client checked are lt at has)) first rest c name are lt answer in
     let count = few_applied (kept_recording profile first c name) rest c in
-    plays profile first rest c name checked answer (begins_told messages tell) short (omega (arith, count, few))
+    plays profile first rest c name checked answer (begins_told messages tell)
+    (elim short [ inl long ↦ inl long | inr fewer ↦ inr (omega (arith, count, fewer)) ]) (omega (arith, count, few))
 
 pub own_replay_plays : StringsTellId → ReplayPlays → Laws → OwnReplayPlays
 own_replay_plays law plays laws = own_plays law laws plays

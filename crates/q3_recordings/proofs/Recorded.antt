@@ -1,6 +1,7 @@
 -- What a recording's records do, one after the other.
-use Rattle.std.proofs.Common.{◌≡◌, ℕ, ◌+◌, ◌-◌, ◌<◌, ◌≤◌, Bool, true, false, List, [], ◌∷◌, ◌++◌, length, map, Option, Some, None, refl, sym, ap, subst, ◌∙◌, arith}
+use Rattle.std.proofs.Common.{◌≡◌, ℕ, ◌+◌, ◌-◌, ◌<◌, ◌≤◌, Bool, true, false, List, [], ◌∷◌, ◌++◌, length, map, Option, Some, None, refl, sym, ap, subst, ◌∙◌, inl, inr, arith}
 use Rattle.std.specs.Prelude.{if◌then◌else◌}
+use Rattle.std.proofs.lemmas.List.{length-append}
 use Rattle.std.proofs.lemmas.Bool.{cond_both}
 use Rattle.q3_bits.specs.Laws.{MessageHoldsBits, MessageIsBytes}
 use Rattle.q3_text.specs.declared.text.Command.{Command}
@@ -21,7 +22,7 @@ use Rattle.q3_demo.specs.Records.{longest_record, number_end, most_bytes}
 use Rattle.q3_demo.specs.Recording.{composed, game_bits, whole_of, whole_bits, Noting, goes_on, recomposed, begins, is_whole, is_before, composed_whole, Noted}
 use Rattle.q3_demo.specs.Playing.{play_of, last_played}
 use Rattle.q3_recordings.specs.Plays.{IsNoted, Follows, AreNoted, recorded_with, recorded_from, applied_of, game_first, number_before_first, number_in, accepted_in, heard_in, BeginsTold, BeginsWhole, AreBy, LeftAs, LeftBy, RecordingPlays}
-use Rattle.q3_recordings.proofs.DemoBytes.{Record, Does, state_after, bytes_of, demo_plays}
+use Rattle.q3_recordings.proofs.DemoBytes.{Record, Does, state_after, bytes_of, bytes_short, demo_plays}
 use Rattle.q3_recordings.proofs.Composed.{begins_with, goes_with, none_ended, records_from, written_tailed, records_few}
 use Rattle.q3_recordings.proofs.ComposedGames.{told_in, told_applies, game_short}
 use Rattle.q3_recordings.proofs.ComposedWhole.{whole_applies, whole_short}
@@ -288,8 +289,12 @@ plays_to laws profile messages over are by told short few =
     let records = records_from Waits messages in
     let tailed = written_tailed over messages in
     let bytes = tailed.whole in
-    let room : length (bytes_of records ++ tailed.tail) ≤ most_bytes = subst (λ (demo : List ℕ). length demo ≤ most_bytes) bytes short in
     let count = records_few messages in
+    let room : length (bytes_of records ++ tailed.tail) ≤ most_bytes = elim short [
+      | inl long ↦ subst (λ (demo : List ℕ). length demo ≤ most_bytes) bytes long
+      | inr fewer ↦
+          omega (arith, bytes_short (new_state profile) 0 records on.applied on.does, tailed.few, count, fewer, length-append (bytes_of records) tailed.tail)
+    ] in
     let plays = demo_plays profile records on.applied tailed.tail tailed.ends on.does room (omega (arith, count, few)) in
     record {
       ending = ap (λ (demo : List ℕ). (play_of profile demo).ending) bytes ∙ plays.1;

@@ -1,9 +1,11 @@
 -- What the demo plays to that a client recorded.
 use Rattle.std.specs.Prelude.{◌≡◌, ◌⊎◌, ℕ, zero, suc, ◌-◌, ◌^◌, ◌<◌, ◌≤◌, if◌then◌else◌, Bool, true, List, [], ◌∷◌, ◌++◌, length, map, Option, Some, None, IsSome, Result, Ok}
 use Rattle.std.specs.Result.{result_ok}
+use Rattle.q3_bits.specs.Bits.{message_length}
 use Rattle.q3_text.specs.declared.text.Command.{Command}
 use Rattle.q3_config.specs.Strings.{server_id}
 use Rattle.q3_profile.specs.declared.profile.Profile.{Profile}
+use Rattle.q3_svmsg.specs.Values.{Message as ServerMessage}
 use Rattle.q3_clstate.specs.State.{AppliedState, Application, apply_at}
 use Rattle.q3_clstate.specs.Standing.{IsApplied}
 use Rattle.q3_entity_ring.specs.Snapshot.{Snapshot}
@@ -13,7 +15,7 @@ use Rattle.q3_demo.specs.declared.record.Piece.TheVariants.{Message}
 use Rattle.q3_demo.specs.declared.recorder.Stage.{Stage}
 use Rattle.q3_demo.specs.declared.recorder.Stage.TheVariants.{Waits, Runs}
 use Rattle.q3_demo.specs.Records.{longest_record, number_end, most_bytes}
-use Rattle.q3_demo.specs.Recording.{Noted, composed, composed_whole, game_bits, is_before, is_whole, note_of, whole_of}
+use Rattle.q3_demo.specs.Recording.{Noted, game_bits, is_before, is_whole, note_of, whole_bits, whole_of}
 use Rattle.q3_demo.specs.Playing.{Played, unplayed, next_piece, message_of, played_on, most_records, play_of, last_played}
 use Rattle.q3_schedules.specs.NodeRecorded.{written_of}
 
@@ -132,11 +134,19 @@ pub record PlaysTo (profile : Profile) (demo : List ℕ) (recorded : List Noted)
   pub heard : map heard_in (applied_of profile demo) ≡ game_first [] (map (λ (noted : Noted). noted.applied.heard) recorded)
   pub left : LeftBy (BeginsWhole recorded) recorded (last_played profile demo).state
 
+-- a recording of so many messages is no longer than a demo that may be played, as that of so few always is: each takes a head and 16,384
+-- bytes at most, and so does the gamestate before them
+abbrev pub always_short : ℕ
+always_short = 65503
+
+abbrev pub IsShort : List ℕ → ℕ → Type 0
+IsShort demo count = (length demo ≤ most_bytes) ⊎ (count ≤ always_short)
+
 -- so it is of all messages that a client applied one after the other, where the recording begins by strings that tell the map's id, and
 -- isn't longer than a demo that may be played; and also as long as it has no end yet
 abbrev pub RecordingPlays : Type 0
 RecordingPlays = (profile : Profile) (messages : List Noted) (over : Bool) → AreNoted messages → AreBy profile messages → BeginsTold (recorded_from Waits messages)
-    → length (written_of over messages) ≤ most_bytes → length messages < most_records → PlaysTo profile (written_of over messages) (recorded_from Waits messages)
+    → IsShort (written_of over messages) (length messages) → length messages < most_records → PlaysTo profile (written_of over messages) (recorded_from Waits messages)
 
 -- ---- which messages are recorded
 
@@ -145,14 +155,20 @@ unfoldable pub from_whole : List Noted → List Noted
 from_whole [] = []
 from_whole (noted ∷ others) = if is_whole noted.applied.answer.snap then noted ∷ others else from_whole others
 
+-- bits that make more bytes than a message may have
+abbrev pub AreLong : List Bool → Type 0
+AreLong bits = longest_record < message_length (length bits)
+
 -- what had to be composed for a message, after those that were recorded, is too long: the gamestate before the first, or the message whole
 abbrev pub TooLong : List Noted → Noted → Type 0
-TooLong [] noted = composed (game_bits noted.before noted.issued) ≡ None
+TooLong [] noted = AreLong (game_bits noted.before noted.issued)
 TooLong (first ∷ others) noted =
-    (is_before first.applied.answer.number noted.applied.answer.snap ≡ true) × (composed_whole noted.applied.state (whole_of noted.applied.state noted.message) ≡ None)
+    (is_before first.applied.answer.number noted.applied.answer.snap ≡ true)
+    × (whole : ServerMessage) × (whole_of noted.applied.state noted.message ≡ Some whole) × AreLong (whole_bits noted.applied.state whole)
 
--- these are recorded, or those before the first for which what had to be composed is too long
+-- of messages that a client applied one after the other these are recorded, or those before the first for which what had to be composed is
+-- too long
 abbrev pub WholeIsRecorded : Type 0
-WholeIsRecorded = (messages : List Noted)
+WholeIsRecorded = (messages : List Noted) → AreNoted messages
     → (recorded_from Waits messages ≡ from_whole messages)
     ⊎ ((noted : Noted) × (later : List Noted) × (from_whole messages ≡ recorded_from Waits messages ++ noted ∷ later) × TooLong (recorded_from Waits messages) noted)

@@ -1,5 +1,5 @@
 -- What a recording of a replay plays to.
-use Rattle.std.specs.Prelude.{◌≡◌, ℕ, ◌<◌, ◌≤◌, List, ◌∷◌, ◌++◌, length, Ok}
+use Rattle.std.specs.Prelude.{◌≡◌, ℕ, ◌<◌, List, ◌∷◌, ◌++◌, length, Ok}
 use Rattle.std.specs.List.{AllByRecursion}
 use Rattle.q3_profile.specs.declared.profile.Profile.{Profile}
 use Rattle.q3_script.specs.declared.event.Event.{Event}
@@ -7,7 +7,6 @@ use Rattle.q3_script.specs.declared.event.Event.TheVariants as events
 use Rattle.q3_report.specs.declared.answer.HandedIn.TheVariants as handed
 use Rattle.q3_report.specs.Answers.{Given}
 use Rattle.q3_demo.specs.declared.recorder.Stage.TheVariants.{Waits}
-use Rattle.q3_demo.specs.Records.{most_bytes}
 use Rattle.q3_demo.specs.Recording.{Noted, recording}
 use Rattle.q3_demo.specs.Playing.{most_records}
 use Rattle.q3_world.specs.Kept.{Kept, kept_step}
@@ -15,7 +14,7 @@ use Rattle.q3_world.specs.ByTags.{kept_then}
 use Rattle.q3_world.specs.StandsFor.{IsChecked}
 use Rattle.q3_schedules.specs.Recorded.{applied_until}
 use Rattle.q3_schedules.specs.Schedules.{IsScheduled, SaysNoChange}
-use Rattle.q3_recordings.specs.Plays.{recorded_from, BeginsTold, BeginsWhole, PlaysTo}
+use Rattle.q3_recordings.specs.Plays.{recorded_from, BeginsTold, BeginsWhole, IsShort, PlaysTo}
 
 -- what is kept after a `record` line
 abbrev pub kept_recording : Profile → List Event → ℕ → List ℕ → Kept
@@ -30,7 +29,7 @@ abbrev pub ReplayPlays : Type 0
 ReplayPlays = (profile : Profile) (first rest : List Event) (c : ℕ) (name : List ℕ) → IsChecked profile
     → (kept_step (kept_then profile first) (events.RecordTo c name)).answer ≡ Given (handed.Record c (Ok tt))
     → BeginsTold (recorded_from Waits (noted_after profile first c name rest))
-    → length (recording (noted_after profile first c name rest)) ≤ most_bytes → length (noted_after profile first c name rest) < most_records
+    → IsShort (recording (noted_after profile first c name rest)) (length (noted_after profile first c name rest)) → length (noted_after profile first c name rest) < most_records
     → PlaysTo profile (recording (noted_after profile first c name rest)) (recorded_from Waits (noted_after profile first c name rest))
 
 -- and where each end gets only what the other made, as long as there are fewer events than a demo may have records, nothing is asked of
@@ -38,7 +37,7 @@ ReplayPlays = (profile : Profile) (first rest : List Event) (c : ℕ) (name : Li
 abbrev pub OwnReplayPlays : Type 0
 OwnReplayPlays = (profile : Profile) (first rest : List Event) (c : ℕ) (name : List ℕ) → IsChecked profile → AllByRecursion IsScheduled (first ++ events.RecordTo c name ∷ rest)
     → (kept_step (kept_then profile first) (events.RecordTo c name)).answer ≡ Given (handed.Record c (Ok tt))
-    → length (recording (noted_after profile first c name rest)) ≤ most_bytes → length rest < most_records
+    → IsShort (recording (noted_after profile first c name rest)) (length rest) → length rest < most_records
     → PlaysTo profile (recording (noted_after profile first c name rest)) (recorded_from Waits (noted_after profile first c name rest))
 
 -- and where, moreover, the game says no text of a config change, no long string is being put together where it begins: so the config strings

@@ -7,6 +7,7 @@ ghost use Rattle.q3_recordings.specs.Replays.{OwnReplayBeginsWhole, OwnReplayPla
 use q3_bits::laws as bits;
 use q3_client::laws as client;
 use q3_clstate::laws as clstate;
+use q3_demo::laws as demos;
 use q3_rings::laws as rings;
 use q3_schedules::laws as schedules;
 use q3_svmsg::laws as svmsg;
@@ -15,7 +16,9 @@ use q3_svmsg::laws as svmsg;
 /// was too long, the first of them.
 pub fn whole_is_recorded()
     ensures { WholeIsRecorded }
-{}
+{
+    demos::applied_may_be_noted();
+}
 
 /// Playing a recording gives what its client had: after the gamestate each of the messages that it recorded, under its number, with the
 /// snapshot that was accepted of it and the commands that were executed of it, and in the end the client's baselines, slot, checksum feed and
