@@ -1,7 +1,7 @@
 -- What stands at a place of a demo, by its bytes from there on.
 use Rattle.std.proofs.Common.{◌≡◌, ℕ, ◌+◌, ◌<◌, ◌≤◌, Bool, true, false, if◌then◌else◌, List, ◌++◌, length, take, drop, Result, Ok, Err, refl, sym, ap, ap₂, ◌∙◌, inl, inr, arith}
 use Rattle.std.specs.Prelude.{◌⊎◌, ◌||◌, ◌==◌, nat_le, nat_lt}
-use Rattle.std.proofs.lemmas.Bool.{cases_Bool, ltb-false, leb-false, lt-ltb, le-ltb, lt-leb, ne_eqb, or_parts, or_from, or_left, or_right}
+use Rattle.std.proofs.lemmas.Bool.{cases_Bool, ltb-true, ltb-false, leb-false, lt-ltb, le-ltb, lt-leb, ne_eqb, or_parts, or_from, or_left, or_right}
 use Rattle.std.proofs.lemmas.List.{length-take, length-drop, length-append, take_at, take-append-drop, drop-append-le, drop-take}
 use Rattle.byteorder.specs.Numbers.{little_from-append}
 use Rattle.q3_demo.specs.declared.error.DemoError.{DemoError}
@@ -168,47 +168,76 @@ message_stays bytes rest size there =
 
 -- ---- a front of the bytes
 
--- in a front the bytes end, or a record is cut, or the same stands there as in all of them
-abbrev pub StandsBefore : Result Piece DemoError → Result Piece DemoError → ℕ → Type 0
-StandsBefore front whole at = (front ≡ Ok piece.End) ⊎ ((front ≡ Err (Truncated at)) ⊎ (front ≡ whole))
+-- in a front the bytes end within a head, or within a message, or the same stands there as in all of them
+abbrev pub StandsBefore : List ℕ → Result Piece DemoError → Result Piece DemoError → ℕ → Type 0
+StandsBefore bytes front whole at =
+    ((front ≡ Ok piece.End) × (length bytes < head_bytes))
+    ⊎ (((front ≡ Err (Truncated at)) × (length bytes < head_bytes + length_of bytes)) ⊎ (front ≡ whole))
 
-pub piece_before : (front rest : List ℕ) (at last : ℕ) → StandsBefore (piece_of front at last) (piece_of (front ++ rest) at last) at
-piece_before front rest at last =
-    elim (cases_Bool (ends_in front)) [
-      | inl ends ↦ inl (by_tests front at last true (long_in front) (low_in front last) (cut_in front at) ends refl refl refl)
-      | inr goes ↦ (
-          let parts = or_parts (nat_lt (length front) head_bytes) (length_of front == end_mark) goes in
-          let some : head_bytes ≤ length front = ltb-false (length front) head_bytes parts.0 in
-          let all : List ℕ = front ++ rest in
-          let longer : length all ≡ length front + length rest = length-append front rest in
-          let number : number_of all ≡ number_of front = number_before front rest some in
-          let size : length_of all ≡ length_of front = length_before front rest some in
-          let goes_all : ends_in all ≡ false =
-          or_from (nat_lt (length all) head_bytes) (length_of all == end_mark) (le-ltb (length all) head_bytes (omega arith)) (ap (λ (n : ℕ). n == end_mark) size ∙ parts.1) in
-          let long_same : long_in all ≡ long_in front = ap (λ (n : ℕ). nat_lt longest_record n) size in
-          let low_same : low_in all last ≡ low_in front last = ap (λ (n : ℕ). nat_le n last || nat_le number_end n) number in
-          elim (cases_Bool (long_in front)) [
-            | inl long ↦
-                inr (inr (by_tests front at last false true (low_in front last) (cut_in front at) goes long refl refl
-                ∙ sym (by_tests all at last false true (low_in all last) (cut_in all at) goes_all (long_same ∙ long) refl refl)))
-            | inr fits ↦ elim (cases_Bool (low_in front last)) [
-              | inl low ↦
-                  inr (inr (by_tests front at last false false true (cut_in front at) goes fits low refl
-                  ∙ sym (by_tests all at last false false true (cut_in all at) goes_all (long_same ∙ fits) (low_same ∙ low) refl)))
-              | inr rises ↦ elim (cases_Bool (cut_in front at)) [
-                | inl cut ↦ inr (inl (by_tests front at last false false false true goes fits rises cut))
-                | inr whole ↦ (
-                    let ends = or_parts (nat_lt (length front) (head_bytes + length_of front)) (nat_lt most_bytes (at + head_bytes + length_of front)) whole in
-                    let whole_all : cut_in all at ≡ false =
-                    or_from (nat_lt (length all) (head_bytes + length_of all)) (nat_lt most_bytes (at + head_bytes + length_of all))
-                    (le-ltb (length all) (head_bytes + length_of all) (omega (arith, ltb-false (length front) (head_bytes + length_of front) ends.0)))
-                    (ap (λ (n : ℕ). nat_lt most_bytes (at + head_bytes + n)) size ∙ ends.1) in
-                    inr (inr (by_tests front at last false false false false goes fits rises whole
+-- after a head that ends no demo
+after_head : (front rest : List ℕ) (at last : ℕ) → head_bytes ≤ length front → (length_of front == end_mark) ≡ false → StandsBefore front (piece_of front at last) (piece_of (front ++ rest) at last) at
+after_head front rest at last some marked =
+    let all : List ℕ = front ++ rest in
+    let longer : length all ≡ length front + length rest = length-append front rest in
+    let number : number_of all ≡ number_of front = number_before front rest some in
+    let size : length_of all ≡ length_of front = length_before front rest some in
+    let goes : ends_in front ≡ false = or_from (nat_lt (length front) head_bytes) (length_of front == end_mark) (le-ltb (length front) head_bytes some) marked in
+    let goes_all : ends_in all ≡ false =
+    or_from (nat_lt (length all) head_bytes) (length_of all == end_mark) (le-ltb (length all) head_bytes (omega arith)) (ap (λ (n : ℕ). n == end_mark) size ∙ marked) in
+    let long_same : long_in all ≡ long_in front = ap (λ (n : ℕ). nat_lt longest_record n) size in
+    let low_same : low_in all last ≡ low_in front last = ap (λ (n : ℕ). nat_le n last || nat_le number_end n) number in
+    let within : Bool = nat_lt most_bytes (at + head_bytes + length_of front) in
+    let within_same : nat_lt most_bytes (at + head_bytes + length_of all) ≡ within = ap (λ (n : ℕ). nat_lt most_bytes (at + head_bytes + n)) size in
+    elim (cases_Bool (long_in front)) [
+      | inl long ↦
+          inr (inr (by_tests front at last false true (low_in front last) (cut_in front at) goes long refl refl
+          ∙ sym (by_tests all at last false true (low_in all last) (cut_in all at) goes_all (long_same ∙ long) refl refl)))
+      | inr fits ↦ elim (cases_Bool (low_in front last)) [
+        | inl low ↦
+            inr (inr (by_tests front at last false false true (cut_in front at) goes fits low refl
+            ∙ sym (by_tests all at last false false true (cut_in all at) goes_all (long_same ∙ fits) (low_same ∙ low) refl)))
+        | inr rises ↦ elim (cases_Bool (nat_lt (length front) (head_bytes + length_of front))) [
+          | inl short ↦
+              inr (inl (
+                by_tests front at last false false false true goes fits rises (or_left (nat_lt (length front) (head_bytes + length_of front)) within short),
+                ltb-true (length front) (head_bytes + length_of front) short,
+              ))
+          | inr there ↦ (
+              let there_all : nat_lt (length all) (head_bytes + length_of all) ≡ false =
+              le-ltb (length all) (head_bytes + length_of all) (omega (arith, ltb-false (length front) (head_bytes + length_of front) there)) in
+              elim (cases_Bool within) [
+                | inl beyond ↦
+                    inr (inr (by_tests front at last false false false true goes fits rises (or_right (nat_lt (length front) (head_bytes + length_of front)) within beyond)
+                    ∙ sym (by_tests all at last false false false true goes_all (long_same ∙ fits) (low_same ∙ rises)
+                    (or_right (nat_lt (length all) (head_bytes + length_of all)) (nat_lt most_bytes (at + head_bytes + length_of all)) (within_same ∙ beyond)))))
+                | inr inside ↦
+                    inr (inr (by_tests front at last false false false false goes fits rises (or_from (nat_lt (length front) (head_bytes + length_of front)) within there inside)
                     ∙ ap₂ (λ (n l : ℕ). piece_by false false false false at n l) (sym number) (sym size)
-                    ∙ sym (by_tests all at last false false false false goes_all (long_same ∙ fits) (low_same ∙ rises) whole_all)))
-                    )
+                    ∙ sym (by_tests all at last false false false false goes_all (long_same ∙ fits) (low_same ∙ rises)
+                    (or_from (nat_lt (length all) (head_bytes + length_of all)) (nat_lt most_bytes (at + head_bytes + length_of all)) there_all (within_same ∙ inside)))))
               ]
-            ]
+              )
+        ]
+      ]
+    ]
+
+pub piece_before : (front rest : List ℕ) (at last : ℕ) → StandsBefore front (piece_of front at last) (piece_of (front ++ rest) at last) at
+piece_before front rest at last =
+    elim (cases_Bool (nat_lt (length front) head_bytes)) [
+      | inl short ↦
+          inl (
+            by_tests front at last true (long_in front) (low_in front last) (cut_in front at) (or_left (nat_lt (length front) head_bytes) (length_of front == end_mark) short) refl refl refl,
+            ltb-true (length front) head_bytes short,
+          )
+      | inr long ↦ (
+          let some : head_bytes ≤ length front = ltb-false (length front) head_bytes long in
+          let all : List ℕ = front ++ rest in
+          elim (cases_Bool (length_of front == end_mark)) [
+            | inl marked ↦
+                inr (inr (by_tests front at last true (long_in front) (low_in front last) (cut_in front at) (or_right (nat_lt (length front) head_bytes) (length_of front == end_mark) marked) refl refl refl
+                ∙ sym (by_tests all at last true (long_in all) (low_in all last) (cut_in all at)
+                (or_right (nat_lt (length all) head_bytes) (length_of all == end_mark) (ap (λ (n : ℕ). n == end_mark) (length_before front rest some) ∙ marked)) refl refl refl)))
+            | inr goes ↦ after_head front rest at last some goes
           ]
           )
     ]

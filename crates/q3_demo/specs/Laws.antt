@@ -1,5 +1,5 @@
 -- A recording goes on message by message, and a demo is played record by record.
-use Rattle.std.specs.Prelude.{◌≡◌, ◌⊎◌, ℕ, ◌^◌, ◌<◌, ◌≤◌, ⊤, List, [], ◌∷◌, ◌++◌, length, map, take, Result, Ok, Err}
+use Rattle.std.specs.Prelude.{◌≡◌, ◌⊎◌, ℕ, ◌+◌, ◌^◌, ◌<◌, ◌≤◌, ⊤, List, [], ◌∷◌, ◌++◌, length, map, take, drop, Result, Ok, Err}
 use Rattle.q3_profile.specs.declared.profile.Profile.{Profile}
 use Rattle.q3_clstate.specs.State.{AppliedState, Application, apply_at}
 use Rattle.q3_clstate.specs.Standing.{IsApplied}
@@ -7,6 +7,7 @@ use Rattle.q3_demo.specs.declared.error.DemoError.{DemoError}
 use Rattle.q3_demo.specs.declared.error.DemoError.TheVariants.{ReadFault, Truncated, NoMemory, WriteFault}
 use Rattle.q3_demo.specs.declared.recorder.Stage.{Stage}
 use Rattle.q3_demo.specs.declared.recorder.Stage.TheVariants.{Waits}
+use Rattle.q3_demo.specs.Records.{head_bytes, length_of}
 use Rattle.q3_demo.specs.Report.{state_text}
 use Rattle.q3_demo.specs.Playing.{Played, Stepped, unplayed, step, most_records, play_of, records_of, last_of, last_played, play_state}
 use Rattle.q3_demo.specs.Recorder.{MayNote}
@@ -38,15 +39,18 @@ IsRefusal other = ⊤
 abbrev pub RefusedForItsBytes : Type 0
 RefusedForItsBytes = (demo : List ℕ) (played : Played) (e : DemoError) → step demo played ≡ Err e → IsRefusal e
 
--- how the play of a front of a demo ends, where these records more are played of the whole: with no refusal; refused as cut, at the place
--- after its last record; or, where none more is played, as the play of the whole
-abbrev pub EndsBefore : List Stepped → ℕ → Result (Unit {0}) DemoError → Result (Unit {0}) DemoError → Type 0
-EndsBefore more at ending whole = (ending ≡ Ok tt) ⊎ ((ending ≡ Err (Truncated at)) ⊎ ((more ≡ []) × (ending ≡ whole)))
+-- how the play of a front of a demo ends, where these records more are played of the whole, and of the front these bytes are left after its
+-- last record, which ends at this place: with no refusal, where they end within a head; refused as cut, where they end within a message; or,
+-- where none more is played, as the play of the whole
+abbrev pub EndsBefore : List Stepped → List ℕ → ℕ → Result (Unit {0}) DemoError → Result (Unit {0}) DemoError → Type 0
+EndsBefore more left at ending whole =
+    ((ending ≡ Ok tt) × (length left < head_bytes))
+    ⊎ (((ending ≡ Err (Truncated at)) × (length left < head_bytes + length_of left)) ⊎ ((more ≡ []) × (ending ≡ whole)))
 
 -- of a front of a demo the first of its records are played
 abbrev pub APrefixPlaysAPrefix : Type 0
 APrefixPlaysAPrefix = (profile : Profile) (front rest : List ℕ) → (more : List Stepped) × (records_of profile (front ++ rest) ≡ records_of profile front ++ more)
-    × EndsBefore more (last_played profile front).at (play_of profile front).ending (play_of profile (front ++ rest)).ending
+    × (let at = (last_played profile front).at in EndsBefore more (drop at front) at (play_of profile front).ending (play_of profile (front ++ rest)).ending)
 
 -- what is told after the records: what they left, exactly where the demo ends
 abbrev pub end_texts : Played → Result (Unit {0}) DemoError → List (List ℕ)
