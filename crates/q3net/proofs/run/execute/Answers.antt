@@ -136,3 +136,8 @@ pub returns-in-Some-Join-clause-binds : goal.returns-in-Some-Join-clause-binds
 returns-in-Some-Join-clause-binds g c =
     let e = rw c.in-Some-Join.field-0-is at c.in-Some-Join.ensures.value in
     rw (← e) c.join.ensures.binds
+
+pub returns-in-Some-Seek-clause-cheap : goal.returns-in-Some-Seek-clause-cheap
+returns-in-Some-Seek-clause-cheap g c =
+    let e = rw c.in-Some-Seek.field-0-is at c.in-Some-Seek.ensures.value in
+    rw (← e) c.seek.ensures.cheap
