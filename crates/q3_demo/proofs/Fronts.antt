@@ -41,7 +41,8 @@ next_before front rest played within =
 -- in a front the demo ends within a head, or the next record is cut, or the step is that in all of it
 StepsBefore : List ℕ → Result (Option Stepped) DemoError → Result (Option Stepped) DemoError → ℕ → Type 0
 StepsBefore bytes front whole at =
-    ((front ≡ Ok None) × (length bytes < head_bytes)) ⊎ (((front ≡ Err (Truncated at)) × (length bytes < head_bytes + length_of bytes)) ⊎ (front ≡ whole))
+    ((front ≡ Ok None) × (length bytes < head_bytes))
+    ⊎ (((front ≡ Err (Truncated at)) × (head_bytes ≤ length bytes) × (length bytes < head_bytes + length_of bytes)) ⊎ (front ≡ whole))
 
 step_before : (front rest : List ℕ) (played : Played) → played.at ≤ length front → StepsBefore (drop played.at front) (step front played) (step (front ++ rest) played) played.at
 unfolding StepsBefore
@@ -49,7 +50,7 @@ step_before front rest played within =
     elim (next_before front rest played within) [
       | inl ends ↦ inl (bind_is (next_piece front played) (play_piece front played) piece.End (Ok None) ends.0 refl, ends.1)
       | inr other ↦ elim other [
-        | inl cut ↦ inr (inl (ap (λ (found : Result Piece DemoError). found >>= play_piece front played) cut.0, cut.1))
+        | inl cut ↦ inr (inl (ap (λ (found : Result Piece DemoError). found >>= play_piece front played) cut.0, cut.1, cut.2))
         | inr next ↦
             inr (inr (bind_same (next_piece front played) (play_piece front played) (play_piece (front ++ rest) played) (piece_alike front rest played)
             ∙ ap (λ (found : Result Piece DemoError). found >>= play_piece (front ++ rest) played) next))
@@ -79,7 +80,7 @@ limit_before played bytes found all before =
     elim before [
       | inl ends ↦ inl (ap (λ (f : Result Piece DemoError). (at_most played f).ending) ends.0, ends.1)
       | inr other ↦ elim other [
-        | inl cut ↦ inr (inl (ap (λ (f : Result Piece DemoError). (at_most played f).ending) cut.0, cut.1))
+        | inl cut ↦ inr (inl (ap (λ (f : Result Piece DemoError). (at_most played f).ending) cut.0, cut.1, cut.2))
         | inr same ↦ inr (inr (refl, ap (λ (f : Result Piece DemoError). (at_most played f).ending) same))
       ]
     ]
@@ -120,7 +121,7 @@ fronts_by bytes (Err e) all played fronts wholes front whole before after =
     elim before [
       | inl none ↦ absurd (let no = none.0 in cc)
       | inr other ↦ elim other [
-        | inl cut ↦ record { more = next_records all wholes; records = refl; ends = inr (inl (stops_alike e (Truncated played.at) cut.0, cut.1)) }
+        | inl cut ↦ record { more = next_records all wholes; records = refl; ends = inr (inl (stops_alike e (Truncated played.at) cut.0, cut.1, cut.2)) }
         | inr same ↦
             subst (λ (s : Result (Option Stepped) DemoError). Fronts bytes [] (next_records s wholes) played (Err e) (play_step played s whole).ending) same
             (record { more = []; records = refl; ends = inr (inr (refl, refl)) })

@@ -172,7 +172,7 @@ message_stays bytes rest size there =
 abbrev pub StandsBefore : List ℕ → Result Piece DemoError → Result Piece DemoError → ℕ → Type 0
 StandsBefore bytes front whole at =
     ((front ≡ Ok piece.End) × (length bytes < head_bytes))
-    ⊎ (((front ≡ Err (Truncated at)) × (length bytes < head_bytes + length_of bytes)) ⊎ (front ≡ whole))
+    ⊎ (((front ≡ Err (Truncated at)) × (head_bytes ≤ length bytes) × (length bytes < head_bytes + length_of bytes)) ⊎ (front ≡ whole))
 
 -- after a head that ends no demo
 after_head : (front rest : List ℕ) (at last : ℕ) → head_bytes ≤ length front → (length_of front == end_mark) ≡ false → StandsBefore front (piece_of front at last) (piece_of (front ++ rest) at last) at
@@ -200,6 +200,7 @@ after_head front rest at last some marked =
           | inl short ↦
               inr (inl (
                 by_tests front at last false false false true goes fits rises (or_left (nat_lt (length front) (head_bytes + length_of front)) within short),
+                some,
                 ltb-true (length front) (head_bytes + length_of front) short,
               ))
           | inr there ↦ (

@@ -45,7 +45,7 @@ RefusedForItsBytes = (demo : List ℕ) (played : Played) (e : DemoError) → ste
 abbrev pub EndsBefore : List Stepped → List ℕ → ℕ → Result (Unit {0}) DemoError → Result (Unit {0}) DemoError → Type 0
 EndsBefore more left at ending whole =
     ((ending ≡ Ok tt) × (length left < head_bytes))
-    ⊎ (((ending ≡ Err (Truncated at)) × (length left < head_bytes + length_of left)) ⊎ ((more ≡ []) × (ending ≡ whole)))
+    ⊎ (((ending ≡ Err (Truncated at)) × (head_bytes ≤ length left) × (length left < head_bytes + length_of left)) ⊎ ((more ≡ []) × (ending ≡ whole)))
 
 -- of a front of a demo the first of its records are played
 abbrev pub APrefixPlaysAPrefix : Type 0

@@ -1,6 +1,6 @@
 //! The lines of a script that are a client's own: what it issues, records and shows.
 
-ghost use Rattle.std.specs.Prelude.{◌≡◌, true, Some, is_some, IfOk, IsErr, IsSome, OnOk};
+ghost use Rattle.std.specs.Prelude.{◌≡◌, true, Some, is_some, IfOk, IsErr, IsSome, None, OnOk};
 ghost use Rattle.q3_report.specs.Tellings.{answered_of, showing_of};
 ghost use Rattle.q3_demo.specs.Recorder.{done};
 ghost use Rattle.q3_ends.specs.AtClient.{type_text, add_move, showing};
@@ -77,16 +77,13 @@ pub fn fresh_for(alloc: Global, event: &Event) -> Result<Option<Recording>, NoMe
     ensures memory { IsErr result → is_some (fresh_of event.now) ≡ true }
 {
     match event {
-        Event::RecordTo { name, .. } => match Recording::new(alloc, &name.name()) {
-            Ok(fresh) => Ok(Some(fresh)),
-            Err(NoMemory) => Err(NoMemory),
-        },
+        Event::RecordTo { name, .. } => Ok(Some(Recording::new(alloc, &name.name())?)),
         _ => Ok(None),
     }
 }
 
 /// Does a line of a client's own. `fresh` is the recording that it would begin, and `number` that of the file of the client's
-/// recording, also after it. `Failed` comes where a recording's file can't be made or written; one that has its end is given up then.
+/// recording, also after it. `Failed` comes where a recording's file can't be made or written; no recording goes on then.
 pub fn client_line<F: Files>(
     client: &mut Client,
     recording: &mut Option<Recording>,
@@ -108,6 +105,7 @@ pub fn client_line<F: Files>(
         (F.write_faults files.old) (F.write_faults files.new)
         (acts_in (client_line client.old recording.old event.now)) (done result) }
     ensures file { HasFile (F.told files.new) (F.given files.new) number.new recording.new }
+    ensures given_up { IsErr result → recording.new ≡ None }
 {
     match event {
         Event::TypeText { c, text } => {

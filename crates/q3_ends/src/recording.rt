@@ -1,6 +1,6 @@
 //! A client records the messages that it applies into a file.
 
-ghost use Rattle.std.specs.Prelude.{◌≡◌, ◌<◌, ℕ, List, Some, IfOk, OnOk};
+ghost use Rattle.std.specs.Prelude.{◌≡◌, ◌<◌, ℕ, List, Some, None, IfOk, IsErr, OnOk};
 ghost use Rattle.q3_io.specs.Faults.{HasCause};
 ghost use Rattle.q3_chan.specs.Sending.{HandsOut};
 ghost use Rattle.q3_window.specs.Outgoing.{issued_of};
@@ -153,7 +153,7 @@ fn stands(state: &ClState)
 }
 
 /// A client begins to record: the file of this recording is made, and `number` is its number from then on. `Failed` comes where
-/// the file can't be made. It is refused for the first of these that fits, and nothing changes then:
+/// the file can't be made; no recording goes on then. It is refused for the first of these that fits, and nothing changes then:
 /// - `NoGame`: the client never had a gamestate.
 /// - `Already`: its recording goes on.
 pub fn begin<F: Files>(
@@ -171,6 +171,7 @@ pub fn begin<F: Files>(
         (F.write_faults files.old) (F.write_faults files.new) (begin_at client.now recording.old fresh).acts
         (done result) }
     ensures file { HasFile (F.told files.new) (F.given files.new) number.new recording.new }
+    ensures none { IsErr result → recording.new ≡ None }
 {
     if !client.state().has_game() {
         return Ok(Err(RecordRefused::NoGame));

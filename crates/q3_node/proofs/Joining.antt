@@ -1,9 +1,16 @@
 -- The lines of a client's script that aren't its first, its datagrams' or its last.
-use Rattle.std.proofs.Common.{◌≡◌, ℕ, None, refl}
+use Rattle.std.proofs.Common.{◌≡◌, ℕ, Bool, Option, Some, None, Result, Ok, Err, subst, refl}
+use Rattle.std.specs.Prelude.{OnOk, IsErrOf}
 use Rattle.q3_io.specs.declared.address.Address.{Address}
 use Rattle.q3_script.specs.declared.event.Event.{Event}
 use Rattle.q3_script.specs.declared.event.Event.TheVariants.{Client, TypeText, Move, Send, RecordTo, Stop, Show, End}
-use Rattle.q3_ends.specs.ClientLine.{client_line, client_named}
+use Rattle.q3_client.specs.Client.{ClientState}
+use Rattle.q3_report.specs.Answers.{Answered}
+use Rattle.q3_ends.specs.ClientLine.{ClientDone, client_line, client_named, client_after, recording_after, answer_in, acts_in}
+use Rattle.q3_ends.specs.Recording.{RecordingState}
+use Rattle.q3_node.specs.declared.error.NodeError.{NodeError}
+use Rattle.q3_node.specs.declared.error.NodeError.TheVariants.{NoMemory}
+use Rattle.q3_node.specs.Running.{Effects, DoesActs, DoesLine, Tells}
 use Rattle.q3_node.specs.Node.{answers}
 use Rattle.q3_node.specs.AtClient.{ClientEnd, line_done, own_done}
 
@@ -22,3 +29,19 @@ other_line end (RecordTo c name) none = absurd cc
 other_line end (Stop c) none = absurd cc
 other_line end (Show c) none = absurd cc
 other_line end event none = refl
+
+on_ok : {T E : Type 0} (result : Result T E) {P : Type 0} → P → OnOk result P
+on_ok (Ok x) is = is
+on_ok (Err e) is = tt
+
+-- a line of the client's own was done, and its answer told
+pub does_own : (end : ClientEnd) (event : Event) (line : Option ClientDone) (client : ClientState) (recording : Option RecordingState) (answer : Answered) (before after : Effects)
+    (result : Result Bool NodeError) → client ≡ client_after end.client line → recording ≡ recording_after end.recording line → Some answer ≡ answer_in line
+    → Tells (Some answer) None before.written after.written before.wire after.wire result → DoesActs before.files after.files (acts_in line) result → (IsErrOf result NoMemory → ⊥)
+    → DoesLine (own_done end event line) (record end { client = client; recording = recording }) before after result
+does_own end event line client recording answer before after result client_is recording_is answer_is told files memory = record {
+  end = on_ok result (rw (client_is, recording_is) refl);
+  told = subst (λ (a : Option Answered). Tells a None before.written after.written before.wire after.wire result) answer_is told;
+  files = files;
+  memory = λ ran. absurd (memory ran);
+}

@@ -27,7 +27,7 @@ use Rattle.q3_world.specs.StandsFor.{IsChecked}
 use Rattle.q3_schedules.specs.NodeRecorded.{applied_in, begins_it, ends_it, has_end, left_in, line_at, noted_turn, written_of}
 use Rattle.q3_schedules.specs.Recorded.{noted_of}
 use Rattle.q3_recordings.specs.Plays.{IsShort, recorded_from, AreNoted, AreBy, PlaysTo, RecordingPlays}
-use Rattle.q3_recordings.specs.Joins.{noted_in, JoinPlays}
+use Rattle.q3_recordings.specs.Joins.{noted_in, JoinPlays, JoinIsNoted}
 use Rattle.q3_recordings.proofs.Sound.{IsSound, Keeps, keeps_same}
 use Rattle.q3_recordings.proofs.AtPlace.{ClientLaws, Becomes}
 use Rattle.q3_recordings.proofs.Noting.{Laws, client_laws, AreNotedFrom, none_noted, noted_by, becomes_noted, becomes_sound, are_by, begins_with_game}
@@ -183,6 +183,14 @@ all_written name (suc count) node readings arrivals demo left =
     written_after true ended over applied behind noted rest e = record { over = over; is = some e }
     written_after false true over applied behind noted rest e = absurd cc
     written_after false false over applied behind noted rest e = rest e
+
+noted_so : Laws → JoinIsNoted
+noted_so laws profile count c challenge qport dup server events readings arrivals name checked =
+    let node : Node ClientEnd = new_node (new_end c (new_client profile challenge qport dup) server) events in
+    (all_noted laws profile checked name count node readings arrivals ((client_laws laws profile checked).joins challenge qport dup)).are
+
+pub join_is_noted : ReadIsSpelled → ApplyStays → AppliedIsContext → AppliesItsMessage → JoinIsNoted
+join_is_noted read stays contexts applies = noted_so (record { read = read; stays = stays; contexts = contexts; applies = applies })
 
 plays_so : Laws → RecordingPlays → JoinPlays
 plays_so laws plays profile count c challenge qport dup server events readings arrivals name demo checked left told short few =

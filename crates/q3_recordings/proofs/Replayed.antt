@@ -23,8 +23,8 @@ use Rattle.q3_world.specs.ByTags.{kept_then}
 use Rattle.q3_world.specs.StandsFor.{IsChecked}
 use Rattle.q3_schedules.specs.Recorded.{applied_until, bytes_for, is_stop, noted_at}
 use Rattle.q3_schedules.proofs.SlotsStay.{HaveSlots, have_slots, nobody_yet}
-use Rattle.q3_recordings.specs.Plays.{RecordingPlays}
-use Rattle.q3_recordings.specs.Replays.{ReplayPlays}
+use Rattle.q3_recordings.specs.Plays.{AreNoted, AreBy, RecordingPlays}
+use Rattle.q3_recordings.specs.Replays.{ReplayPlays, ReplayIsNoted, noted_after}
 use Rattle.q3_recordings.proofs.Sound.{IsSound}
 use Rattle.q3_recordings.proofs.AtPlace.{GoesOnAt, goes_on_at, AllSound, all_sound, profile_kept}
 use Rattle.q3_recordings.proofs.Noting.{Laws, client_laws, AreNotedFrom, none_noted, becomes_noted, are_by, refuses, begins_with_game}
@@ -108,9 +108,15 @@ records_at ends c name (Some place) at is = record { place = place; at = at; gam
 
 -- ---- all of it
 
-plays_so : Laws → RecordingPlays → ReplayPlays
+-- the messages after the line
+record NotedSo (profile : Profile) (messages : List Noted) : Type 0 where
+  are : AreNoted messages
+  by : AreBy profile messages
+
+noted_so : Laws → (profile : Profile) (first rest : List Event) (c : ℕ) (name : List ℕ) → IsChecked profile
+    → (kept_step (kept_then profile first) (events.RecordTo c name)).answer ≡ Given (handed.Record c (Ok tt)) → NotedSo profile (noted_after profile first c name rest)
 unfolding kept_step line_of
-plays_so laws plays profile first rest c name checked answer told short few =
+noted_so laws profile first rest c name checked answer =
     let kept = kept_then profile first in
     let stands = after_stands laws profile checked (opening_kept profile) first (opening_stands profile) in
     let line = events.RecordTo c name in
@@ -122,8 +128,16 @@ plays_so laws plays profile first rest c name checked answer told short few =
     let number : goes.place.client.state.number ≡ records.place.client.state.number = ap (λ (s : AppliedState). s.number) keeps.state in
     let now = keeps.sound sound in
     let from = are_noted laws profile checked (kept_step kept line).kept rest (have_slots kept line stands.have) c goes.place goes.at now (omega (arith, number, begun)) in
-    plays profile (applied_until (kept_step kept line).kept rest c) true from.are
-    (are_by profile goes.place.client.state (applied_until (kept_step kept line).kept rest c) now.by from.after) told short few
+    record { are = from.are; by = are_by profile goes.place.client.state (applied_until (kept_step kept line).kept rest c) now.by from.after }
+
+pub replay_is_noted : ReadIsSpelled → ApplyStays → AppliedIsContext → AppliesItsMessage → ReplayIsNoted
+replay_is_noted read stays contexts applies profile first rest c name checked answer =
+    (noted_so (record { read = read; stays = stays; contexts = contexts; applies = applies }) profile first rest c name checked answer).are
+
+plays_so : Laws → RecordingPlays → ReplayPlays
+plays_so laws plays profile first rest c name checked answer told short few =
+    let so = noted_so laws profile first rest c name checked answer in
+    plays profile (noted_after profile first c name rest) true so.are so.by told short few
 
 pub replay_plays : RecordingPlays → ReadIsSpelled → ApplyStays → AppliedIsContext → AppliesItsMessage → ReplayPlays
 replay_plays plays read stays contexts applies = plays_so (record { read = read; stays = stays; contexts = contexts; applies = applies }) plays

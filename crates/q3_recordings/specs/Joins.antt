@@ -13,7 +13,7 @@ use Rattle.q3_node.specs.AtClient.{ClientEnd, new_end, client_rules}
 use Rattle.q3_node.specs.Node.{Node, arrivals_after, new_node, turn_at}
 use Rattle.q3_world.specs.StandsFor.{IsChecked}
 use Rattle.q3_schedules.specs.NodeRecorded.{applied_in, begins_it, left_in, line_at}
-use Rattle.q3_recordings.specs.Plays.{recorded_from, BeginsTold, IsShort, PlaysTo}
+use Rattle.q3_recordings.specs.Plays.{AreNoted, recorded_from, BeginsTold, IsShort, PlaysTo}
 
 -- the messages that a node applies in so many turns after the first that begins a recording into the file of a name, up to its end
 unfoldable pub noted_in : List ℕ → ℕ → Node ClientEnd → List ℕ → List (Option Parcel) → List Noted
@@ -26,6 +26,11 @@ noted_in name (suc count) node readings arrivals =
     if begins_it name node.end (line_at node reading) then applied_in count now.node later more
     else if now.turn.ended then []
     else noted_in name count now.node later more
+
+-- these are messages that a client applied one after the other, whatever arrives
+abbrev pub JoinIsNoted : Type 0
+JoinIsNoted = (profile : Profile) (count c challenge qport dup : ℕ) (server : Address) (events : List Event) (readings : List ℕ) (arrivals : List (Option Parcel)) (name : List ℕ)
+    → IsChecked profile → AreNoted (noted_in name count (new_node (new_end c (new_client profile challenge qport dup) server) events) readings arrivals)
 
 -- what its turns leave in the file, a recording with its end or one that has none yet, plays so, whatever arrives
 abbrev pub JoinPlays : Type 0

@@ -14,7 +14,7 @@ use Rattle.q3_world.specs.ByTags.{kept_then}
 use Rattle.q3_world.specs.StandsFor.{IsChecked}
 use Rattle.q3_schedules.specs.Recorded.{applied_until}
 use Rattle.q3_schedules.specs.Schedules.{IsScheduled, SaysNoChange}
-use Rattle.q3_recordings.specs.Plays.{recorded_from, BeginsTold, BeginsWhole, IsShort, PlaysTo}
+use Rattle.q3_recordings.specs.Plays.{AreNoted, recorded_from, BeginsTold, BeginsWhole, IsShort, PlaysTo}
 
 -- what is kept after a `record` line
 abbrev pub kept_recording : Profile → List Event → ℕ → List ℕ → Kept
@@ -23,6 +23,12 @@ kept_recording profile first c name = (kept_step (kept_then profile first) (even
 -- the messages that a client applies after its `record` line, up to the first `stop` of it
 abbrev pub noted_after : Profile → List Event → ℕ → List ℕ → List Event → List Noted
 noted_after profile first c name rest = applied_until (kept_recording profile first c name) rest c
+
+-- after a `record` line that was answered `ok` these are messages that a client applied one after the other, whatever bytes arrive
+abbrev pub ReplayIsNoted : Type 0
+ReplayIsNoted = (profile : Profile) (first rest : List Event) (c : ℕ) (name : List ℕ) → IsChecked profile
+    → (kept_step (kept_then profile first) (events.RecordTo c name)).answer ≡ Given (handed.Record c (Ok tt))
+    → AreNoted (noted_after profile first c name rest)
 
 -- the recording of a replay's client, from a `record` line that was answered `ok`, plays so, whatever bytes arrive
 abbrev pub ReplayPlays : Type 0

@@ -1,8 +1,8 @@
 //! Laws, each the contract of a call that does nothing but cite the laws below it.
 
-ghost use Rattle.q3_recordings.specs.Joins.{JoinPlays};
+ghost use Rattle.q3_recordings.specs.Joins.{JoinIsNoted, JoinPlays};
 ghost use Rattle.q3_recordings.specs.Plays.{RecordingPlays, WholeIsRecorded};
-ghost use Rattle.q3_recordings.specs.Replays.{OwnReplayBeginsWhole, OwnReplayPlays, ReplayPlays};
+ghost use Rattle.q3_recordings.specs.Replays.{OwnReplayBeginsWhole, OwnReplayPlays, ReplayIsNoted, ReplayPlays};
 
 use q3_bits::laws as bits;
 use q3_client::laws as client;
@@ -12,8 +12,8 @@ use q3_rings::laws as rings;
 use q3_schedules::laws as schedules;
 use q3_svmsg::laws as svmsg;
 
-/// Which messages a recording has: all from the first on of which a whole snapshot was accepted; or, where a message that had to be composed
-/// was too long, the first of them.
+/// Which messages a recording has, of messages that a client applied one after the other: all from the first on of which a whole
+/// snapshot was accepted; or, where a message that had to be composed was too long, the first of them.
 pub fn whole_is_recorded()
     ensures { WholeIsRecorded }
 {
@@ -34,6 +34,26 @@ pub fn recording_plays()
     svmsg::spelled_is_read();
     clstate::apply_stays();
     clstate::applied_is_context();
+}
+
+/// After a client's `record` line a replay's messages are ones that it applied one after the other, whatever bytes arrive.
+pub fn replay_is_noted()
+    ensures { ReplayIsNoted }
+{
+    svmsg::read_is_spelled();
+    clstate::apply_stays();
+    clstate::applied_is_context();
+    client::applies_its_message();
+}
+
+/// And so are those of a client over a wire, whatever arrives.
+pub fn join_is_noted()
+    ensures { JoinIsNoted }
+{
+    svmsg::read_is_spelled();
+    clstate::apply_stays();
+    clstate::applied_is_context();
+    client::applies_its_message();
 }
 
 /// So does the recording of a client of a replay, whatever bytes arrive.

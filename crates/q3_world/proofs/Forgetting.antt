@@ -22,7 +22,7 @@ use Rattle.q3_world.specs.Ends.{Ends, place_at, Line, Hands, Serves, Sends, Deli
 use Rattle.q3_world.specs.Kept.{SentBytes, Kept, datagrams_after, deliver_at, kept_send, kept_line, kept_step}
 use Rattle.q3_world.specs.Files.{acts_of, deliver_acts}
 use Rattle.q3_world.specs.Counting.{Counting}
-use Rattle.q3_world.specs.Forgetting.{named_by, forgotten, with_forgotten, AreAlike, AreSilentOf, TellsLast, AreWanted, AreWantedBefore, LetsGo}
+use Rattle.q3_world.specs.Forgetting.{named_by, forgotten, with_forgotten, AreAlike, AreSilentOf, TellsLast, AreWanted, LetsGo}
 
 -- the same datagram is at a place
 abbrev pub AreSameAt : List SentBytes → List SentBytes → ℕ → Type 0
@@ -324,42 +324,35 @@ written_back new items many is long =
     let within : length new ≤ many = omega (arith, is, long) in
     ap (λ (left : List ℕ). take many (new ++ left)) (drop_of_length-le items all) ∙ (ap (take many) (append-nil new) ∙ take_all many new within)
 
--- no bytes are at a place
-abbrev pub IsEmpty : Option SentBytes → Type 0
-IsEmpty found = IfSome found (λ (sent : SentBytes). sent.bytes ≡ [])
-
 -- ---- what a line makes
 
-before_push : (all : List Event) (datagrams : List SentBytes) (sent : SentBytes) → AreWanted all datagrams → AreWantedBefore all (datagrams ++ sent ∷ [])
-before_push all datagrams sent wanted = λ at lt silent.
-    let long = length-append datagrams (sent ∷ []) in
-    let other : at ≢ length datagrams = λ is. absurd (omega (arith, long, lt, is)) in
-    subst IsEmpty (sym (slice_get-push datagrams sent at other)) (wanted at silent)
+-- the datagrams after a line are those before it, and one more at most
+abbrev MakesOne : List SentBytes → List SentBytes → Type 0
+MakesOne datagrams after = (made : List SentBytes) × (length made ≤ 1) × (after ≡ datagrams ++ made)
 
-before_after : (all : List Event) (datagrams : List SentBytes) (c : ℕ) (direction : Direction) (piece : Option Piece) → AreWanted all datagrams
-    → AreWantedBefore all (datagrams_after datagrams c direction piece)
-before_after all datagrams c direction None wanted = λ at lt silent. wanted at silent
-before_after all datagrams c direction (Some piece) wanted = before_push all datagrams (record { client = c; direction = direction; bytes = piece.bytes }) wanted
+makes_none : (datagrams : List SentBytes) → MakesOne datagrams datagrams
+makes_none datagrams = ([], omega arith, sym (append-nil datagrams))
 
-before_send : (all : List Event) (profile : Profile) (ends : Ends) (datagrams : List SentBytes) (c : ℕ) (found : Option Place) → AreWanted all datagrams
-    → AreWantedBefore all (kept_send (kept_of profile ends datagrams) c found).kept.datagrams
-before_send all profile ends datagrams c None wanted = λ at lt silent. wanted at silent
-before_send all profile ends datagrams c (Some place) wanted =
-    before_after all datagrams c (ToServer place.address) (emit_at (asking place.client place.recording)).piece wanted
+makes_piece : (datagrams : List SentBytes) (c : ℕ) (direction : Direction) (piece : Option Piece) → MakesOne datagrams (datagrams_after datagrams c direction piece)
+makes_piece datagrams c direction None = makes_none datagrams
+makes_piece datagrams c direction (Some piece) = (record { client = c; direction = direction; bytes = piece.bytes } ∷ [], omega arith, refl)
 
-before_line : (all : List Event) (profile : Profile) (ends : Ends) (datagrams : List SentBytes) (line : Line) → AreWanted all datagrams
-    → AreWantedBefore all (kept_line (kept_of profile ends datagrams) line).kept.datagrams
-before_line all profile ends datagrams (Hands step) wanted = λ at lt silent. wanted at silent
-before_line all profile ends datagrams (HandsBytes c step) wanted = λ at lt silent. wanted at silent
-before_line all profile ends datagrams (Serves c) wanted = before_after all datagrams c ToClient (serves.emit_at ends.server c).piece wanted
-before_line all profile ends datagrams (Sends c) wanted = before_send all profile ends datagrams c (place_at ends c) wanted
-before_line all profile ends datagrams (Delivers number) wanted = λ at lt silent. wanted at silent
-before_line all profile ends datagrams (TellsBytes number) wanted = λ at lt silent. wanted at silent
+makes_send : (profile : Profile) (ends : Ends) (datagrams : List SentBytes) (c : ℕ) (found : Option Place)
+    → MakesOne datagrams (kept_send (kept_of profile ends datagrams) c found).kept.datagrams
+makes_send profile ends datagrams c None = makes_none datagrams
+makes_send profile ends datagrams c (Some place) = makes_piece datagrams c (ToServer place.address) (emit_at (asking place.client place.recording)).piece
 
-pub wanted_before : (event : Event) (all : List Event) (kept : Kept) → AreWanted (event ∷ all) kept.datagrams
-    → AreWantedBefore (event ∷ all) (kept_step kept event).kept.datagrams
+makes_line : (profile : Profile) (ends : Ends) (datagrams : List SentBytes) (line : Line) → MakesOne datagrams (kept_line (kept_of profile ends datagrams) line).kept.datagrams
+makes_line profile ends datagrams (Hands step) = makes_none datagrams
+makes_line profile ends datagrams (HandsBytes c step) = makes_none datagrams
+makes_line profile ends datagrams (Serves c) = makes_piece datagrams c ToClient (serves.emit_at ends.server c).piece
+makes_line profile ends datagrams (Sends c) = makes_send profile ends datagrams c (place_at ends c)
+makes_line profile ends datagrams (Delivers number) = makes_none datagrams
+makes_line profile ends datagrams (TellsBytes number) = makes_none datagrams
+
+pub makes_one : (event : Event) (kept : Kept) → MakesOne kept.datagrams (kept_step kept event).kept.datagrams
 unfolding kept_step
-wanted_before event all kept wanted = before_line (event ∷ all) kept.profile kept.ends kept.datagrams (line_of kept.profile kept.ends event) wanted
+makes_one event kept = makes_line kept.profile kept.ends kept.datagrams (line_of kept.profile kept.ends event)
 
 -- ---- what is let go
 
@@ -369,6 +362,9 @@ without_bytes sent = record sent { bytes = [] }
 -- a datagram at a place is as it was, or has lost its bytes
 abbrev IsLost : Option SentBytes → Option SentBytes → Type 0
 IsLost old now = (now ≡ old) ⊎ (now ≡ option_map without_bytes old)
+
+abbrev pub IsEmpty : Option SentBytes → Type 0
+IsEmpty found = IfSome found (λ (sent : SentBytes). sent.bytes ≡ [])
 
 lost_is_empty : (old : Option SentBytes) → IsEmpty (option_map without_bytes old)
 lost_is_empty None = tt

@@ -1,5 +1,5 @@
 -- What a replay may forget: the bytes of a datagram that no later line names.
-use Rattle.std.specs.Prelude.{◌≡◌, ◌≢◌, ◌⊎◌, ℕ, ◌+◌, ◌-◌, ◌<◌, ◌≤◌, List, [], ◌∷◌, length, get_or, set, drop, All, Option, Some, None, IfSome, option_map, slice_get}
+use Rattle.std.specs.Prelude.{◌≡◌, ◌≢◌, ◌⊎◌, ℕ, ◌+◌, ◌-◌, ◌<◌, ◌≤◌, List, [], ◌∷◌, ◌++◌, length, get_or, set, drop, All, Option, Some, None, IfSome, option_map, slice_get}
 use Rattle.std.specs.Option.{option_map_or}
 use Rattle.q3_script.specs.declared.event.Event.{Event}
 use Rattle.q3_script.specs.declared.event.Event.TheVariants as events
@@ -35,12 +35,12 @@ AreSilentOf all at = All (λ event. named_by event ≢ Some at) all
 abbrev pub AreWanted : List Event → List SentBytes → Type 0
 AreWanted all datagrams = (at : ℕ) → AreSilentOf all at → IfSome (slice_get datagrams at) (λ sent. sent.bytes ≡ [])
 
--- and the same but for the last datagram
+-- only these and the last datagram have bytes
 abbrev pub AreWantedBefore : List Event → List SentBytes → Type 0
 AreWantedBefore all datagrams = (at : ℕ) → at + 1 < length datagrams → AreSilentOf all at → IfSome (slice_get datagrams at) (λ sent. sent.bytes ≡ [])
 
 -- what is kept is alike itself; each line answers the same, does the same to files, and leaves what is alike for the others; and so does
--- forgetting a datagram that none of them names. A line makes one datagram at most, and gives no other one bytes
+-- forgetting a datagram that none of them names. A line makes one datagram at most, and leaves all others
 pub record ForgettingIsAlike : Type 0 where
   pub itself : (all : List Event) (kept : Kept) → AreAlike all kept kept
   pub steps : (event : Event) (all : List Event) (one other : Kept) → AreAlike (event ∷ all) one other
@@ -48,8 +48,7 @@ pub record ForgettingIsAlike : Type 0 where
       × AreAlike all (kept_step one event).kept (kept_step other event).kept
   pub forgets : (at : ℕ) (all : List Event) (one other : Kept) → AreSilentOf all at → AreAlike all one other
       → AreAlike all (with_forgotten one at) other
-  pub makes : (event : Event) (all : List Event) (kept : Kept) → AreWanted (event ∷ all) kept.datagrams
-      → AreWantedBefore (event ∷ all) (kept_step kept event).kept.datagrams
+  pub makes : (event : Event) (kept : Kept) → (made : List SentBytes) × (length made ≤ 1) × ((kept_step kept event).kept.datagrams ≡ kept.datagrams ++ made)
 
 -- ---- which datagrams later lines name
 

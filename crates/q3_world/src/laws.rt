@@ -84,8 +84,8 @@ pub fn slots_apart()
     layers();
 }
 
-/// Lines answer alike, and do alike to files, whatever datagrams were forgotten that none of them names; and a line gives none but the
-/// datagram that it makes bytes.
+/// Lines answer alike, and do alike to files, whatever datagrams were forgotten that none of them names; and a line makes one
+/// datagram at most, and leaves all others.
 pub fn forgetting_is_alike()
     ensures { ForgettingIsAlike }
 {}

@@ -1,7 +1,7 @@
 -- Stepping over events while datagrams are forgotten that no later one names: the world is alike the one that keeps them all.
 use Rattle.std.proofs.Common.{◌≡◌, ℕ, ◌+◌, ◌<◌, ◌≤◌, List, [], ◌∷◌, ◌++◌, length, get_or, take, drop, Option, Result, refl, sym, ap, subst, ◌∙◌, arith}
-use Rattle.std.specs.Prelude.{true, Option, IfSome}
-use Rattle.std.proofs.lemmas.List.{drop_more}
+use Rattle.std.specs.Prelude.{true, zero, suc, Option, IfSome, slice_get}
+use Rattle.std.proofs.lemmas.List.{drop_more, length-append}
 use Rattle.std.proofs.lemmas.Option.{slice_get_past}
 use Rattle.std.proofs.Math.Seq.{take-add}
 use Rattle.q3_profile.specs.declared.profile.Profile.{Profile}
@@ -114,8 +114,22 @@ wanted_begin all datagrams none = λ at silent.
     let past : length datagrams ≤ at = omega (arith, none) in
     subst (λ (found : Option SentBytes). IfSome found (λ (sent : SentBytes). sent.bytes ≡ [])) (sym (slice_get_past datagrams at past)) tt
 
+front_stays : (front more : List SentBytes) (at : ℕ) → at < length front → slice_get (front ++ more) at ≡ slice_get front at
+front_stays [] more at lt = absurd (omega (arith, lt))
+front_stays (sent ∷ front) more zero lt = refl
+front_stays (sent ∷ front) more (suc at) lt = front_stays front more at (omega (arith, lt))
+
+wanted_before : (all : List Event) (datagrams made : List SentBytes) → length made ≤ 1 → AreWanted all datagrams → AreWantedBefore all (datagrams ++ made)
+wanted_before all datagrams made few wanted = λ at lt silent.
+    let long = length-append datagrams made in
+    let within : at < length datagrams = omega (arith, long, few, lt) in
+    subst (λ (found : Option SentBytes). IfSome found (λ (sent : SentBytes). sent.bytes ≡ [])) (sym (front_stays datagrams made at within)) (wanted at silent)
+
 -- after the k-th event, and before what it leaves is let go
 pub wanted_more : ForgettingIsAlike → (now : Kept) (events : List Event) (k : ℕ) (event : Event) → event ≡ get_or events k event → k < length events
     → AreWanted (drop k events) now.datagrams → AreWantedBefore (event ∷ drop (k + 1) events) (kept_step now event).kept.datagrams
 wanted_more law now events k event is lt wanted =
-    law.makes event (drop (k + 1) events) now (subst (λ (left : List Event). AreWanted left now.datagrams) (left_is events k event is lt) wanted)
+    let left : List Event = event ∷ drop (k + 1) events in
+    let makes = law.makes event now in
+    subst (AreWantedBefore left) (sym makes.2)
+    (wanted_before left now.datagrams makes.0 makes.1 (subst (λ (all : List Event). AreWanted all now.datagrams) (left_is events k event is lt) wanted))
