@@ -67,8 +67,8 @@ pub(crate) struct Head {
     count: u32,
 }
 
-/// Opens the index of a demo: both are numbers of files. The demo is asked for its length alone, and no other file for anything. `Err` is `NotIndex` exactly where the heads
-/// aren't those of an index, with the place of the first field that is cut short or breaks a rule, of a state that goes beyond the file, or of
+/// Opens the index of a demo: both are numbers of files. The index's file alone is asked for bytes, and of the demo's only the length is
+/// asked. `Err` is `NotIndex` exactly where the heads aren't those of an index, with the place of the first field that is cut short or breaks a rule, of a state that goes beyond the file, or of
 /// the first byte after the last checkpoint; else `OtherDemo` exactly where the demo has another length or the profile another mark; else
 /// `OtherWidth` exactly where an entity's number has another number of bits by the profile.
 pub fn open_index<F: Files>(

@@ -56,11 +56,11 @@ ReadsPieces most file (Some told) now result =
 
 -- ---- what is asked of the file of a name
 
--- how many bytes of it were asked for by the numbers that stand for the name, of which the first is this one
+-- how many bytes of it were asked for by the numbers from this one on that stand for the name
 unfoldable pub asked_from : ℕ → List (List ℕ) → List ℕ → List ℕ → ℕ
 asked_from file [] asked name = 0
-asked_from file (number ∷ numbers) asked name =
-    (if bytes_eq number name then slice_index asked file else 0) + asked_from (file + 1) numbers asked name
+asked_from file (called ∷ others) asked name =
+    (if bytes_eq called name then slice_index asked file else 0) + asked_from (file + 1) others asked name
 
 -- and by all, where it is told
 abbrev pub asked_by_name : Option Told → List ℕ → ℕ
@@ -72,7 +72,7 @@ abbrev pub IsCounted : Option Told → Type 0
 IsCounted None = ⊤
 IsCounted (Some told) = (file : ℕ) → length told.numbers ≤ file → slice_index told.asked file ≡ 0
 
--- only of the file of a name more was asked for
+-- only of the file of a name more was asked for, where nothing was asked for by a number that isn't given, and so it stays
 abbrev pub AsksOfName : List ℕ → Option Told → Option Told → Type 0
 AsksOfName name told now = IsCounted told → IsCounted now × ((other : List ℕ) → other ≢ name → asked_by_name now other ≡ asked_by_name told other)
 

@@ -27,7 +27,7 @@ const VERSION: &[u8] = b"q3net 0.1.0\n";
 /// Runs the command that the words after the program's name are, and answers its status:
 /// 0 done, 1 no memory, 2 usage, 3 read fault, 4 write fault, 5 bad profile, 6 bad script, 7 bad demo, 8 bad index,
 /// 9 wire fault, 10 past the end, 11 turns spent.
-/// Want of memory may come at any point after usage, and no clause ties it to anything.
+/// Want of memory comes where the command's verdict says that it may; no clause says that memory suffices.
 pub fn run<F: Files, W: Wire, C: Clock, O: Sink>(
     alloc: Global,
     words: &[String],
@@ -75,8 +75,9 @@ pub fn run<F: Files, W: Wire, C: Clock, O: Sink>(
     ensures sought { SeekReportsPlayedState (command_of (map string_bytes words.now))
         (outside (F.told files.old) (W.told wire.old) (C.readings clock.old)) (O.written out.old)
         (O.written out.new) result }
-    // Where every read gives all that it is asked for, and the demo is another file than the profile and the index, no more of it is asked for
-    // than the records have that are played, from the last 256th at or below on.
+    // Where every read gives all that it is asked for, the index was made of the demo and counts as many records, and the demo's word is
+    // neither the profile's nor the index's, no more of the demo is asked for than its records have after the last 256th at or below RECORD,
+    // up to RECORD.
     ensures cheap { IsTrue F.reads_whole → CommandAsksFromCheckpoint (command_of (map string_bytes words.now))
         (F.told files.old) (F.told files.new) }
 
