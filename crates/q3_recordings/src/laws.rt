@@ -20,6 +20,28 @@ pub fn whole_is_recorded()
     demos::applied_may_be_noted();
 }
 
+/// The messages that a client of a replay applied after a `record` line that was answered `ok`, up to its first `stop`, are ones that it
+/// applied one after the other, whatever bytes arrive.
+pub fn replay_is_noted()
+    ensures { ReplayIsNoted }
+{
+    svmsg::read_is_spelled();
+    clstate::apply_stays();
+    clstate::applied_is_context();
+    client::applies_its_message();
+}
+
+/// And so are those that a new client's node applied after the turn that began the first recording into a name, up to its end, whatever
+/// arrives.
+pub fn join_is_noted()
+    ensures { JoinIsNoted }
+{
+    svmsg::read_is_spelled();
+    clstate::apply_stays();
+    clstate::applied_is_context();
+    client::applies_its_message();
+}
+
 /// Playing a recording gives what its client had: after the gamestate each of the messages that it recorded, under its number, with the
 /// snapshot that was accepted of it and the commands that were executed of it, and in the end the client's baselines, slot, checksum feed and
 /// number of commands. The recording begins with config strings that tell the map's id. Where it doesn't begin within a long string, the
@@ -34,26 +56,6 @@ pub fn recording_plays()
     svmsg::spelled_is_read();
     clstate::apply_stays();
     clstate::applied_is_context();
-}
-
-/// After a client's `record` line a replay's messages are ones that it applied one after the other, whatever bytes arrive.
-pub fn replay_is_noted()
-    ensures { ReplayIsNoted }
-{
-    svmsg::read_is_spelled();
-    clstate::apply_stays();
-    clstate::applied_is_context();
-    client::applies_its_message();
-}
-
-/// And so are those of a client over a wire, whatever arrives.
-pub fn join_is_noted()
-    ensures { JoinIsNoted }
-{
-    svmsg::read_is_spelled();
-    clstate::apply_stays();
-    clstate::applied_is_context();
-    client::applies_its_message();
 }
 
 /// So does the recording of a client of a replay, whatever bytes arrive.
