@@ -28,6 +28,4 @@ mod snapshots;
 #[cfg(test)]
 mod texts;
 #[cfg(test)]
-mod turns;
-#[cfg(test)]
 mod wires;
