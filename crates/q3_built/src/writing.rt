@@ -134,7 +134,8 @@ fn write_clear_game(
 fn scramble_front(protocol: u32, buffer: &mut [u8], bytes: usize, telling: TellingParts)
     requires { bytes ≤ length buffer.old }
     ensures scrambled { take bytes buffer.new
-        ≡ server_scrambled (server_key protocol telling.entry.challenge telling.entry.number telling.entry.executed.now.last) (take bytes buffer.old) }
+        ≡ server_scrambled (server_key protocol telling.entry.challenge telling.entry.number telling.entry.executed.now.last)
+        (take bytes buffer.old) }
     ensures long { length buffer.new ≡ length buffer.old }
 {
     let text = telling.executed.last();

@@ -89,7 +89,8 @@ fn print_stale<O: Sink>(number: u32, out: &mut O) -> Result<(), Failed>
 /// Prints the line of a snapshot whose base isn't held.
 fn print_skipped<O: Sink>(number: u32, base: u32, cause: NoBase, out: &mut O) -> Result<(), Failed>
     ensures adds { Adds (O.written out.old) (O.written out.new)
-        (concat (codes "+ skipped " ∷ decimal number ∷ codes " base " ∷ decimal base ∷ codes " " ∷ cause_text cause ∷ codes "\n" ∷ [])) result }
+        (concat (codes "+ skipped " ∷ decimal number ∷ codes " base " ∷ decimal base ∷ codes " " ∷ cause_text cause ∷ codes "\n"
+        ∷ [])) result }
     ensures cause { HasCause (O.faults out.old) (O.faults out.new) result }
 {
     laws::texts_follow();
@@ -106,7 +107,8 @@ fn print_base<'a, O: Sink>(
     end: &'a [u8],
     out: &mut O,
 ) -> Result<(), Failed>
-    ensures adds { Adds (O.written out.old) (O.written out.new) (concat (word.now ∷ decimal number ∷ codes " base " ∷ decimal base ∷ end.now ∷ [])) result }
+    ensures adds { Adds (O.written out.old) (O.written out.new)
+        (concat (word.now ∷ decimal number ∷ codes " base " ∷ decimal base ∷ end.now ∷ [])) result }
     ensures cause { HasCause (O.faults out.old) (O.faults out.new) result }
 {
     print_all(

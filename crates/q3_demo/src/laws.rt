@@ -25,9 +25,9 @@ pub fn refused_for_its_bytes()
     ensures { RefusedForItsBytes }
 {}
 
-/// Of a front of a demo the first of the demo's records are played. Its play ends with no refusal, where the front ends within a
-/// head, or with `Truncated` at the place after its last record, where it ends within a message. Else no record more is played of
-/// the whole demo, and both plays end alike.
+/// Of a front of a demo the first of the demo's records are played. Its play ends with no refusal, where the front ends
+/// before a head or within one, or with `Truncated` at the place after its last record, where it ends after a head and within its
+/// message. Else no record more is played of the whole demo, and both plays end alike.
 pub fn a_prefix_plays_a_prefix()
     ensures { APrefixPlaysAPrefix }
 {}

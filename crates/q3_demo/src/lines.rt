@@ -19,7 +19,8 @@ pub(crate) fn print_record<O: Sink>(
     out: &mut O,
 ) -> Result<(), Failed>
     ensures adds { Adds (O.written out.old) (O.written out.new)
-        (concat (codes "record " ∷ decimal index ∷ codes " number " ∷ decimal number ∷ codes "\n" ∷ applied_text state.now applied.now log.now.commands ∷ [])) result }
+        (concat (codes "record " ∷ decimal index ∷ codes " number " ∷ decimal number ∷ codes "\n"
+        ∷ applied_text state.now applied.now log.now.commands ∷ [])) result }
     ensures cause { HasCause (O.faults out.old) (O.faults out.new) result }
 {
     laws::texts_follow();
@@ -29,7 +30,8 @@ pub(crate) fn print_record<O: Sink>(
 
 /// Prints the first line of a record.
 fn print_line<O: Sink>(index: u32, number: u32, out: &mut O) -> Result<(), Failed>
-    ensures adds { Adds (O.written out.old) (O.written out.new) (concat (codes "record " ∷ decimal index ∷ codes " number " ∷ decimal number ∷ codes "\n" ∷ [])) result }
+    ensures adds { Adds (O.written out.old) (O.written out.new)
+        (concat (codes "record " ∷ decimal index ∷ codes " number " ∷ decimal number ∷ codes "\n" ∷ [])) result }
     ensures cause { HasCause (O.faults out.old) (O.faults out.new) result }
 {
     print_all(

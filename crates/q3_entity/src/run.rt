@@ -80,7 +80,7 @@ fn after_same<'a, 'b>(
     (&base[count..], &now[count..])
 }
 
-/// With how many entities, the same in both, both begin.
+/// With how many entities, the same in both, both begin: with no more, since the next ones differ or one of both has no next.
 pub fn count_same(base: &[EntityState], now: &[EntityState]) -> usize
     ensures same { take result base.now ≡ take result now.now }
     ensures in_base { result ≤ length base.now }

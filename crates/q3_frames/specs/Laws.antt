@@ -15,8 +15,8 @@ HeldWasBuilt = (frames : FramesState) (c slot number : ℕ) (built held : Snapsh
     → ((slot ≡ c) × (number ≡ built.head.number) × (held ≡ built))
     ⊎ ((slot ≡ c → place_of number ≢ place_of built.head.number) × (held_frame frames slot number ≡ Some held))
 
--- a build leaves every other place: what stood there is held after exactly where it is the number's own and its first, with the
--- ring's room, is above the count of entities placed, those of the build among them
+-- a build leaves every other place: what stood there is held after exactly where it was built under the number, and the count at which
+-- its entities begin, with the ring's room added, is above the count of entities placed, those of the build among them
 abbrev pub BuildLeavesOthers : Type 0
 BuildLeavesOthers = (frames : FramesState) (c slot number : ℕ) (built : Snapshot) → (slot ≡ c → place_of number ≢ place_of built.head.number)
     → held_frame (build_at frames c built) slot number

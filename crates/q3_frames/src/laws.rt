@@ -13,8 +13,8 @@ pub fn held_was_built()
     ensures { HeldWasBuilt }
 {}
 
-/// A build leaves every other place: what stood there is held after exactly where it is the number's own and its first, with
-/// the ring's room, is above the count of entities placed, those of the build among them.
+/// A build leaves every other place: what stood there is held after exactly where it was built under the number, and the count at
+/// which its entities begin, with the ring's room added, is above the count of entities placed, those of the build among them.
 pub fn build_leaves_others()
     ensures { BuildLeavesOthers }
 {}

@@ -68,9 +68,10 @@ pub(crate) struct Head {
 }
 
 /// Opens the index of a demo: both are numbers of files. The index's file alone is asked for bytes, and of the demo's only the length is
-/// asked. `Err` is `NotIndex` exactly where the heads aren't those of an index, with the place of the first field that is cut short or breaks a rule, of a state that goes beyond the file, or of
-/// the first byte after the last checkpoint; else `OtherDemo` exactly where the demo has another length or the profile another mark; else
-/// `OtherWidth` exactly where an entity's number has another number of bits by the profile.
+/// asked. `Err` is `NotIndex` exactly where the heads aren't those of an index, with the place of the first field that is cut short or
+/// breaks a rule, of a state that goes beyond the file, or of the first byte after the last checkpoint; else `OtherDemo` exactly where the
+/// demo has another length or the profile another mark; else `OtherWidth` exactly where an entity's number has another number of bits by
+/// the profile.
 pub fn open_index<F: Files>(
     alloc: Global,
     profile: &Profile,

@@ -305,7 +305,8 @@ fn print_all_bytes<O: Sink>(datagram: u32, bytes: &[u8], out: &mut O) -> Result<
 
 /// Prints the lines of a `show`.
 fn print_shown<O: Sink>(c: u8, shown: Shown, out: &mut O) -> Result<(), Failed>
-    ensures adds { Adds (O.written out.old) (O.written out.new) (concat (codes "show " ∷ decimal c ∷ showing_text (showing_of shown.entry) ∷ [])) result }
+    ensures adds { Adds (O.written out.old) (O.written out.new)
+        (concat (codes "show " ∷ decimal c ∷ showing_text (showing_of shown.entry) ∷ [])) result }
     ensures cause { HasCause (O.faults out.old) (O.faults out.new) result }
 {
     match shown {
@@ -317,7 +318,8 @@ fn print_shown<O: Sink>(c: u8, shown: Shown, out: &mut O) -> Result<(), Failed>
 
 /// Prints the lines of a `show` that shows a snapshot.
 fn print_newest<O: Sink>(c: u8, snapshot: SnapView, out: &mut O) -> Result<(), Failed>
-    ensures adds { Adds (O.written out.old) (O.written out.new) (concat (codes "show " ∷ decimal c ∷ snapshot_text (snapshot_of snapshot.entry) ∷ [])) result }
+    ensures adds { Adds (O.written out.old) (O.written out.new)
+        (concat (codes "show " ∷ decimal c ∷ snapshot_text (snapshot_of snapshot.entry) ∷ [])) result }
     ensures cause { HasCause (O.faults out.old) (O.faults out.new) result }
 {
     laws::texts_follow();

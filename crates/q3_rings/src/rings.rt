@@ -80,8 +80,8 @@ impl Rings {
 
     /// Lends the snapshot of a number. `NeverHeld` comes exactly where the number is 0 or no snapshot stands in its place,
     /// else `Overwritten` exactly where that one has another number, which it carries, and else `EntitiesGone` exactly where
-    /// its age, which it carries, is above the ring's room less 256. Of its entities, in their order, the first piece goes to the
-    /// ring's end at most, and the second on from the ring's first place.
+    /// its age, which it carries, is above the ring's room less 256. Of its entities, in their order, the first piece has
+    /// exactly those up to the ring's end, and the second the others, on from the ring's first place.
     pub fn base(&self, number: u32) -> Result<SnapView<'_>, NoBase>
         ensures base { viewed result ≡ held_snapshot self.now.held number }
         ensures rises { IfOk result (λ view. Rises (run_of view.entities)) }

@@ -142,8 +142,8 @@ EndsWithPlayedState by demo records old now ended =
 abbrev pub SeekEndsWithPlayedState : Option Told → (profile demo index : List ℕ) → ℕ → Option Written → Option Written → Result (Unit {0}) Fault → Type 0
 SeekEndsWithPlayedState told profile demo index records old now ended = WhereIndexWasMade told profile demo index records (λ by bytes records. EndsWithPlayedState by bytes records old now ended)
 
--- where a demo is sought so, and its file isn't that of the profile or of the index, no more of it is asked for than the records have that
--- are played: those after the last 256th at or below so many
+-- where a demo is sought so, its file isn't that of the profile or of the index, and nothing was asked for by a number that isn't given, no
+-- more of it is asked for than the records have that are played: those after the last 256th at or below so many
 abbrev pub SeekAsksFromCheckpoint : Option Told → Option Told → (profile demo index : List ℕ) → ℕ → Type 0
 SeekAsksFromCheckpoint told now profile demo index records =
     IsCounted told → profile ≢ demo → index ≢ demo

@@ -118,8 +118,9 @@ fn print_built<O: Sink>(built: Built, out: &mut O) -> Result<(), Fault>
 }
 
 /// Prints what so many records of the demo of this name leave, by the index of that name. Where every read gives all that it is asked for,
-/// the index was made of the demo and counts as many records, and the demo's name is neither the profile's nor the index's, no more of the
-/// demo is asked for than its records have after the last 256th at or below so many, up to so many.
+/// nothing was asked for by a number that isn't given, the index was made of the demo and counts as many records, and the demo's name is
+/// neither the profile's nor the index's, no more of the demo is asked for than its records have after the last 256th at or below so many,
+/// up to so many.
 pub fn seek<F: Files, O: Sink>(
     alloc: Global,
     profile: &str,

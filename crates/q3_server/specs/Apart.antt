@@ -20,9 +20,9 @@ found_by server from (Err e) = None
 abbrev pub taker_of : ServerState → Address → List ℕ → Option ℕ
 taker_of server from bytes = found_by server from (qport_of (is_checked server.profile.protocol) bytes)
 
--- a slot loses frames by the ring alone: what stood in the place of a number is held after exactly where it is the number's own
--- and its first, with the ring's room, is above the count of entities placed. The room stays, and the count grows by one message's
--- entities at most
+-- a slot loses frames by the ring alone: what stood in the place of a number is held after exactly where it was built under the
+-- number, and the count at which its entities begin, with the ring's room added, is above the count of entities placed. The room
+-- stays, and the count grows by one message's entities at most
 pub record LosesByRing (d : ℕ) (old new : FramesState) : Type 0 where
   pub ring : new.ring ≡ old.ring
   pub grows : old.placed ≤ new.placed

@@ -91,13 +91,17 @@ pub(crate) fn begin_snapshot(
     requires buffer { length buffer.old ≡ longest_message }
     requires out { out.old.items ≡ [] }
     ensures slot { (gathering : Gathering) → slot_of sender.new gathering to.entry.issued.now to.entry.client.now
-        ≡ (snapshot_emission profile.now map.now frames.old to.entry.slot (slot_of sender.old gathering to.entry.issued.now to.entry.client.now)).slot }
+        ≡ (snapshot_emission profile.now map.now frames.old to.entry.slot
+        (slot_of sender.old gathering to.entry.issued.now to.entry.client.now)).slot }
     ensures map { (gathering : Gathering) → map.now
-        ≡ (snapshot_emission profile.now map.now frames.old to.entry.slot (slot_of sender.old gathering to.entry.issued.now to.entry.client.now)).map }
+        ≡ (snapshot_emission profile.now map.now frames.old to.entry.slot
+        (slot_of sender.old gathering to.entry.issued.now to.entry.client.now)).map }
     ensures frames { (gathering : Gathering) → frames.new
-        ≡ (snapshot_emission profile.now map.now frames.old to.entry.slot (slot_of sender.old gathering to.entry.issued.now to.entry.client.now)).frames }
+        ≡ (snapshot_emission profile.now map.now frames.old to.entry.slot
+        (slot_of sender.old gathering to.entry.issued.now to.entry.client.now)).frames }
     ensures answer { (gathering : Gathering) → result
-        ≡ (snapshot_emission profile.now map.now frames.old to.entry.slot (slot_of sender.old gathering to.entry.issued.now to.entry.client.now)).answer }
+        ≡ (snapshot_emission profile.now map.now frames.old to.entry.slot
+        (slot_of sender.old gathering to.entry.issued.now to.entry.client.now)).answer }
     ensures piece { (gathering : Gathering)
         → HandsOut (snapshot_emission profile.now map.now frames.old to.entry.slot
         (slot_of sender.old gathering to.entry.issued.now to.entry.client.now)).piece out.new.items }

@@ -268,7 +268,9 @@ impl Joined {
         requires no_moves { heard.old.moves.items ≡ [] }
         requires no_entered { heard.old.entered ≡ None }
         ensures client { (sending : Sending) (gathering : Gathering) → self.new
-            ≡ record (played self.old (goes_with sending gathering issued.old self.old (said_of message.now))) { executed = executes self.old.executed (said_of message.now).commands } }
+            ≡ record (played self.old (goes_with sending gathering issued.old self.old (said_of message.now))) {
+              executed = executes self.old.executed (said_of message.now).commands;
+            } }
         ensures issued { issued.new ≡ (acknowledge_at issued.old (said_of message.now).command).window }
         ensures commands { heard.new.commands ≡ fresh_of self.old.executed.executed (said_of message.now).commands }
         ensures moves { (sending : Sending) (gathering : Gathering)

@@ -75,9 +75,9 @@ pub fn run<F: Files, W: Wire, C: Clock, O: Sink>(
     ensures sought { SeekReportsPlayedState (command_of (map string_bytes words.now))
         (outside (F.told files.old) (W.told wire.old) (C.readings clock.old)) (O.written out.old)
         (O.written out.new) result }
-    // Where every read gives all that it is asked for, the index was made of the demo and counts as many records, and the demo's word is
-    // neither the profile's nor the index's, no more of the demo is asked for than its records have after the last 256th at or below RECORD,
-    // up to RECORD.
+    // Where every read gives all that it is asked for, nothing was asked for by a number that isn't given, the index was made of the demo and
+    // counts as many records, and the demo's word is neither the profile's nor the index's, no more of the demo is asked for than its records
+    // have after the last 256th at or below RECORD, up to RECORD.
     ensures cheap { IsTrue F.reads_whole → CommandAsksFromCheckpoint (command_of (map string_bytes words.now))
         (F.told files.old) (F.told files.new) }
 
