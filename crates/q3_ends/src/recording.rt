@@ -100,7 +100,8 @@ fn prepare(recorder: &mut Recorder, client: &Client)
     ensures stage { recorder.new.stage ≡ recorder.old.stage }
     ensures game { (state : AppliedState) (applied : AppliedSo) (message : List ℕ)
         → note_at recorder.new.stage recorder.new.game state applied message
-        ≡ note_at recorder.old.stage (composed (game_bits client.now.state (issued_of client.now.issued))) state applied message }
+        ≡ note_at recorder.old.stage
+        (composed (game_bits client.now.state (issued_of client.now.issued))) state applied message }
 {
     if recorder.waiting() {
         recorder.prepare(client.state(), client.issued());

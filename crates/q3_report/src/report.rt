@@ -175,7 +175,8 @@ fn print_refused<E: Refusal, O: Sink>(
     out: &mut O,
 ) -> Result<(), Failed>
     ensures adds { Adds (O.written out.old) (O.written out.new)
-        (concat (word.now ∷ decimal number ∷ concat (codes " refused " ∷ E.told refusal.now ∷ codes "\n" ∷ []) ∷ [])) result }
+        (concat (word.now ∷ decimal number
+        ∷ concat (codes " refused " ∷ E.told refusal.now ∷ codes "\n" ∷ []) ∷ [])) result }
     ensures cause { HasCause (O.faults out.old) (O.faults out.new) result }
 {
     laws::texts_follow();
@@ -282,7 +283,8 @@ fn print_numbered<O: Sink>(word: &[u8], number: u32, out: &mut O) -> Result<(), 
 /// Prints the line of a datagram's bytes.
 fn print_bytes<O: Sink>(datagram: u32, bytes: Option<&[u8]>, out: &mut O) -> Result<(), Failed>
     ensures adds { Adds (O.written out.old) (O.written out.new)
-        (concat (codes "bytes " ∷ decimal datagram ∷ bytes_text (option_map (λ bytes. bytes.now) bytes.entry) ∷ [])) result }
+        (concat (codes "bytes " ∷ decimal datagram
+        ∷ bytes_text (option_map (λ bytes. bytes.now) bytes.entry) ∷ [])) result }
     ensures cause { HasCause (O.faults out.old) (O.faults out.new) result }
 {
     match bytes {
@@ -294,7 +296,8 @@ fn print_bytes<O: Sink>(datagram: u32, bytes: Option<&[u8]>, out: &mut O) -> Res
 /// Prints the line of a datagram's bytes, where it was made.
 fn print_all_bytes<O: Sink>(datagram: u32, bytes: &[u8], out: &mut O) -> Result<(), Failed>
     ensures adds { Adds (O.written out.old) (O.written out.new)
-        (concat (codes "bytes " ∷ decimal datagram ∷ concat (codes " " ∷ hex_word bytes.now ∷ codes "\n" ∷ []) ∷ [])) result }
+        (concat (codes "bytes " ∷ decimal datagram
+        ∷ concat (codes " " ∷ hex_word bytes.now ∷ codes "\n" ∷ []) ∷ [])) result }
     ensures cause { HasCause (O.faults out.old) (O.faults out.new) result }
 {
     laws::texts_follow();

@@ -31,7 +31,7 @@ use q3_player::laws::is_state;
 use q3_player::{PlayerState, SnapHead};
 use q3_profile::Profile;
 use q3_slot::laws::nothing_is_listed;
-use q3_slot::{Emitted, Heard, NoClient, SayError, ServerTook, Slot};
+use q3_slot::{Context, Emitted, Heard, NoClient, SayError, ServerTook, Slot};
 use q3_text::Text;
 use std::alloc::Global;
 use std::marker::Model;
@@ -71,20 +71,13 @@ pub enum ConfigRefused {
 /// The server. After `new` no call takes memory.
 #[derive(Drop)]
 pub struct Server {
-    /// A copy of the one by which messages are read and written.
-    profile: Profile,
-    /// What the game handed in for all clients.
-    map: Map,
     /// A place for each client, 16 at most.
     slots: Vec<Slot>,
-    /// The frames that were built for them, and the ring that these share.
-    frames: Frames,
+    /// A copy of the profile, what the game handed in for all clients, and their frames; with the places in which a message is
+    /// written, which hold nothing from one call to another.
+    context: Context,
 
     // places that hold nothing from one call to another
-    /// For the head of a snapshot.
-    head: SnapHead,
-    /// For a message that is written: 16,384 bytes.
-    buffer: Vec<u8>,
     /// For what is read of a client's message.
     said: ClientMessage,
     /// For the bytes of one that came whole, where they are cleared: 16,384 too.
@@ -100,12 +93,17 @@ impl Model for Server {
 
     ghost Value = { ServerState };
 
-    ghost view = { λ s. record { profile = s.profile; map = s.map; slots = s.slots.items; frames = s.frames } };
+    ghost view = { λ s. record {
+      profile = s.context.profile;
+      map = s.context.map;
+      slots = s.slots.items;
+      frames = s.context.frames;
+    } };
 
-    ghost invariant = { λ s. (length s.slots.items ≤ places) × (length s.frames.slots ≡ length s.slots.items)
-        × HoldLists s.profile.entity s.frames
-        × (length s.buffer.items ≡ longest_message) × (length s.whole.items ≡ longest_message)
-        × IsServer s.profile s.map s.slots.items s.frames };
+    ghost invariant = { λ s. (length s.slots.items ≤ places) × (length s.context.frames.slots ≡ length s.slots.items)
+        × HoldLists s.context.profile.entity s.context.frames
+        × (length s.context.buffer.items ≡ longest_message) × (length s.whole.items ≡ longest_message)
+        × IsServer s.context.profile s.context.map s.slots.items s.context.frames };
 }
 
 impl Server {
@@ -160,7 +158,7 @@ impl Server {
         if let Some(twin) = slot_of(&self.slots, from.host, qport) {
             return Err(SlotError::Twin(twin));
         }
-        let protocol = self.profile.protocol;
+        let protocol = self.context.profile.protocol;
         self.slots[slot as usize].join(protocol, challenge, qport, from);
         Ok(())
     }
@@ -174,9 +172,9 @@ impl Server {
         ensures { new_map_at self.old id feed ≡ record { server = self.new; answer = result } }
     {
         laws::below();
-        self.map.new_map(id, feed)?;
+        self.context.map.new_map(id, feed)?;
         begin_map(&mut self.slots);
-        self.frames.note_change();
+        self.context.frames.note_change();
         Ok(())
     }
 
@@ -189,14 +187,16 @@ impl Server {
     {
         laws::below();
         are_words(&state.words);
-        self.map.set_baseline(&self.profile.entity, state)
+        self.context
+            .map
+            .set_baseline(&self.context.profile.entity, state)
     }
 
     /// The config strings of the map.
     pub fn configs(&self) -> &Configs
         ensures { result.now ≡ self.now.map.strings }
     {
-        self.map.configs()
+        self.context.map.configs()
     }
 
     /// Changes a config string, and tells each client of it for which a gamestate of the map was begun, by commands that go with
@@ -209,16 +209,16 @@ impl Server {
         if index == SYSTEM_INFO {
             return Err(ConfigRefused::Own);
         }
-        if let Err(error) = self.map.configs().admit(index, text) {
+        if let Err(error) = self.context.map.configs().admit(index, text) {
             return Err(refused_for(error));
         }
-        if self.map.configs().has(index, text) {
+        if self.context.map.configs().has(index, text) {
             return Ok(());
         }
         if let Some(slot) = first_without_room(&self.slots, index, text) {
             return Err(ConfigRefused::WindowFull(slot));
         }
-        self.map.set_config(index, text);
+        self.context.map.set_config(index, text);
         tell_all(&mut self.slots, index, text);
         Ok(())
     }
@@ -227,7 +227,7 @@ impl Server {
     pub fn set_time(&mut self, time: u32)
         ensures { self.new ≡ set_time_at self.old time }
     {
-        self.map.set_time(time);
+        self.context.map.set_time(time);
     }
 
     /// The end mark of the profile's entity table: entities have the numbers below it.
@@ -235,7 +235,7 @@ impl Server {
         ensures mark { result ≡ end_mark self.now.profile.entity }
         ensures least { least_end ≤ result }
     {
-        self.profile.entity.end()
+        self.context.profile.entity.end()
     }
 
     /// Takes over the state of an entity, whose number is below the end mark of the profile's entity table.
@@ -245,8 +245,10 @@ impl Server {
     {
         laws::below();
         are_words(&state.words);
-        self.map.set_entity(&self.profile.entity, state);
-        self.frames.note_change();
+        self.context
+            .map
+            .set_entity(&self.context.profile.entity, state);
+        self.context.frames.note_change();
     }
 
     /// Takes an entity away. An absent one changes nothing.
@@ -254,8 +256,8 @@ impl Server {
         ensures { self.new ≡ remove_entity_at self.old number }
     {
         laws::below();
-        self.map.remove_entity(number);
-        self.frames.note_change();
+        self.context.map.remove_entity(number);
+        self.context.frames.note_change();
     }
 
     /// Takes over the player of a client. `NoClient` comes exactly where no client was added in the slot.
@@ -267,7 +269,7 @@ impl Server {
         if !self.has(slot) {
             return Err(NoClient);
         }
-        self.slots[slot as usize].set_player(&self.profile, player)
+        self.slots[slot as usize].set_player(&self.context.profile, player)
     }
 
     /// Takes over the area bytes of a client, at most 32. `NoClient` comes exactly where no client was added in the slot.
@@ -358,7 +360,7 @@ impl Server {
     {
         laws::below();
         heard.clear();
-        let qport = match qport_of(is_checked(self.profile.protocol), datagram) {
+        let qport = match qport_of(is_checked(self.context.profile.protocol), datagram) {
             Ok(qport) => qport,
             Err(NoQport::Runt) => return ServerTook::Runt,
             Err(NoQport::Connectionless) => return ServerTook::Connectionless,
@@ -367,8 +369,8 @@ impl Server {
             return ServerTook::Stranger;
         };
         self.slots[slot as usize].take(
-            &self.profile,
-            &self.map,
+            &self.context.profile,
+            &self.context.map,
             slot,
             from,
             datagram,
@@ -399,15 +401,7 @@ impl Server {
         if !self.has(slot) {
             return Emitted::NoClient;
         }
-        self.slots[slot as usize].emit(
-            slot,
-            &self.profile,
-            &mut self.map,
-            &mut self.frames,
-            &mut self.head,
-            &mut self.buffer,
-            out,
-        )
+        self.slots[slot as usize].emit(slot, &mut self.context, out)
     }
 }
 
@@ -430,12 +424,14 @@ fn of_parts(
     ensures { result ≡ record { profile = profile; map = map; slots = slots.items; frames = frames } }
 {
     Server {
-        profile,
-        map,
         slots,
-        frames,
-        head: SnapHead::new(),
-        buffer,
+        context: Context {
+            profile,
+            map,
+            frames,
+            head: SnapHead::new(),
+            buffer,
+        },
         said,
         whole,
     }

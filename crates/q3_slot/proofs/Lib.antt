@@ -3,3 +3,4 @@ mod Listed
 mod Runs
 mod Taken
 mod Told
+mod Whole

@@ -1,5 +1,5 @@
 -- The entities of the frames of slots.
-use Rattle.std.proofs.Common.{◌≡◌, ◌∙◌, ℕ, inl, inr, sym, subst}
+use Rattle.std.proofs.Common.{◌∙◌, ℕ, inl, inr, sym, subst}
 use Rattle.q3_fields.specs.Kinds.{Layout}
 use Rattle.q3_entity.specs.Entities.{IsList}
 use Rattle.q3_entity_ring.specs.Snapshot.{Snapshot}

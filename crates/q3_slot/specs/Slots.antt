@@ -18,6 +18,8 @@ use Rattle.q3_entity_ring.specs.Snapshot.{Snapshot}
 use Rattle.q3_frames.specs.Frames.{FramesState, held_frame}
 use Rattle.q3_map.specs.Map.{MapState}
 use Rattle.q3_slot.specs.declared.joined.Joined.{Joined}
+use Rattle.q3_slot.specs.declared.context.Context.{Context}
+use Rattle.q3_slot.specs.declared.emitting.Recipient.{Recipient}
 use Rattle.q3_slot.specs.declared.answer.Emitted.{Emitted}
 use Rattle.q3_slot.specs.declared.answer.Emitted.TheVariants as emitted
 use Rattle.q3_slot.specs.declared.answer.NoClient.{NoClient}
@@ -134,6 +136,17 @@ game_emission profile map frames c slot = emit_game profile slot map frames (nex
 -- and where none is
 abbrev pub snapshot_emission : Profile → MapState → FramesState → ℕ → SlotState → SlotEmission
 snapshot_emission profile map frames c slot = emit_built profile slot map (next_frames map frames c slot) (begun_next profile map frames c slot)
+
+-- both by what goes along
+abbrev pub game_for : Context → ℕ → SlotState → SlotEmission
+game_for context c slot = game_emission context.profile context.map context.frames c slot
+
+abbrev pub snapshot_for : Context → ℕ → SlotState → SlotEmission
+snapshot_for context c slot = snapshot_emission context.profile context.map context.frames c slot
+
+-- the slot of the client to which a message goes
+abbrev pub slot_to : Recipient → Sending → Gathering → SlotState
+slot_to to sending gathering = slot_of sending gathering to.issued.now to.client.now
 
 -- the slot after an emit, the map and the frames, the answer, and what is handed out
 abbrev pub slot_after : Profile → MapState → FramesState → ℕ → Option SlotState → Option SlotState

@@ -12,18 +12,17 @@ ghost use Rattle.q3_svmsg.specs.Values.{base_viewed, base_from, base_entities, I
 ghost use Rattle.q3_built.specs.Built.{built_of, number_of};
 ghost use Rattle.q3_built.specs.Writing.{HoldsBuilt};
 ghost use Rattle.q3_slot.specs.Slot.{asked};
-ghost use Rattle.q3_slot.specs.Emitting.{begun_next, most_placed, next_frames, telling_under};
-ghost use Rattle.q3_slot.specs.Slots.{HoldLists, slot_of, slot_with};
+ghost use Rattle.q3_slot.specs.Emitting.{begun_next, most_placed, next_frames, next_snapshot, telling_under};
+ghost use Rattle.q3_slot.specs.Slots.{HoldLists, slot_to, slot_with};
 
+use crate::context::Context;
 use crate::joined::Joined;
 use q3_bits::Overflow;
 use q3_built::{SnapshotParts, TellingParts, Written, write_snapshot};
 use q3_chan::{SEQUENCE_END, Sender};
 use q3_entity::EntityState;
 use q3_frames::{Frames, laws};
-use q3_map::Map;
 use q3_player::SnapHead;
-use q3_profile::Profile;
 use q3_svmsg::BaseView;
 use q3_window::Outgoing;
 
@@ -66,65 +65,78 @@ pub fn build(frames: &mut Frames, slot: u8, head: &SnapHead, entities: &[EntityS
 pub(crate) fn write_next(
     sender: &Sender,
     to: Recipient,
-    profile: &Profile,
-    map: &Map,
-    frames: &mut Frames,
-    head: &mut SnapHead,
-    buffer: &mut [u8],
+    context: &mut Context,
 ) -> Result<Written, Overflow>
     requires number { sender.now.number + 1 < sequence_end }
-    requires slot { to.slot < length frames.old.slots }
-    requires placed { frames.old.placed ≤ most_placed }
-    requires lists { HoldLists profile.now.entity frames.old }
-    requires numbers { RiseFrom (end_mark profile.now.entity) 0 map.now.entities }
-    requires buffer { length buffer.old ≡ longest_message }
-    ensures written { HoldsBuilt profile.now (begun_next profile.now map.now frames.old to.entry.slot
-        (slot_of sender.now (new_gathering (client_form None)) to.entry.issued.now to.entry.client.now))
-        buffer.new result }
-    ensures frames { frames.new ≡ next_frames map.now frames.old to.entry.slot
-        (slot_of sender.now (new_gathering (client_form None)) to.entry.issued.now to.entry.client.now) }
-    ensures slots { length frames.new.slots ≡ length frames.old.slots }
-    ensures lists { HoldLists profile.now.entity frames.new }
+    requires slot { to.slot < length context.old.frames.slots }
+    requires placed { context.old.frames.placed ≤ most_placed }
+    requires lists { HoldLists context.old.profile.entity context.old.frames }
+    requires numbers { RiseFrom (end_mark context.old.profile.entity) 0 context.old.map.entities }
+    requires buffer { length context.old.buffer.items ≡ longest_message }
+    ensures written { HoldsBuilt context.old.profile
+        (begun_next context.old.profile context.old.map context.old.frames to.entry.slot
+        (slot_to to.entry sender.now (new_gathering (client_form None))))
+        context.new.buffer.items result }
+    ensures profile { context.new.profile ≡ context.old.profile }
+    ensures map { context.new.map ≡ context.old.map }
+    ensures frames { context.new.frames ≡ next_frames context.old.map context.old.frames to.entry.slot
+        (slot_to to.entry sender.now (new_gathering (client_form None))) }
+    ensures slots { length context.new.frames.slots ≡ length context.old.frames.slots }
+    ensures lists { HoldLists context.old.profile.entity context.new.frames }
 {
-    to.client.fill(sender, map, head);
-    let entities = to.client.seen(map);
-    build(frames, to.slot, head, entities);
-    write_against(frames, to, profile, map, head, entities, buffer)
+    to.client.fill(sender, &context.map, &mut context.head);
+    build(
+        &mut context.frames,
+        to.slot,
+        &context.head,
+        to.client.seen(&context.map),
+    );
+    write_against(to, context)
 }
 
-/// Writes the message of a snapshot, whose entities lie in the map, against the base of the client, if its delta number names
-/// one, and scrambles it by protocol 68. `Overflow` comes exactly where it has more than 16,384 bytes.
-fn write_against(
-    frames: &Frames,
-    to: Recipient,
-    profile: &Profile,
-    map: &Map,
-    head: &SnapHead,
-    entities: &[EntityState],
-    buffer: &mut [u8],
-) -> Result<Written, Overflow>
-    requires lists { HoldLists profile.now.entity frames.now }
-    requires listed { IsList profile.now.entity entities.now }
-    requires buffer { length buffer.old ≡ longest_message }
-    ensures { HoldsBuilt profile.now (built_of (telling_under profile.now
-        (slot_with to.entry.issued.now to.entry.client.now) head.now.number) map.now.baselines
-        (base_of frames.now to.entry.slot head.now.number (asked (slot_with to.entry.issued.now to.entry.client.now)))
-        (record { head = head.now; entities = entities.now })) buffer.new result }
+/// Writes the message of the client's next snapshot, whose head is filled and whose frame is built, against the base of the client,
+/// if its delta number names one, and scrambles it by protocol 68. `Overflow` comes exactly where it has more than 16,384 bytes.
+fn write_against(to: Recipient, context: &mut Context) -> Result<Written, Overflow>
+    requires lists { HoldLists context.old.profile.entity context.old.frames }
+    requires numbers { RiseFrom (end_mark context.old.profile.entity) 0 context.old.map.entities }
+    requires buffer { length context.old.buffer.items ≡ longest_message }
+    ensures written { HoldsBuilt context.old.profile (built_of (telling_under context.old.profile
+        (slot_with to.entry.issued.now to.entry.client.now) context.old.head.number) context.old.map.baselines
+        (base_of context.old.frames to.entry.slot context.old.head.number
+        (asked (slot_with to.entry.issued.now to.entry.client.now)))
+        (record {
+          head = context.old.head;
+          entities = (next_snapshot context.old.map (slot_with to.entry.issued.now to.entry.client.now)).entities;
+        })) context.new.buffer.items result }
+    ensures profile { context.new.profile ≡ context.old.profile }
+    ensures map { context.new.map ≡ context.old.map }
+    ensures frames { context.new.frames ≡ context.old.frames }
 {
-    let (base, against) = base_in(frames, to.slot, head.number, to.client.asked());
+    let (base, against) = base_in(
+        &context.frames,
+        to.slot,
+        context.head.number,
+        to.client.asked(),
+    );
     let telling = TellingParts {
         executed: &to.client.executed,
         issued: to.issued,
         challenge: to.client.challenge,
-        number: head.number,
+        number: context.head.number,
     };
     let snapshot = SnapshotParts {
         base,
         against,
-        head,
-        entities,
+        head: &context.head,
+        entities: to.client.seen(&context.map),
     };
-    write_snapshot(profile, map, telling, snapshot, buffer)
+    write_snapshot(
+        &context.profile,
+        &context.map,
+        telling,
+        snapshot,
+        &mut context.buffer,
+    )
 }
 
 /// The base of a message, if the client's delta number names one: its number, 0 for none, and what it is.

@@ -183,18 +183,23 @@ impl Joined {
         requires no_entered { heard.old.entered ≡ None }
         requires owed { heard.old.owed ≡ self.old.owed }
         ensures slot { (sending : Sending) (gathering : Gathering) → slot_of sending gathering issued.new self.new
-            ≡ (run_read map.now (slot_of sending gathering issued.old self.old) slot number (came_of (said_of message.now) read)).slot }
+            ≡ (run_read map.now (slot_of sending gathering issued.old self.old) slot number
+            (came_of (said_of message.now) read)).slot }
         ensures answer { (sending : Sending) (gathering : Gathering)
             → result ≡ (run_read map.now (slot_of sending gathering issued.old self.old) slot number
             (came_of (said_of message.now) read)).answer }
         ensures commands { (sending : Sending) (gathering : Gathering) → heard.new.commands
-            ≡ (run_read map.now (slot_of sending gathering issued.old self.old) slot number (came_of (said_of message.now) read)).commands }
+            ≡ (run_read map.now (slot_of sending gathering issued.old self.old) slot number
+            (came_of (said_of message.now) read)).commands }
         ensures moves { (sending : Sending) (gathering : Gathering) → heard.new.moves.items
-            ≡ (run_read map.now (slot_of sending gathering issued.old self.old) slot number (came_of (said_of message.now) read)).moves }
+            ≡ (run_read map.now (slot_of sending gathering issued.old self.old) slot number
+            (came_of (said_of message.now) read)).moves }
         ensures entered { (sending : Sending) (gathering : Gathering) → heard.new.entered
-            ≡ (run_read map.now (slot_of sending gathering issued.old self.old) slot number (came_of (said_of message.now) read)).entered }
+            ≡ (run_read map.now (slot_of sending gathering issued.old self.old) slot number
+            (came_of (said_of message.now) read)).entered }
         ensures owed { (sending : Sending) (gathering : Gathering) → heard.new.owed
-            ≡ (run_read map.now (slot_of sending gathering issued.old self.old) slot number (came_of (said_of message.now) read)).owed }
+            ≡ (run_read map.now (slot_of sending gathering issued.old self.old) slot number
+            (came_of (said_of message.now) read)).owed }
     {
         let origin = match read {
             Ok(origin) => origin,

@@ -3,6 +3,7 @@
 
 pub mod answer;
 mod beginning;
+pub mod context;
 mod emitting;
 pub mod joined;
 pub mod laws;
@@ -11,6 +12,7 @@ pub mod stage;
 pub mod taking;
 
 pub use answer::{Emitted, NoClient, SayError};
+pub use context::Context;
 pub use slot::Slot;
 pub use stage::ClientStage;
 pub use taking::{Heard, ServerTook};

@@ -9,16 +9,16 @@ ghost use Rattle.q3_chan.specs.Datagrams.{longest_message, sequence_end};
 ghost use Rattle.q3_chan.specs.Sending.{HandsOut, IsIdle};
 ghost use Rattle.q3_fields.specs.Kinds.{end_mark};
 ghost use Rattle.q3_entity.specs.Entities.{RiseFrom};
-ghost use Rattle.q3_frames.specs.Frames.{FramesState};
 ghost use Rattle.q3_config.specs.Strings.{is_config_byte, places};
 ghost use Rattle.q3_config.specs.Laws.{piece_texts};
 ghost use Rattle.q3_window.specs.Outgoing.{fits, total_of, with_texts};
 ghost use Rattle.q3_slot.specs.Slot.{SlotState, is_of, new_slot, on_new_map, sending_of, with_area, with_delayed, with_player};
 ghost use Rattle.q3_slot.specs.Standing.{IsSlot};
-ghost use Rattle.q3_slot.specs.Slots.{HoldLists, game_emission, given, changes_own, slot_saying, said_of_slot, lacks_places, lacks_room, tells, slot_after, map_after, frames_after, answer_of, piece_of, slot_after_datagram, taken_of};
+ghost use Rattle.q3_slot.specs.Slots.{HoldLists, game_for, given, changes_own, slot_saying, said_of_slot, lacks_places, lacks_room, tells, slot_after, map_after, frames_after, answer_of, piece_of, slot_after_datagram, taken_of};
 
 use crate::answer::{Emitted, NoClient, SayError};
 use crate::beginning::{begin_game, begin_snapshot};
+use crate::context::Context;
 use crate::emitting::{Recipient, has_ended};
 use crate::joined::Joined;
 use crate::laws;
@@ -30,10 +30,9 @@ use q3_built::is_unclear;
 use q3_chan::{Datagram, Gathered, Gatherer, Sender, Side, check_for};
 use q3_clmsg::ClientMessage;
 use q3_config::{SYSTEM_INFO, piece, pieces, shape};
-use q3_frames::Frames;
 use q3_io::Address;
 use q3_map::Map;
-use q3_player::{PlayerState, SnapHead};
+use q3_player::PlayerState;
 use q3_profile::Profile;
 use q3_text::Text;
 use q3_window::{Incoming, Outgoing, WindowFull};
@@ -304,29 +303,23 @@ impl Slot {
     /// - `Overlong`: the next message has more than 16,384 bytes. Nothing changes, but that the frame of a snapshot stays built.
     /// - `Game`: a gamestate is owed. The client is primed by it.
     /// - `Snapshot`: none is owed.
-    pub fn emit(
-        &mut self,
-        slot: u8,
-        profile: &Profile,
-        map: &mut Map,
-        frames: &mut Frames,
-        head: &mut SnapHead,
-        buffer: &mut [u8],
-        out: &mut Datagram,
-    ) -> Emitted
+    pub fn emit(&mut self, slot: u8, context: &mut Context, out: &mut Datagram) -> Emitted
         requires out { out.old.items ≡ [] }
-        requires slot { slot < length frames.old.slots }
-        requires lists { HoldLists profile.now.entity frames.old }
-        requires numbers { RiseFrom (end_mark profile.now.entity) 0 map.old.entities }
-        requires buffer { length buffer.old ≡ longest_message }
-        ensures slot { self.new ≡ slot_after profile.now map.old frames.old slot self.old }
-        ensures map { map.new ≡ map_after profile.now map.old frames.old slot self.old }
-        ensures frames { frames.new ≡ frames_after profile.now map.old frames.old slot self.old }
-        ensures slots { length frames.new.slots ≡ length frames.old.slots }
-        ensures lists { HoldLists profile.now.entity frames.new }
-        ensures answer { result ≡ answer_of profile.now map.old frames.old slot self.old }
-        ensures piece { HandsOut (piece_of profile.now map.old frames.old slot self.old) out.new.items }
-        ensures buffer { length buffer.new ≡ longest_message }
+        requires slot { slot < length context.old.frames.slots }
+        requires lists { HoldLists context.old.profile.entity context.old.frames }
+        requires numbers { RiseFrom (end_mark context.old.profile.entity) 0 context.old.map.entities }
+        requires buffer { length context.old.buffer.items ≡ longest_message }
+        ensures slot { self.new ≡ slot_after context.old.profile context.old.map context.old.frames slot self.old }
+        ensures profile { context.new.profile ≡ context.old.profile }
+        ensures map { context.new.map ≡ map_after context.old.profile context.old.map context.old.frames slot self.old }
+        ensures frames { context.new.frames
+            ≡ frames_after context.old.profile context.old.map context.old.frames slot self.old }
+        ensures slots { length context.new.frames.slots ≡ length context.old.frames.slots }
+        ensures lists { HoldLists context.old.profile.entity context.new.frames }
+        ensures answer { result ≡ answer_of context.old.profile context.old.map context.old.frames slot self.old }
+        ensures piece { HandsOut (piece_of context.old.profile context.old.map context.old.frames slot self.old)
+            out.new.items }
+        ensures buffer { length context.new.buffer.items ≡ longest_message }
         ensures stands { IfSome self.old IsSlot }
     {
         // what the types of its parts tell
@@ -340,14 +333,14 @@ impl Slot {
                 number: self.sender.number(),
             };
         }
-        if has_ended(self.sender.number() + 1, frames.placed()) {
+        if has_ended(self.sender.number() + 1, context.frames.placed()) {
             return Emitted::SequenceEnd;
         }
-        if is_unclear(profile, client.executed.executed()) {
+        if is_unclear(&context.profile, client.executed.executed()) {
             return Emitted::Unclear;
         }
         if client.owed {
-            return self.begin_owed(slot, profile, map, buffer, out);
+            return self.begin_owed(slot, context, out);
         }
         let issued = &self.issued;
         let to = Recipient {
@@ -355,55 +348,32 @@ impl Slot {
             client,
             issued,
         };
-        begin_snapshot(
-            &mut self.sender,
-            to,
-            profile,
-            map,
-            frames,
-            head,
-            buffer,
-            out,
-        )
+        begin_snapshot(&mut self.sender, to, context, out)
     }
 
     /// Begins the message with the gamestate that is owed to the client, and hands out its first piece.
-    fn begin_owed(
-        &mut self,
-        slot: u8,
-        profile: &Profile,
-        map: &mut Map,
-        buffer: &mut [u8],
-        out: &mut Datagram,
-    ) -> Emitted
+    fn begin_owed(&mut self, slot: u8, context: &mut Context, out: &mut Datagram) -> Emitted
         requires client { IsSome self.old }
         requires idle { IfSome self.old (λ slot. IsIdle slot.sending) }
         requires number { IfSome self.old (λ slot. slot.sending.number + 1 < sequence_end) }
-        requires buffer { length buffer.old ≡ longest_message }
+        requires buffer { length context.old.buffer.items ≡ longest_message }
         requires out { out.old.items ≡ [] }
-        ensures slot { (found : SlotState) (frames : FramesState) → self.old ≡ Some found
-            → self.new ≡ Some (game_emission profile.now map.old frames slot found).slot }
-        ensures map { (found : SlotState) (frames : FramesState) → self.old ≡ Some found
-            → map.new ≡ (game_emission profile.now map.old frames slot found).map }
-        ensures answer { (found : SlotState) (frames : FramesState) → self.old ≡ Some found
-            → result ≡ (game_emission profile.now map.old frames slot found).answer }
-        ensures piece { (found : SlotState) (frames : FramesState) → self.old ≡ Some found
-            → HandsOut (game_emission profile.now map.old frames slot found).piece out.new.items }
-        ensures buffer { length buffer.new ≡ longest_message }
+        ensures slot { (found : SlotState) → self.old ≡ Some found
+            → self.new ≡ Some (game_for context.old slot found).slot }
+        ensures profile { context.new.profile ≡ context.old.profile }
+        ensures map { (found : SlotState) → self.old ≡ Some found
+            → context.new.map ≡ (game_for context.old slot found).map }
+        ensures frames { context.new.frames ≡ context.old.frames }
+        ensures answer { (found : SlotState) → self.old ≡ Some found
+            → result ≡ (game_for context.old slot found).answer }
+        ensures piece { (found : SlotState) → self.old ≡ Some found
+            → HandsOut (game_for context.old slot found).piece out.new.items }
+        ensures buffer { length context.new.buffer.items ≡ longest_message }
     {
         let Some(client) = &mut self.client else {
             unreachable!();
         };
-        begin_game(
-            &mut self.sender,
-            &self.issued,
-            client,
-            slot,
-            profile,
-            map,
-            buffer,
-            out,
-        )
+        begin_game(&mut self.sender, &self.issued, client, slot, context, out)
     }
 }
 

@@ -28,4 +28,6 @@ mod snapshots;
 #[cfg(test)]
 mod texts;
 #[cfg(test)]
+mod turns;
+#[cfg(test)]
 mod wires;

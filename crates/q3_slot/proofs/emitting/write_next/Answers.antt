@@ -1,33 +1,42 @@
-use Rattle.std.proofs.Common.{◌≡◌, ◌∙◌, None, refl, subst, ap, rules}
-use Rattle.q3_chan.specs.Datagrams.{client_form}
+use Rattle.std.proofs.Common.{◌≡◌, ◌∙◌, List, None, refl, subst, sym, ap, rules}
+use Rattle.q3_chan.specs.Datagrams.{client_form, server_form}
 use Rattle.q3_chan.specs.Gathering.{new_gathering}
+use Rattle.q3_chan.specs.Sending.{new_sending}
+use Rattle.q3_entity.specs.declared.state.EntityState.{EntityState}
 use Rattle.q3_frames.specs.Frames.{build_at}
 use Rattle.q3_entity_ring.specs.Snapshot.{Snapshot}
 use Rattle.q3_built.specs.Built.{Built}
 use Rattle.q3_slot.specs.Slot.{SlotState}
 use Rattle.q3_slot.specs.Emitting.{next_snapshot}
 use Rattle.q3_built.specs.Writing.{HoldsBuilt}
-use Rattle.q3_slot.specs.Slots.{slot_of}
+use Rattle.q3_slot.specs.Slots.{slot_of, slot_with}
 use Rattle.q3_slot.proofs.Begun.{is_begun}
 use Rattle.q3_slot.proofs.emitting.write_next.Goals as goal
 
 pub returns : goal.returns
 returns c =
-    let map = c.args.map.now in
+    let map = c.args.context.now.map in
+    let frames = c.args.context.now.frames in
     let client = c.args.to.client.now in
-    let slot : SlotState = slot_of c.args.sender.now (new_gathering (client_form None)) c.args.to.issued.now client in
-    let snapshot : Snapshot = record { head = c.fill.new.head; entities = c.seen-entities.result.now } in
+    let issued = c.args.to.issued.now in
+    let slot : SlotState = slot_of c.args.sender.now (new_gathering (client_form None)) issued client in
+    let seen : List EntityState = (next_snapshot map (slot_with issued client)).entities in
+    let snapshot : Snapshot = record { head = c.fill.new.head; entities = seen } in
     let head : c.fill.new.head ≡ (next_snapshot map slot).head = c.fill.ensures.head in
-    let entities : c.seen-entities.result.now ≡ (next_snapshot map slot).entities =
-    c.seen-entities.ensures.seen c.args.sender.now (new_gathering (client_form None)) c.args.to.issued.now in
+    let is_seen : c.seen.result.now ≡ seen = c.seen.ensures.seen (new_sending (server_form None) 0) (new_gathering (client_form None)) issued in
+    let entities : seen ≡ (next_snapshot map slot).entities = sym is_seen ∙ c.seen.ensures.seen c.args.sender.now (new_gathering (client_form None)) issued in
     let snapshot_is : snapshot ≡ next_snapshot map slot = rw (head, entities) refl in
+    let built : c.build.new.frames ≡ build_at frames c.args.to.slot snapshot =
+    c.build.ensures.built ∙ ap (λ (e : List EntityState). build_at frames c.args.to.slot (record { head = c.fill.new.head; entities = e })) is_seen in
     record {
       written =
-          subst (λ (built : Built). HoldsBuilt c.args.profile.now built c.write_against.new.buffer c.write_against.result)
-          (is_begun c.args.profile.now map c.args.frames.now c.build.new.frames c.args.to.slot c.args.sender.now (new_gathering (client_form None)) c.args.to.issued.now client
-          c.fill.new.head.number snapshot map.baselines c.fill.ensures.number snapshot_is c.build.ensures.built refl)
-          c.write_against.ensures;
-      frames = c.build.ensures.built ∙ ap (build_at c.args.frames.now c.args.to.slot) snapshot_is;
+          subst (λ (built : Built). HoldsBuilt c.args.context.now.profile built c.write_against.new.context.buffer.items c.write_against.result)
+          (is_begun c.args.context.now.profile map frames c.build.new.frames c.args.to.slot c.args.sender.now (new_gathering (client_form None)) issued client
+          c.fill.new.head.number snapshot map.baselines c.fill.ensures.number snapshot_is built refl)
+          c.write_against.ensures.written;
+      profile = search rules;
+      map = search rules;
+      frames = c.write_against.ensures.frames ∙ built ∙ ap (build_at frames c.args.to.slot) snapshot_is;
       slots = search rules;
       lists = search rules;
     }

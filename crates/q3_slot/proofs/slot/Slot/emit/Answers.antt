@@ -11,9 +11,9 @@ use Rattle.q3_slot.proofs.slot.Slot.emit.Goals as goal
 
 pub returns : goal.returns
 returns c =
-    let profile = c.args.profile.now in
-    let map = c.args.map.now in
-    let frames = c.args.frames.now in
+    let profile = c.args.context.now.profile in
+    let map = c.args.context.now.map in
+    let frames = c.args.context.now.frames in
     let slot = c.args.slot in
     let gatherer = c.self.inside.gatherer in
     let first : SlotState = slot_of c.self.inside.sender gatherer c.self.inside.issued c.in-Some.client in
@@ -27,6 +27,7 @@ returns c =
       slot = ap (option_map (slot_of c.begin_snapshot.new.sender gatherer c.self.inside.issued)) c.in-Some.is
           ∙ ap (λ (slot : SlotState). Some slot) (c.begin_snapshot.ensures.slot gatherer ∙ ap (λ (e : SlotEmission). e.slot) emits)
           ∙ ap (slot_after profile map frames slot) is_first;
+      profile = c.begin_snapshot.ensures.profile;
       map = c.begin_snapshot.ensures.map gatherer ∙ ap (λ (e : SlotEmission). e.map) emits ∙ ap (map_after profile map frames slot) is_first;
       frames = c.begin_snapshot.ensures.frames gatherer ∙ ap (λ (e : SlotEmission). e.frames) emits ∙ ap (frames_after profile map frames slot) is_first;
       slots = search rules;
@@ -41,9 +42,9 @@ returns c =
 -- a gamestate that is owed
 pub returns-then-client-clause-slot : goal.returns-then-client-clause-slot
 returns-then-client-clause-slot c =
-    let profile = c.args.profile.now in
-    let map = c.args.map.now in
-    let frames = c.args.frames.now in
+    let profile = c.args.context.now.profile in
+    let map = c.args.context.now.map in
+    let frames = c.args.context.now.frames in
     let slot = c.args.slot in
     let first : SlotState = slot_of c.self.inside.sender c.self.inside.gatherer c.self.inside.issued c.in-Some.client in
     let is_first : Some first ≡ c.args.self.now = search rules in
@@ -51,13 +52,13 @@ returns-then-client-clause-slot c =
     let open_ : (nat_le sequence_end (c.self.inside.sender.number + 1) || nat_lt most_placed frames.placed) ≡ false = search rules in
     let clear : is_unclear profile c.in-Some.client.executed.executed ≡ false = search rules in
     let emits = sym (emits_game profile map frames slot first idle open_ clear c.if-client.true) in
-    c.begin_owed.ensures.slot first frames (sym is_first) ∙ ap (λ (e : SlotEmission). Some e.slot) emits ∙ ap (slot_after profile map frames slot) is_first
+    c.begin_owed.ensures.slot first (sym is_first) ∙ ap (λ (e : SlotEmission). Some e.slot) emits ∙ ap (slot_after profile map frames slot) is_first
 
 pub returns-then-client-clause-map : goal.returns-then-client-clause-map
 returns-then-client-clause-map c =
-    let profile = c.args.profile.now in
-    let map = c.args.map.now in
-    let frames = c.args.frames.now in
+    let profile = c.args.context.now.profile in
+    let map = c.args.context.now.map in
+    let frames = c.args.context.now.frames in
     let slot = c.args.slot in
     let first : SlotState = slot_of c.self.inside.sender c.self.inside.gatherer c.self.inside.issued c.in-Some.client in
     let is_first : Some first ≡ c.args.self.now = search rules in
@@ -65,13 +66,13 @@ returns-then-client-clause-map c =
     let open_ : (nat_le sequence_end (c.self.inside.sender.number + 1) || nat_lt most_placed frames.placed) ≡ false = search rules in
     let clear : is_unclear profile c.in-Some.client.executed.executed ≡ false = search rules in
     let emits = sym (emits_game profile map frames slot first idle open_ clear c.if-client.true) in
-    c.begin_owed.ensures.map first frames (sym is_first) ∙ ap (λ (e : SlotEmission). e.map) emits ∙ ap (map_after profile map frames slot) is_first
+    c.begin_owed.ensures.map first (sym is_first) ∙ ap (λ (e : SlotEmission). e.map) emits ∙ ap (map_after profile map frames slot) is_first
 
 pub returns-then-client-clause-answer : goal.returns-then-client-clause-answer
 returns-then-client-clause-answer c =
-    let profile = c.args.profile.now in
-    let map = c.args.map.now in
-    let frames = c.args.frames.now in
+    let profile = c.args.context.now.profile in
+    let map = c.args.context.now.map in
+    let frames = c.args.context.now.frames in
     let slot = c.args.slot in
     let first : SlotState = slot_of c.self.inside.sender c.self.inside.gatherer c.self.inside.issued c.in-Some.client in
     let is_first : Some first ≡ c.args.self.now = search rules in
@@ -79,13 +80,13 @@ returns-then-client-clause-answer c =
     let open_ : (nat_le sequence_end (c.self.inside.sender.number + 1) || nat_lt most_placed frames.placed) ≡ false = search rules in
     let clear : is_unclear profile c.in-Some.client.executed.executed ≡ false = search rules in
     let emits = sym (emits_game profile map frames slot first idle open_ clear c.if-client.true) in
-    c.begin_owed.ensures.answer first frames (sym is_first) ∙ ap (λ (e : SlotEmission). e.answer) emits ∙ ap (answer_of profile map frames slot) is_first
+    c.begin_owed.ensures.answer first (sym is_first) ∙ ap (λ (e : SlotEmission). e.answer) emits ∙ ap (answer_of profile map frames slot) is_first
 
 pub returns-then-client-clause-piece : goal.returns-then-client-clause-piece
 returns-then-client-clause-piece c =
-    let profile = c.args.profile.now in
-    let map = c.args.map.now in
-    let frames = c.args.frames.now in
+    let profile = c.args.context.now.profile in
+    let map = c.args.context.now.map in
+    let frames = c.args.context.now.frames in
     let slot = c.args.slot in
     let first : SlotState = slot_of c.self.inside.sender c.self.inside.gatherer c.self.inside.issued c.in-Some.client in
     let is_first : Some first ≡ c.args.self.now = search rules in
@@ -94,4 +95,4 @@ returns-then-client-clause-piece c =
     let clear : is_unclear profile c.in-Some.client.executed.executed ≡ false = search rules in
     let emits = sym (emits_game profile map frames slot first idle open_ clear c.if-client.true) in
     subst (λ (piece : Option Piece). HandsOut piece c.begin_owed.new.out.items)
-    (ap (λ (e : SlotEmission). e.piece) emits ∙ ap (piece_of profile map frames slot) is_first) (c.begin_owed.ensures.piece first frames (sym is_first))
+    (ap (λ (e : SlotEmission). e.piece) emits ∙ ap (piece_of profile map frames slot) is_first) (c.begin_owed.ensures.piece first (sym is_first))
