@@ -18,7 +18,7 @@ returns-clause-written c =
     let slot : SlotState = slot_with c.args.to.issued.now c.args.to.client.now in
     let number = context.head.number in
     let builds : List EntityState → Built = λ entities. built_of (telling_under context.profile slot number) context.map.baselines
-      (base_of context.frames c.args.to.slot number (asked slot)) (record { head = context.head; entities = entities }) in
+    (base_of context.frames c.args.to.slot number (asked slot)) (record { head = context.head; entities = entities }) in
     let seen = c.seen.ensures.seen (new_sending (server_form None) 0) (new_gathering (client_form None)) c.args.to.issued.now in
     let holds : HoldsBuilt context.profile (builds c.seen.result.now) c.write_snapshot.new.buffer c.write_snapshot.result = search rules in
     let old : c.deref_mut.result.now ≡ context.buffer.items = search rules in
