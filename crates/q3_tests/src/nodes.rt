@@ -2,10 +2,9 @@
 
 ghost use Rattle.std.specs.Prelude.{◌≡◌, false};
 
-use crate::profiles::text_of_profile;
+use crate::profiles::plain_profile;
 use q3_io::{Address, Clock, Sink, Wire};
 use q3_node::{NodeError, serve_loop};
-use q3_profile::read_profile;
 use q3_script::{ScriptKind, read_script};
 use q3_testio::{MemClock, MemSink, MemWire};
 use std::alloc::Global;
@@ -23,8 +22,7 @@ fn serve<W: Wire, C: Clock, O: Sink>(
 ) -> Result<(), NodeError>
     requires { W.bound wire.old ≡ false }
 {
-    let text = text_of_profile(alloc).expect(rt, "memory");
-    let profile = read_profile(alloc, text.as_bytes()).expect(rt, "a profile");
+    let profile = plain_profile(rt, alloc);
     let events = read_script(alloc, ScriptKind::Serve, script).expect(rt, "a script");
     let at = Address {
         host: 0x7f00_0001,

@@ -1,6 +1,8 @@
 //! A profile that is read of a file, and its mark, a number over the file's bytes.
 
-use q3_profile::read_profile;
+ghost use Rattle.q3_profile.specs.Profile.{IsProfile};
+
+use q3_profile::{Profile, read_profile};
 use std::alloc::{AllocError, Global};
 use std::process::Abort;
 use std::test::*;
@@ -29,11 +31,17 @@ pub(crate) fn text_of_profile(alloc: Global) -> Result<String, AllocError> {
     Ok(text)
 }
 
-/// The mark of a copy of the profile that is read of that text.
-fn mark_of_copy(rt: &impl Abort, alloc: Global) -> u64 {
+/// The profile that is read of that text.
+pub(crate) fn plain_profile(rt: &impl Abort, alloc: Global) -> Profile
+    ensures { IsProfile result }
+{
     let text = text_of_profile(alloc).expect(rt, "memory");
-    let read = read_profile(alloc, text.as_bytes()).expect(rt, "a profile");
-    let copy = read.copy().expect(rt, "memory");
+    read_profile(alloc, text.as_bytes()).expect(rt, "a profile")
+}
+
+/// The mark of a copy of it.
+fn mark_of_copy(rt: &impl Abort, alloc: Global) -> u64 {
+    let copy = plain_profile(rt, alloc).copy().expect(rt, "memory");
     copy.mark
 }
 
