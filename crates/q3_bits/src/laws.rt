@@ -30,7 +30,7 @@ pub fn plain_bits_end()
     ensures { PlainBitsEnd }
 {}
 
-/// Fields of fewer than eight bits that stand one after the other are one field.
+/// Two fields that stand one after the other, of fewer than eight bits together, are one field.
 pub fn marks_are_joined()
     ensures { MarksAreJoined }
 {}

@@ -176,7 +176,7 @@ abbrev pub FrontStays : Type 0
 FrontStays = (from start : ℕ) (text bytes : List ℕ) → (length (scrambled from start text bytes) ≡ length bytes)
     × ((k : ℕ) → k ≤ from → take k (scrambled from start text bytes) ≡ take k bytes)
 
--- bytes stay bytes, where the start is one
+-- bytes stay bytes, where the start is one and the text is a command's
 abbrev pub BytesStayBytes : Type 0
 BytesStayBytes = (from start : ℕ) (text bytes : List ℕ) → start < 2 ^ 8 → IsText text → All (λ byte. byte < 2 ^ 8) bytes
     → All (λ byte. byte < 2 ^ 8) (scrambled from start text bytes)

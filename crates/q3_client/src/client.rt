@@ -1,7 +1,7 @@
 //! A client's end: pure state, one call an event.
-//! - Rules: "what a client keeps"; "what a receiver answers", "fragmentation" and "scrambling", by q3_chan; "layout of a client
-//!   message" and "move section", by q3_clmsg; "reliable command windows", by q3_window; "which moves may be issued"; "which
-//!   moves a message carries"; "unclear messages"; "end of message numbers".
+//! - Rules: "what a client keeps", "what a gamestate resets"; "which moves may be issued", "which moves a message carries"; "when
+//!   a command may be issued"; "what a client sends", "the check of protocol 71"; "end of message numbers", "messages that are too
+//!   long".
 //! - Ours: the last two.
 
 ghost use Rattle.std.specs.Prelude.{◌≡◌, ◌≤◌, [], length, None, IfOk, IfSome, option_map};

@@ -23,8 +23,8 @@ use Rattle.q3_clstate.specs.declared.applied.SnapOutcome.{SnapOutcome}
 use Rattle.q3_clstate.specs.declared.applied.SnapOutcome.TheVariants.{NoSnap, Accepted, Skipped, Stale}
 
 -- by which profile messages are read; the number of the last one that was applied, 0 for none; the server's commands that were
--- executed; whether a gamestate was applied; the id of the map, the client's slot and the checksum feed, all 0 before one; the config
--- strings and the baselines; and the snapshots that are held since then
+-- executed; whether a gamestate was applied; the id of the map that config strings told last, and of that gamestate the client's slot and
+-- the checksum feed, each 0 before it was told; the config strings and the baselines; and the snapshots that are held since then
 pub record AppliedState : Type 0 where
   pub profile : Profile
   pub number : ℕ
@@ -90,7 +90,7 @@ abbrev pub id_in : ℕ → Strings → ℕ
 id_in id strings = unwrap_or (server_id strings) id
 
 -- what a gamestate leaves: no snapshot of before is held any more, its id, slot, feed, strings and baselines take the place of others,
--- and the commands up to its number count as executed
+-- and the commands up to its number, and no others, count as executed
 abbrev pub after_gamestate : AppliedState → Gamestate → AppliedState
 after_gamestate state game = record state {
   executed = jump_at state.executed game.command;

@@ -118,7 +118,7 @@ impl ClState {
     /// executed change the config strings, one after the other, and a change of string 1 sets the map's id where it tells one.
     ///
     /// A gamestate ends what was held before: its id, slot, feed, config strings and baselines take the place of others, and the
-    /// commands up to its number count as executed.
+    /// commands up to its number, and no others, count as executed.
     ///
     /// Of a snapshot the answer tells the first of these that fits:
     /// - `NoSnap`: the message has none.

@@ -17,7 +17,8 @@ pub fn pieces_are_texts()
     ensures { PiecesAreTexts }
 {}
 
-/// The pieces of a text, in their order, make that one change.
+/// The pieces of a text that may go out, in their order, make that one change of strings that are within their limits, and where
+/// they are several, nothing pends then.
 pub fn pieces_make_change()
     ensures { PiecesMakeChange }
 {}

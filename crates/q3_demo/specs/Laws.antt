@@ -40,8 +40,8 @@ abbrev pub RefusedForItsBytes : Type 0
 RefusedForItsBytes = (demo : List ℕ) (played : Played) (e : DemoError) → step demo played ≡ Err e → IsRefusal e
 
 -- how the play of a front of a demo ends, where these records more are played of the whole, and of the front these bytes are left after its
--- last record, which ends at this place: with no refusal, where they end before a head or within one; refused as cut, where they end after a head and within its message; or,
--- where none more is played, as the play of the whole
+-- last record, which ends at this place: with no refusal, where they end before a head or within one; refused as cut, where they end after
+-- a head and within its message; or, where none more is played, as the play of the whole
 abbrev pub EndsBefore : List Stepped → List ℕ → ℕ → Result (Unit {0}) DemoError → Result (Unit {0}) DemoError → Type 0
 EndsBefore more left at ending whole =
     ((ending ≡ Ok tt) × (length left < head_bytes))

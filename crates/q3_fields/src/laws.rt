@@ -18,7 +18,7 @@ fn words_fit(words: &[u32])
     ensures { All (λ word. word < 2 ^ 32) words.now }
 {}
 
-/// The number of a whole number's pattern is that number.
+/// The number of a small whole number's pattern is that number.
 pub fn small_of_pattern()
     ensures { SmallOfPattern }
 {}

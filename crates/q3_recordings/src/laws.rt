@@ -1,4 +1,5 @@
-//! Laws, each the contract of a call that does nothing but cite the laws below it.
+//! Laws, each the contract of a call that does nothing but cite the laws below it. Those of replays and of joining are of profiles
+//! that are checked, as each is that was read from a file.
 
 ghost use Rattle.q3_recordings.specs.Joins.{JoinIsNoted, JoinPlays};
 ghost use Rattle.q3_recordings.specs.Plays.{RecordingPlays, WholeIsRecorded};

@@ -12,7 +12,8 @@
 //!    the next `emit` hands out a further piece of the same message.
 //!
 //! A gamestate isn't asked for: where one is owed to a client, `emit` begins it before any other message. After `new` no call
-//! takes memory. The rules are in docs/protocol.md, by the names that the modules call.
+//! takes memory. `turns.rt` of q3_tests drives a server and its client so. The rules are in docs/protocol.md, by the names that the
+//! modules call.
 #![tactic(auto)]
 
 pub mod laws;

@@ -31,7 +31,7 @@ use q3_player::laws::is_state;
 use q3_player::{PlayerState, SnapHead};
 use q3_profile::Profile;
 use q3_slot::laws::nothing_is_listed;
-use q3_slot::{Context, Emitted, Heard, NoClient, SayError, ServerTook, Slot};
+use q3_slot::{Emitted, Heard, NoClient, SayError, ServerTook, Shared, Slot};
 use q3_text::Text;
 use std::alloc::Global;
 use std::marker::Model;
@@ -73,9 +73,8 @@ pub enum ConfigRefused {
 pub struct Server {
     /// A place for each client, 16 at most.
     slots: Vec<Slot>,
-    /// A copy of the profile, what the game handed in for all clients, and their frames; with the places in which a message is
-    /// written, which hold nothing from one call to another.
-    context: Context,
+    /// A copy of the profile, what the game handed in for all clients, their frames, and the places in which a message is written.
+    shared: Shared,
 
     // places that hold nothing from one call to another
     /// For what is read of a client's message.
@@ -94,16 +93,16 @@ impl Model for Server {
     ghost Value = { ServerState };
 
     ghost view = { λ s. record {
-      profile = s.context.profile;
-      map = s.context.map;
+      profile = s.shared.profile;
+      map = s.shared.map;
       slots = s.slots.items;
-      frames = s.context.frames;
+      frames = s.shared.frames;
     } };
 
-    ghost invariant = { λ s. (length s.slots.items ≤ places) × (length s.context.frames.slots ≡ length s.slots.items)
-        × HoldLists s.context.profile.entity s.context.frames
-        × (length s.context.buffer.items ≡ longest_message) × (length s.whole.items ≡ longest_message)
-        × IsServer s.context.profile s.context.map s.slots.items s.context.frames };
+    ghost invariant = { λ s. (length s.slots.items ≤ places) × (length s.shared.frames.slots ≡ length s.slots.items)
+        × HoldLists s.shared.profile.entity s.shared.frames
+        × (length s.whole.items ≡ longest_message)
+        × IsServer s.shared.profile s.shared.map s.slots.items s.shared.frames };
 }
 
 impl Server {
@@ -121,10 +120,17 @@ impl Server {
         let map = Map::new(alloc)?;
         let empty = empty_slots(alloc, slots)?;
         let frames = empty_frames(alloc, slots, profile.server_ring)?;
-        let buffer = vec![in alloc; 0; LONGEST_MESSAGE]?;
+        let buffer = Box::new(alloc, [0; LONGEST_MESSAGE])?;
+        let shared = Shared {
+            profile: copy,
+            map,
+            frames,
+            head: SnapHead::new(),
+            buffer,
+        };
         let whole = vec![in alloc; 0; LONGEST_MESSAGE]?;
         let said = ClientMessage::new(alloc)?;
-        Ok(of_parts(copy, map, empty, frames, buffer, said, whole))
+        Ok(of_parts(empty, shared, said, whole))
     }
 
     /// Whether the server has such a slot.
@@ -158,7 +164,7 @@ impl Server {
         if let Some(twin) = slot_of(&self.slots, from.host, qport) {
             return Err(SlotError::Twin(twin));
         }
-        let protocol = self.context.profile.protocol;
+        let protocol = self.shared.profile.protocol;
         self.slots[slot as usize].join(protocol, challenge, qport, from);
         Ok(())
     }
@@ -172,9 +178,9 @@ impl Server {
         ensures { new_map_at self.old id feed ≡ record { server = self.new; answer = result } }
     {
         laws::below();
-        self.context.map.new_map(id, feed)?;
+        self.shared.map.new_map(id, feed)?;
         begin_map(&mut self.slots);
-        self.context.frames.note_change();
+        self.shared.frames.note_change();
         Ok(())
     }
 
@@ -187,16 +193,16 @@ impl Server {
     {
         laws::below();
         are_words(&state.words);
-        self.context
+        self.shared
             .map
-            .set_baseline(&self.context.profile.entity, state)
+            .set_baseline(&self.shared.profile.entity, state)
     }
 
     /// The config strings of the map.
     pub fn configs(&self) -> &Configs
         ensures { result.now ≡ self.now.map.strings }
     {
-        self.context.map.configs()
+        self.shared.map.configs()
     }
 
     /// Changes a config string, and tells each client of it for which a gamestate of the map was begun, by commands that go with
@@ -209,16 +215,16 @@ impl Server {
         if index == SYSTEM_INFO {
             return Err(ConfigRefused::Own);
         }
-        if let Err(error) = self.context.map.configs().admit(index, text) {
+        if let Err(error) = self.shared.map.configs().admit(index, text) {
             return Err(refused_for(error));
         }
-        if self.context.map.configs().has(index, text) {
+        if self.shared.map.configs().has(index, text) {
             return Ok(());
         }
         if let Some(slot) = first_without_room(&self.slots, index, text) {
             return Err(ConfigRefused::WindowFull(slot));
         }
-        self.context.map.set_config(index, text);
+        self.shared.map.set_config(index, text);
         tell_all(&mut self.slots, index, text);
         Ok(())
     }
@@ -227,7 +233,7 @@ impl Server {
     pub fn set_time(&mut self, time: u32)
         ensures { self.new ≡ set_time_at self.old time }
     {
-        self.context.map.set_time(time);
+        self.shared.map.set_time(time);
     }
 
     /// The end mark of the profile's entity table: entities have the numbers below it.
@@ -235,7 +241,7 @@ impl Server {
         ensures mark { result ≡ end_mark self.now.profile.entity }
         ensures least { least_end ≤ result }
     {
-        self.context.profile.entity.end()
+        self.shared.profile.entity.end()
     }
 
     /// Takes over the state of an entity, whose number is below the end mark of the profile's entity table.
@@ -245,10 +251,10 @@ impl Server {
     {
         laws::below();
         are_words(&state.words);
-        self.context
+        self.shared
             .map
-            .set_entity(&self.context.profile.entity, state);
-        self.context.frames.note_change();
+            .set_entity(&self.shared.profile.entity, state);
+        self.shared.frames.note_change();
     }
 
     /// Takes an entity away. An absent one changes nothing.
@@ -256,8 +262,8 @@ impl Server {
         ensures { self.new ≡ remove_entity_at self.old number }
     {
         laws::below();
-        self.context.map.remove_entity(number);
-        self.context.frames.note_change();
+        self.shared.map.remove_entity(number);
+        self.shared.frames.note_change();
     }
 
     /// Takes over the player of a client. `NoClient` comes exactly where no client was added in the slot.
@@ -269,7 +275,7 @@ impl Server {
         if !self.has(slot) {
             return Err(NoClient);
         }
-        self.slots[slot as usize].set_player(&self.context.profile, player)
+        self.slots[slot as usize].set_player(&self.shared.profile, player)
     }
 
     /// Takes over the area bytes of a client, at most 32. `NoClient` comes exactly where no client was added in the slot.
@@ -360,7 +366,7 @@ impl Server {
     {
         laws::below();
         heard.clear();
-        let qport = match qport_of(is_checked(self.context.profile.protocol), datagram) {
+        let qport = match qport_of(is_checked(self.shared.profile.protocol), datagram) {
             Ok(qport) => qport,
             Err(NoQport::Runt) => return ServerTook::Runt,
             Err(NoQport::Connectionless) => return ServerTook::Connectionless,
@@ -369,8 +375,8 @@ impl Server {
             return ServerTook::Stranger;
         };
         self.slots[slot as usize].take(
-            &self.context.profile,
-            &self.context.map,
+            &self.shared.profile,
+            &self.shared.map,
             slot,
             from,
             datagram,
@@ -401,37 +407,27 @@ impl Server {
         if !self.has(slot) {
             return Emitted::NoClient;
         }
-        self.slots[slot as usize].emit(slot, &mut self.context, out)
+        self.slots[slot as usize].emit(slot, &mut self.shared, out)
     }
 }
 
-/// A server of these parts, with a place for the head of a snapshot.
-fn of_parts(
-    profile: Profile,
-    map: Map,
-    slots: Vec<Slot>,
-    frames: Frames,
-    buffer: Vec<u8>,
-    said: ClientMessage,
-    whole: Vec<u8>,
-) -> Server
+/// A server of these parts.
+fn of_parts(slots: Vec<Slot>, shared: Shared, said: ClientMessage, whole: Vec<u8>) -> Server
     requires slots { length slots.items ≤ places }
-    requires frames { length frames.slots ≡ length slots.items }
-    requires lists { HoldLists profile.entity frames }
-    requires buffer { length buffer.items ≡ longest_message }
+    requires frames { length shared.frames.slots ≡ length slots.items }
+    requires lists { HoldLists shared.profile.entity shared.frames }
     requires whole { length whole.items ≡ longest_message }
-    requires stands { IsServer profile map slots.items frames }
-    ensures { result ≡ record { profile = profile; map = map; slots = slots.items; frames = frames } }
+    requires stands { IsServer shared.profile shared.map slots.items shared.frames }
+    ensures { result ≡ record {
+      profile = shared.profile;
+      map = shared.map;
+      slots = slots.items;
+      frames = shared.frames;
+    } }
 {
     Server {
         slots,
-        context: Context {
-            profile,
-            map,
-            frames,
-            head: SnapHead::new(),
-            buffer,
-        },
+        shared,
         said,
         whole,
     }

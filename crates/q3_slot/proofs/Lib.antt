@@ -3,4 +3,3 @@ mod Listed
 mod Runs
 mod Taken
 mod Told
-mod Whole

@@ -15,10 +15,11 @@ use Rattle.q3_clmsg.specs.declared.error.ClientIllegible.{ClientIllegible}
 use Rattle.q3_clmsg.specs.Values.{Message}
 use Rattle.q3_profile.specs.declared.profile.Profile.{Profile}
 use Rattle.q3_entity_ring.specs.Snapshot.{Snapshot}
-use Rattle.q3_frames.specs.Frames.{FramesState, held_frame}
+use Rattle.q3_frames.specs.Frames.{FramesState, base_of, held_frame}
 use Rattle.q3_map.specs.Map.{MapState}
+use Rattle.q3_built.specs.Built.{Built, built_of}
 use Rattle.q3_slot.specs.declared.joined.Joined.{Joined}
-use Rattle.q3_slot.specs.declared.context.Context.{Context}
+use Rattle.q3_slot.specs.declared.shared.Shared.{Shared}
 use Rattle.q3_slot.specs.declared.emitting.Recipient.{Recipient}
 use Rattle.q3_slot.specs.declared.answer.Emitted.{Emitted}
 use Rattle.q3_slot.specs.declared.answer.Emitted.TheVariants as emitted
@@ -29,8 +30,8 @@ use Rattle.q3_slot.specs.declared.taking.ServerTook.{ServerTook}
 use Rattle.q3_slot.specs.declared.taking.ServerTook.TheVariants as took
 use Rattle.q3_slot.specs.declared.taking.Origin.{Origin}
 use Rattle.q3_slot.specs.declared.taking.Origin.TheVariants as origins
-use Rattle.q3_slot.specs.Slot.{SlotState, is_connected}
-use Rattle.q3_slot.specs.Emitting.{SlotEmission, next_frames, begun_next, next_game_built, emit_built, emit_game, emit_slot}
+use Rattle.q3_slot.specs.Slot.{SlotState, asked, is_connected}
+use Rattle.q3_slot.specs.Emitting.{SlotEmission, next_frames, next_snapshot, begun_next, next_game_built, emit_built, emit_game, emit_slot, telling_under}
 use Rattle.q3_slot.specs.Taking.{Came, OfMap, OfOther, Playing, goes_on, leading_of, take_slot}
 
 -- what is being sent to a client, what was gathered of what it sends, which commands were issued to it, and what is kept of it
@@ -137,14 +138,22 @@ game_emission profile map frames c slot = emit_game profile slot map frames (nex
 abbrev pub snapshot_emission : Profile → MapState → FramesState → ℕ → SlotState → SlotEmission
 snapshot_emission profile map frames c slot = emit_built profile slot map (next_frames map frames c slot) (begun_next profile map frames c slot)
 
--- both by what goes along
-abbrev pub game_for : Context → ℕ → SlotState → SlotEmission
-game_for context c slot = game_emission context.profile context.map context.frames c slot
+-- a gamestate's emission by what the slots share, and a snapshot's
+abbrev pub game_for : Shared → ℕ → SlotState → SlotEmission
+game_for shared c slot = game_emission shared.profile shared.map shared.frames c slot
 
-abbrev pub snapshot_for : Context → ℕ → SlotState → SlotEmission
-snapshot_for context c slot = snapshot_emission context.profile context.map context.frames c slot
+abbrev pub snapshot_for : Shared → ℕ → SlotState → SlotEmission
+snapshot_for shared c slot = snapshot_emission shared.profile shared.map shared.frames c slot
 
--- the slot of the client to which a message goes
+-- what a message with the shared head and the entities that its client sees is built of
+abbrev pub built_for : Shared → Recipient → Built
+built_for shared to =
+    let slot = slot_with to.issued.now to.client.now in
+    let snapshot : Snapshot = record { head = shared.head; entities = (next_snapshot shared.map slot).entities } in
+    built_of (telling_under shared.profile slot shared.head.number) shared.map.baselines
+    (base_of shared.frames to.slot shared.head.number (asked slot)) snapshot
+
+-- the slot of the client to which a message goes, with this sending and gathering
 abbrev pub slot_to : Recipient → Sending → Gathering → SlotState
 slot_to to sending gathering = slot_of sending gathering to.issued.now to.client.now
 

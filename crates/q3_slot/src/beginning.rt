@@ -4,7 +4,7 @@
 //! - Ours: that an owed gamestate goes as the next message, and not at once.
 
 ghost use Rattle.std.specs.Prelude.{◌≡◌, ◌+◌, ◌<◌, ◌≤◌, [], length};
-ghost use Rattle.q3_chan.specs.Datagrams.{longest_message, sequence_end};
+ghost use Rattle.q3_chan.specs.Datagrams.{sequence_end};
 ghost use Rattle.q3_chan.specs.Gathering.{Gathering};
 ghost use Rattle.q3_chan.specs.Sending.{HandsOut, IsIdle};
 ghost use Rattle.q3_fields.specs.Kinds.{end_mark};
@@ -13,9 +13,9 @@ ghost use Rattle.q3_slot.specs.Emitting.{most_placed};
 ghost use Rattle.q3_slot.specs.Slots.{HoldLists, game_for, slot_of, slot_to, snapshot_for};
 
 use crate::answer::Emitted;
-use crate::context::Context;
 use crate::emitting::{Recipient, write_next};
 use crate::joined::Joined;
+use crate::shared::Shared;
 use q3_built::{TellingParts, Written, write_game};
 use q3_chan::{Datagram, Sender};
 use q3_window::Outgoing;
@@ -27,25 +27,24 @@ pub(crate) fn begin_game(
     issued: &Outgoing,
     client: &mut Joined,
     slot: u8,
-    context: &mut Context,
+    shared: &mut Shared,
     out: &mut Datagram,
 ) -> Emitted
     requires idle { IsIdle sender.old }
     requires number { sender.old.number + 1 < sequence_end }
-    requires buffer { length context.old.buffer.items ≡ longest_message }
     requires out { out.old.items ≡ [] }
     ensures slot { (gathering : Gathering) → slot_of sender.new gathering issued.now client.new
-        ≡ (game_for context.old slot (slot_of sender.old gathering issued.now client.old)).slot }
-    ensures profile { context.new.profile ≡ context.old.profile }
+        ≡ (game_for shared.old slot (slot_of sender.old gathering issued.now client.old)).slot }
+    ensures profile { shared.new.profile ≡ shared.old.profile }
     ensures map { (gathering : Gathering)
-        → context.new.map ≡ (game_for context.old slot (slot_of sender.old gathering issued.now client.old)).map }
-    ensures frames { context.new.frames ≡ context.old.frames }
+        → shared.new.map ≡ (game_for shared.old slot (slot_of sender.old gathering issued.now client.old)).map }
+    ensures frames { shared.new.frames ≡ shared.old.frames }
+    ensures head { shared.new.head ≡ shared.old.head }
     ensures answer { (gathering : Gathering)
-        → result ≡ (game_for context.old slot (slot_of sender.old gathering issued.now client.old)).answer }
+        → result ≡ (game_for shared.old slot (slot_of sender.old gathering issued.now client.old)).answer }
     ensures piece { (gathering : Gathering)
-        → HandsOut (game_for context.old slot (slot_of sender.old gathering issued.now client.old)).piece out.new.items }
+        → HandsOut (game_for shared.old slot (slot_of sender.old gathering issued.now client.old)).piece out.new.items }
     ensures number { sender.new.number < sequence_end }
-    ensures buffer { length context.new.buffer.items ≡ longest_message }
 {
     let number = sender.number() + 1;
     let telling = TellingParts {
@@ -55,18 +54,18 @@ pub(crate) fn begin_game(
         number,
     };
     let written = write_game(
-        &context.profile,
-        &context.map,
+        &shared.profile,
+        &shared.map,
         telling,
         slot,
-        &mut context.buffer,
+        &mut *shared.buffer,
     );
     let Ok(Written { bytes, .. }) = written else {
         return Emitted::Overlong;
     };
     client.prime(number);
-    context.map.begin_game();
-    sender.start(&context.buffer[..bytes]);
+    shared.map.begin_game();
+    sender.start(&shared.buffer[..bytes]);
     sender.next(out);
     Emitted::Game { number, bytes }
 }
@@ -76,38 +75,36 @@ pub(crate) fn begin_game(
 pub(crate) fn begin_snapshot(
     sender: &mut Sender,
     to: Recipient,
-    context: &mut Context,
+    shared: &mut Shared,
     out: &mut Datagram,
 ) -> Emitted
     requires idle { IsIdle sender.old }
     requires number { sender.old.number + 1 < sequence_end }
-    requires slot { to.slot < length context.old.frames.slots }
-    requires placed { context.old.frames.placed ≤ most_placed }
-    requires lists { HoldLists context.old.profile.entity context.old.frames }
-    requires numbers { RiseFrom (end_mark context.old.profile.entity) 0 context.old.map.entities }
-    requires buffer { length context.old.buffer.items ≡ longest_message }
+    requires slot { to.slot < length shared.old.frames.slots }
+    requires placed { shared.old.frames.placed ≤ most_placed }
+    requires lists { HoldLists shared.old.profile.entity shared.old.frames }
+    requires numbers { RiseFrom (end_mark shared.old.profile.entity) 0 shared.old.map.entities }
     requires out { out.old.items ≡ [] }
     ensures slot { (gathering : Gathering) → slot_to to.entry sender.new gathering
-        ≡ (snapshot_for context.old to.entry.slot (slot_to to.entry sender.old gathering)).slot }
-    ensures profile { context.new.profile ≡ context.old.profile }
+        ≡ (snapshot_for shared.old to.entry.slot (slot_to to.entry sender.old gathering)).slot }
+    ensures profile { shared.new.profile ≡ shared.old.profile }
     ensures map { (gathering : Gathering)
-        → context.new.map ≡ (snapshot_for context.old to.entry.slot (slot_to to.entry sender.old gathering)).map }
+        → shared.new.map ≡ (snapshot_for shared.old to.entry.slot (slot_to to.entry sender.old gathering)).map }
     ensures frames { (gathering : Gathering)
-        → context.new.frames ≡ (snapshot_for context.old to.entry.slot (slot_to to.entry sender.old gathering)).frames }
+        → shared.new.frames ≡ (snapshot_for shared.old to.entry.slot (slot_to to.entry sender.old gathering)).frames }
     ensures answer { (gathering : Gathering)
-        → result ≡ (snapshot_for context.old to.entry.slot (slot_to to.entry sender.old gathering)).answer }
+        → result ≡ (snapshot_for shared.old to.entry.slot (slot_to to.entry sender.old gathering)).answer }
     ensures piece { (gathering : Gathering)
-        → HandsOut (snapshot_for context.old to.entry.slot (slot_to to.entry sender.old gathering)).piece out.new.items }
-    ensures slots { length context.new.frames.slots ≡ length context.old.frames.slots }
-    ensures lists { HoldLists context.old.profile.entity context.new.frames }
+        → HandsOut (snapshot_for shared.old to.entry.slot (slot_to to.entry sender.old gathering)).piece out.new.items }
+    ensures slots { length shared.new.frames.slots ≡ length shared.old.frames.slots }
+    ensures lists { HoldLists shared.old.profile.entity shared.new.frames }
     ensures number { sender.new.number < sequence_end }
-    ensures buffer { length context.new.buffer.items ≡ longest_message }
 {
-    let written = write_next(sender, to, context);
+    let written = write_next(sender, to, shared);
     let Ok(Written { base, bytes }) = written else {
         return Emitted::Overlong;
     };
-    sender.start(&context.buffer[..bytes]);
+    sender.start(&shared.buffer[..bytes]);
     sender.next(out);
     Emitted::Snapshot {
         number: sender.number(),

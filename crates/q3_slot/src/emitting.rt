@@ -3,20 +3,19 @@
 //! - Engine: `SV_SendClientSnapshot` (sv_snapshot.c).
 
 ghost use Rattle.std.specs.Prelude.{◌≡◌, ◌+◌, ◌<◌, ◌≤◌, ◌||◌, length, nat_le, nat_lt, None, option_map};
-ghost use Rattle.q3_chan.specs.Datagrams.{client_form, longest_message, sequence_end};
+ghost use Rattle.q3_chan.specs.Datagrams.{client_form, sequence_end};
 ghost use Rattle.q3_chan.specs.Gathering.{new_gathering};
 ghost use Rattle.q3_frames.specs.Frames.{base_of, build_at};
 ghost use Rattle.q3_fields.specs.Kinds.{Layout, end_mark};
 ghost use Rattle.q3_entity.specs.Entities.{IsList, RiseFrom, Rises};
 ghost use Rattle.q3_svmsg.specs.Values.{base_viewed, base_from, base_entities, IsNamed};
-ghost use Rattle.q3_built.specs.Built.{built_of, number_of};
+ghost use Rattle.q3_built.specs.Built.{number_of};
 ghost use Rattle.q3_built.specs.Writing.{HoldsBuilt};
-ghost use Rattle.q3_slot.specs.Slot.{asked};
-ghost use Rattle.q3_slot.specs.Emitting.{begun_next, most_placed, next_frames, next_snapshot, telling_under};
-ghost use Rattle.q3_slot.specs.Slots.{HoldLists, slot_to, slot_with};
+ghost use Rattle.q3_slot.specs.Emitting.{begun_next, most_placed, next_frames};
+ghost use Rattle.q3_slot.specs.Slots.{HoldLists, built_for, slot_to};
 
-use crate::context::Context;
 use crate::joined::Joined;
+use crate::shared::Shared;
 use q3_bits::Overflow;
 use q3_built::{SnapshotParts, TellingParts, Written, write_snapshot};
 use q3_chan::{SEQUENCE_END, Sender};
@@ -65,77 +64,70 @@ pub fn build(frames: &mut Frames, slot: u8, head: &SnapHead, entities: &[EntityS
 pub(crate) fn write_next(
     sender: &Sender,
     to: Recipient,
-    context: &mut Context,
+    shared: &mut Shared,
 ) -> Result<Written, Overflow>
     requires number { sender.now.number + 1 < sequence_end }
-    requires slot { to.slot < length context.old.frames.slots }
-    requires placed { context.old.frames.placed ≤ most_placed }
-    requires lists { HoldLists context.old.profile.entity context.old.frames }
-    requires numbers { RiseFrom (end_mark context.old.profile.entity) 0 context.old.map.entities }
-    requires buffer { length context.old.buffer.items ≡ longest_message }
-    ensures written { HoldsBuilt context.old.profile
-        (begun_next context.old.profile context.old.map context.old.frames to.entry.slot
+    requires slot { to.slot < length shared.old.frames.slots }
+    requires placed { shared.old.frames.placed ≤ most_placed }
+    requires lists { HoldLists shared.old.profile.entity shared.old.frames }
+    requires numbers { RiseFrom (end_mark shared.old.profile.entity) 0 shared.old.map.entities }
+    ensures written { HoldsBuilt shared.old.profile
+        (begun_next shared.old.profile shared.old.map shared.old.frames to.entry.slot
         (slot_to to.entry sender.now (new_gathering (client_form None))))
-        context.new.buffer.items result }
-    ensures profile { context.new.profile ≡ context.old.profile }
-    ensures map { context.new.map ≡ context.old.map }
-    ensures frames { context.new.frames ≡ next_frames context.old.map context.old.frames to.entry.slot
+        shared.new.buffer.value result }
+    ensures profile { shared.new.profile ≡ shared.old.profile }
+    ensures map { shared.new.map ≡ shared.old.map }
+    ensures frames { shared.new.frames ≡ next_frames shared.old.map shared.old.frames to.entry.slot
         (slot_to to.entry sender.now (new_gathering (client_form None))) }
-    ensures slots { length context.new.frames.slots ≡ length context.old.frames.slots }
-    ensures lists { HoldLists context.old.profile.entity context.new.frames }
+    ensures slots { length shared.new.frames.slots ≡ length shared.old.frames.slots }
+    ensures lists { HoldLists shared.old.profile.entity shared.new.frames }
 {
-    to.client.fill(sender, &context.map, &mut context.head);
+    to.client.fill(sender, &shared.map, &mut shared.head);
     build(
-        &mut context.frames,
+        &mut shared.frames,
         to.slot,
-        &context.head,
-        to.client.seen(&context.map),
+        &shared.head,
+        to.client.seen(&shared.map),
     );
-    write_against(to, context)
+    write_against(to, shared)
 }
 
-/// Writes the message of the client's next snapshot, whose head is filled and whose frame is built, against the base of the client,
-/// if its delta number names one, and scrambles it by protocol 68. `Overflow` comes exactly where it has more than 16,384 bytes.
-fn write_against(to: Recipient, context: &mut Context) -> Result<Written, Overflow>
-    requires lists { HoldLists context.old.profile.entity context.old.frames }
-    requires numbers { RiseFrom (end_mark context.old.profile.entity) 0 context.old.map.entities }
-    requires buffer { length context.old.buffer.items ≡ longest_message }
-    ensures written { HoldsBuilt context.old.profile (built_of (telling_under context.old.profile
-        (slot_with to.entry.issued.now to.entry.client.now) context.old.head.number) context.old.map.baselines
-        (base_of context.old.frames to.entry.slot context.old.head.number
-        (asked (slot_with to.entry.issued.now to.entry.client.now)))
-        (record {
-          head = context.old.head;
-          entities = (next_snapshot context.old.map (slot_with to.entry.issued.now to.entry.client.now)).entities;
-        })) context.new.buffer.items result }
-    ensures profile { context.new.profile ≡ context.old.profile }
-    ensures map { context.new.map ≡ context.old.map }
-    ensures frames { context.new.frames ≡ context.old.frames }
+/// Writes the message of a snapshot with the head that the slots share and the entities that the client sees, against the base that
+/// the frames have for it, if its delta number names one, and scrambles it by protocol 68. `Overflow` comes exactly where it has
+/// more than 16,384 bytes.
+fn write_against(to: Recipient, shared: &mut Shared) -> Result<Written, Overflow>
+    requires lists { HoldLists shared.old.profile.entity shared.old.frames }
+    requires numbers { RiseFrom (end_mark shared.old.profile.entity) 0 shared.old.map.entities }
+    ensures written { HoldsBuilt shared.old.profile (built_for shared.old to.entry) shared.new.buffer.value result }
+    ensures profile { shared.new.profile ≡ shared.old.profile }
+    ensures map { shared.new.map ≡ shared.old.map }
+    ensures frames { shared.new.frames ≡ shared.old.frames }
+    ensures head { shared.new.head ≡ shared.old.head }
 {
     let (base, against) = base_in(
-        &context.frames,
+        &shared.frames,
         to.slot,
-        context.head.number,
+        shared.head.number,
         to.client.asked(),
     );
     let telling = TellingParts {
         executed: &to.client.executed,
         issued: to.issued,
         challenge: to.client.challenge,
-        number: context.head.number,
+        number: shared.head.number,
     };
     let snapshot = SnapshotParts {
         base,
         against,
-        head: &context.head,
-        entities: to.client.seen(&context.map),
+        head: &shared.head,
+        entities: to.client.seen(&shared.map),
     };
     write_snapshot(
-        &context.profile,
-        &context.map,
+        &shared.profile,
+        &shared.map,
         telling,
         snapshot,
-        &mut context.buffer,
+        &mut *shared.buffer,
     )
 }
 

@@ -3,16 +3,16 @@
 
 pub mod answer;
 mod beginning;
-pub mod context;
 mod emitting;
 pub mod joined;
 pub mod laws;
+pub mod shared;
 pub mod slot;
 pub mod stage;
 pub mod taking;
 
 pub use answer::{Emitted, NoClient, SayError};
-pub use context::Context;
+pub use shared::Shared;
 pub use slot::Slot;
 pub use stage::ClientStage;
 pub use taking::{Heard, ServerTook};

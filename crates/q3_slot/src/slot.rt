@@ -1,6 +1,6 @@
 //! A place for a client at the server.
-//! - Rules: "fragmentation" and "what a receiver answers", by q3_chan; "when a command may be issued", by q3_window; "config
-//!   changes as commands"; "end of message numbers".
+//! - Rules: "how a datagram finds its slot", "the check of protocol 71"; "when a command may be issued", "config changes as
+//!   commands"; "what the server sends", and of "end of message numbers" and "unclear messages" where they are asked.
 //! - Engine: `SV_SendConfigstring` (sv_init.c), for config changes.
 //! - Ours: the end of message numbers; that a primed client is told of config changes at once.
 
@@ -18,10 +18,10 @@ ghost use Rattle.q3_slot.specs.Slots.{HoldLists, game_for, given, changes_own, s
 
 use crate::answer::{Emitted, NoClient, SayError};
 use crate::beginning::{begin_game, begin_snapshot};
-use crate::context::Context;
 use crate::emitting::{Recipient, has_ended};
 use crate::joined::Joined;
 use crate::laws;
+use crate::shared::Shared;
 use crate::stage::ClientStage;
 use crate::taking::{Heard, ServerTook};
 use arrayvec::ArrayVec;
@@ -303,23 +303,21 @@ impl Slot {
     /// - `Overlong`: the next message has more than 16,384 bytes. Nothing changes, but that the frame of a snapshot stays built.
     /// - `Game`: a gamestate is owed. The client is primed by it.
     /// - `Snapshot`: none is owed.
-    pub fn emit(&mut self, slot: u8, context: &mut Context, out: &mut Datagram) -> Emitted
+    pub fn emit(&mut self, slot: u8, shared: &mut Shared, out: &mut Datagram) -> Emitted
         requires out { out.old.items ≡ [] }
-        requires slot { slot < length context.old.frames.slots }
-        requires lists { HoldLists context.old.profile.entity context.old.frames }
-        requires numbers { RiseFrom (end_mark context.old.profile.entity) 0 context.old.map.entities }
-        requires buffer { length context.old.buffer.items ≡ longest_message }
-        ensures slot { self.new ≡ slot_after context.old.profile context.old.map context.old.frames slot self.old }
-        ensures profile { context.new.profile ≡ context.old.profile }
-        ensures map { context.new.map ≡ map_after context.old.profile context.old.map context.old.frames slot self.old }
-        ensures frames { context.new.frames
-            ≡ frames_after context.old.profile context.old.map context.old.frames slot self.old }
-        ensures slots { length context.new.frames.slots ≡ length context.old.frames.slots }
-        ensures lists { HoldLists context.old.profile.entity context.new.frames }
-        ensures answer { result ≡ answer_of context.old.profile context.old.map context.old.frames slot self.old }
-        ensures piece { HandsOut (piece_of context.old.profile context.old.map context.old.frames slot self.old)
+        requires slot { slot < length shared.old.frames.slots }
+        requires lists { HoldLists shared.old.profile.entity shared.old.frames }
+        requires numbers { RiseFrom (end_mark shared.old.profile.entity) 0 shared.old.map.entities }
+        ensures slot { self.new ≡ slot_after shared.old.profile shared.old.map shared.old.frames slot self.old }
+        ensures profile { shared.new.profile ≡ shared.old.profile }
+        ensures map { shared.new.map ≡ map_after shared.old.profile shared.old.map shared.old.frames slot self.old }
+        ensures frames { shared.new.frames
+            ≡ frames_after shared.old.profile shared.old.map shared.old.frames slot self.old }
+        ensures slots { length shared.new.frames.slots ≡ length shared.old.frames.slots }
+        ensures lists { HoldLists shared.old.profile.entity shared.new.frames }
+        ensures answer { result ≡ answer_of shared.old.profile shared.old.map shared.old.frames slot self.old }
+        ensures piece { HandsOut (piece_of shared.old.profile shared.old.map shared.old.frames slot self.old)
             out.new.items }
-        ensures buffer { length context.new.buffer.items ≡ longest_message }
         ensures stands { IfSome self.old IsSlot }
     {
         // what the types of its parts tell
@@ -333,14 +331,14 @@ impl Slot {
                 number: self.sender.number(),
             };
         }
-        if has_ended(self.sender.number() + 1, context.frames.placed()) {
+        if has_ended(self.sender.number() + 1, shared.frames.placed()) {
             return Emitted::SequenceEnd;
         }
-        if is_unclear(&context.profile, client.executed.executed()) {
+        if is_unclear(&shared.profile, client.executed.executed()) {
             return Emitted::Unclear;
         }
         if client.owed {
-            return self.begin_owed(slot, context, out);
+            return self.begin_owed(slot, shared, out);
         }
         let issued = &self.issued;
         let to = Recipient {
@@ -348,32 +346,31 @@ impl Slot {
             client,
             issued,
         };
-        begin_snapshot(&mut self.sender, to, context, out)
+        begin_snapshot(&mut self.sender, to, shared, out)
     }
 
     /// Begins the message with the gamestate that is owed to the client, and hands out its first piece.
-    fn begin_owed(&mut self, slot: u8, context: &mut Context, out: &mut Datagram) -> Emitted
+    fn begin_owed(&mut self, slot: u8, shared: &mut Shared, out: &mut Datagram) -> Emitted
         requires client { IsSome self.old }
         requires idle { IfSome self.old (λ slot. IsIdle slot.sending) }
         requires number { IfSome self.old (λ slot. slot.sending.number + 1 < sequence_end) }
-        requires buffer { length context.old.buffer.items ≡ longest_message }
         requires out { out.old.items ≡ [] }
         ensures slot { (found : SlotState) → self.old ≡ Some found
-            → self.new ≡ Some (game_for context.old slot found).slot }
-        ensures profile { context.new.profile ≡ context.old.profile }
+            → self.new ≡ Some (game_for shared.old slot found).slot }
+        ensures profile { shared.new.profile ≡ shared.old.profile }
         ensures map { (found : SlotState) → self.old ≡ Some found
-            → context.new.map ≡ (game_for context.old slot found).map }
-        ensures frames { context.new.frames ≡ context.old.frames }
+            → shared.new.map ≡ (game_for shared.old slot found).map }
+        ensures frames { shared.new.frames ≡ shared.old.frames }
+        ensures head { shared.new.head ≡ shared.old.head }
         ensures answer { (found : SlotState) → self.old ≡ Some found
-            → result ≡ (game_for context.old slot found).answer }
+            → result ≡ (game_for shared.old slot found).answer }
         ensures piece { (found : SlotState) → self.old ≡ Some found
-            → HandsOut (game_for context.old slot found).piece out.new.items }
-        ensures buffer { length context.new.buffer.items ≡ longest_message }
+            → HandsOut (game_for shared.old slot found).piece out.new.items }
     {
         let Some(client) = &mut self.client else {
             unreachable!();
         };
-        begin_game(&mut self.sender, &self.issued, client, slot, context, out)
+        begin_game(&mut self.sender, &self.issued, client, slot, shared, out)
     }
 }
 

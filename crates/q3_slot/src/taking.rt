@@ -1,6 +1,6 @@
 //! What a client's message does to its slot.
-//! - Rules: "layout of a client message", "move section", "move key and text hash", "scrambling", "messages of another map; owed
-//!   gamestates", "gaps in command numbers", "which moves run".
+//! - Rules: "scrambling", "unclear messages", "move key and text hash", of what is read; "messages of another map; owed
+//!   gamestates"; "reliable command windows", "gaps in command numbers"; "which moves run", "choice of the delta base".
 //! - Engine: `SV_ExecuteClientMessage` and `SV_UserMove` (sv_client.c), `SV_Netchan_Decode` (sv_net_chan.c).
 //! - Ours: that a move runs exactly where its time is above that of the last one run; that before the first map each id is
 //!   another one.

@@ -26,13 +26,13 @@ use Rattle.q3_ends.proofs.Files.{writes_nothing}
 use Rattle.q3_world.specs.declared.places.Place.{Place}
 use Rattle.q3_world.specs.declared.told.StepError.{StepError}
 use Rattle.q3_world.specs.declared.told.StepError.TheVariants.{NoMemory, WriteFault, FileFault}
-use Rattle.q3_world.specs.Ends.{Ends, place_at, recording_at, with_place, client_step_of, client_takes, game_step, hand_server_of, join, joined, line_of, one_end_step, server_takes, set_port_of, step_in}
+use Rattle.q3_world.specs.Ends.{Ends, place_at, recording_at, with_place, client_step_of, client_takes, game_step, hand_server_of, join, joined, line_of, client_or_game_step, server_takes, set_port_of, step_in}
 use Rattle.q3_io.specs.Written.{Written}
 use Rattle.q3_counts.specs.declared.counts.Counts.{Counts}
 use Rattle.q3_world.specs.Counting.{Counting}
 use Rattle.q3_world.specs.Doing.{EndsDo, LeavesRecordings, Tells}
 use Rattle.q3_world.specs.Ends.{EndsStep}
-use Rattle.q3_world.specs.Files.{AreNumbered, DoesFiles, place_acts, line_acts, one_end_acts, deliver_acts, take_acts}
+use Rattle.q3_world.specs.Files.{AreNumbered, DoesFiles, place_acts, line_acts, client_or_game_acts, deliver_acts, take_acts}
 use Rattle.q3_world.specs.Outcome.{TakesMemory}
 use Rattle.q3_world.proofs.OnePlace.{set_there}
 
@@ -205,30 +205,30 @@ numbered_joined told given c numbers profile ends challenge qport dup address nu
 -- ---- lines of the client that they name, or of the game
 
 -- a line but for bytes that are handed to a client does to files what it does as one of a client's own
-pub acts_of_one_end : (ends : Ends) (event : Event) → ((c : ℕ) (bytes : List ℕ) → event ≡ events.Toclient c bytes → ⊥) → line_acts ends event ≡ one_end_acts ends event (client_named event)
+pub acts_of_client_or_game : (ends : Ends) (event : Event) → ((c : ℕ) (bytes : List ℕ) → event ≡ events.Toclient c bytes → ⊥) → line_acts ends event ≡ client_or_game_acts ends event (client_named event)
 unfolding line_acts
-acts_of_one_end ends (events.Toclient c bytes) toclient = absurd (toclient c bytes refl)
-acts_of_one_end ends other toclient = refl
+acts_of_client_or_game ends (events.Toclient c bytes) toclient = absurd (toclient c bytes refl)
+acts_of_client_or_game ends other toclient = refl
 
 -- and a line that leaves files alone at every client does nothing to them
 pub quiet_client : (event : Event) (found : Option Place) → ((place : Place) → acts_in (client_line place.client place.recording event) ≡ []) → place_acts found event ≡ []
 quiet_client event None leaves = refl
 quiet_client event (Some place) leaves = leaves place
 
-pub does_one_end : (Says : EndsStep → Type 0) (profile : Profile) (ends : Ends) (event : Event)
+pub does_client_or_game : (Says : EndsStep → Type 0) (profile : Profile) (ends : Ends) (event : Event)
     → ((c challenge qport dup : ℕ) (address : Address) → event ≡ events.Client c challenge qport dup address → ⊥) → ((c port : ℕ) → event ≡ events.Port c port → ⊥)
     → ((c : ℕ) (bytes : List ℕ) → event ≡ events.Toclient c bytes → ⊥) → ((c : ℕ) (bytes : List ℕ) → event ≡ events.Toserver c bytes → ⊥)
-    → Says (one_end_step ends event (client_named event)) → IfSome (step_in (line_of profile ends event)) Says
+    → Says (client_or_game_step ends event (client_named event)) → IfSome (step_in (line_of profile ends event)) Says
 unfolding line_of
-does_one_end Says profile ends (events.Client c challenge qport dup address) client port toclient toserver says = absurd (client c challenge qport dup address refl)
-does_one_end Says profile ends (events.Port c at) client port toclient toserver says = absurd (port c at refl)
-does_one_end Says profile ends (events.Toclient c bytes) client port toclient toserver says = absurd (toclient c bytes refl)
-does_one_end Says profile ends (events.Toserver c bytes) client port toclient toserver says = absurd (toserver c bytes refl)
-does_one_end Says profile ends (events.Serve c) client port toclient toserver says = tt
-does_one_end Says profile ends (events.Send c) client port toclient toserver says = tt
-does_one_end Says profile ends (events.Deliver number) client port toclient toserver says = tt
-does_one_end Says profile ends (events.Bytes number) client port toclient toserver says = tt
-does_one_end Says profile ends other client port toclient toserver says = says
+does_client_or_game Says profile ends (events.Client c challenge qport dup address) client port toclient toserver says = absurd (client c challenge qport dup address refl)
+does_client_or_game Says profile ends (events.Port c at) client port toclient toserver says = absurd (port c at refl)
+does_client_or_game Says profile ends (events.Toclient c bytes) client port toclient toserver says = absurd (toclient c bytes refl)
+does_client_or_game Says profile ends (events.Toserver c bytes) client port toclient toserver says = absurd (toserver c bytes refl)
+does_client_or_game Says profile ends (events.Serve c) client port toclient toserver says = tt
+does_client_or_game Says profile ends (events.Send c) client port toclient toserver says = tt
+does_client_or_game Says profile ends (events.Deliver number) client port toclient toserver says = tt
+does_client_or_game Says profile ends (events.Bytes number) client port toclient toserver says = tt
+does_client_or_game Says profile ends other client port toclient toserver says = says
 
 -- where it names no client, it is one of the game
 pub is_game : (profile : Profile) (ends : Ends) (event : Event) → IsReplayEvent event

@@ -116,9 +116,9 @@ abbrev pub client_step : Ends → ℕ → Event → EndsStep
 client_step ends c event = client_step_of ends c event (place_at ends c)
 
 -- a line of the client that it names, or of the game
-abbrev pub one_end_step : Ends → Event → Option ℕ → EndsStep
-one_end_step ends event (Some c) = client_step ends c event
-one_end_step ends event None = game_step ends (server_line ends.server event)
+abbrev pub client_or_game_step : Ends → Event → Option ℕ → EndsStep
+client_or_game_step ends event (Some c) = client_step ends c event
+client_or_game_step ends event None = game_step ends (server_line ends.server event)
 
 -- the newest snapshot that a client accepted, if it is there
 abbrev pub newest : Option ClientState → Option Snapshot
@@ -183,7 +183,7 @@ line_of profile ends (events.Deliver number) = Delivers number
 line_of profile ends (events.Bytes number) = TellsBytes number
 line_of profile ends (events.Toclient c bytes) = HandsBytes c (hand_client ends c bytes)
 line_of profile ends (events.Toserver c bytes) = HandsBytes c (hand_server ends c bytes)
-line_of profile ends other = Hands (one_end_step ends other (client_named other))
+line_of profile ends other = Hands (client_or_game_step ends other (client_named other))
 
 -- the step of a line that hands something in, hands bytes to an end, or shows a client
 abbrev pub step_in : Line → Option EndsStep

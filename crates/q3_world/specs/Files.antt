@@ -41,14 +41,14 @@ deliver_acts ends None = []
 deliver_acts ends (Some sent) = arrive_acts ends sent sent.direction
 
 -- a line of the client that it names; any other does nothing to files
-abbrev pub one_end_acts : Ends → Event → Option ℕ → List FileAct
-one_end_acts ends event (Some c) = place_acts (place_at ends c) event
-one_end_acts ends event None = []
+abbrev pub client_or_game_acts : Ends → Event → Option ℕ → List FileAct
+client_or_game_acts ends event (Some c) = place_acts (place_at ends c) event
+client_or_game_acts ends event None = []
 
 -- what a line does to files that hands something in, or hands bytes to an end
 unfoldable pub line_acts : Ends → Event → List FileAct
 line_acts ends (events.Toclient c bytes) = take_acts (place_at ends c) bytes
-line_acts ends other = one_end_acts ends other (client_named other)
+line_acts ends other = client_or_game_acts ends other (client_named other)
 
 -- what an event does to files
 unfoldable pub acts_of : Kept → Event → List FileAct

@@ -49,10 +49,10 @@ impl Model for Ends {
 }
 
 impl Ends {
-    ghost use Rattle.q3_world.specs.Ends.{place_at, new_ends, join, join_with, set_port, game_step, client_step, one_end_step, client_takes, server_takes, hand_server, step_in, line_of};
+    ghost use Rattle.q3_world.specs.Ends.{place_at, new_ends, join, join_with, set_port, game_step, client_step, client_or_game_step, client_takes, server_takes, hand_server, step_in, line_of};
     ghost use Rattle.q3_world.specs.Kept.{Kept, most_datagrams, deliver_at, kept_serve, kept_send};
     ghost use Rattle.q3_world.specs.Doing.{Tells, EndsDo};
-    ghost use Rattle.q3_world.specs.Files.{AreNumbered, DoesFiles, without, ended, one_end_acts, place_acts, stop_acts, take_acts, deliver_acts, line_acts, ending_acts};
+    ghost use Rattle.q3_world.specs.Files.{AreNumbered, DoesFiles, without, ended, client_or_game_acts, place_acts, stop_acts, take_acts, deliver_acts, line_acts, ending_acts};
     ghost use Rattle.q3_world.specs.Outcome.{TakesMemory};
     ghost use Rattle.q3_ends.specs.Recording.{WritesFiles};
 
@@ -125,7 +125,7 @@ impl Ends {
             Event::Toserver { c, bytes } => {
                 self.hand_server(*c, bytes.bytes(), heard, counts, out)
             }
-            _ => self.one_end_line(alloc, event, numbers, counts, files, out),
+            _ => self.client_or_game_line(alloc, event, numbers, counts, files, out),
         }
     }
 
@@ -200,7 +200,7 @@ impl Ends {
     }
 
     /// A line of the client that it names, or of the game.
-    fn one_end_line<F: Files, O: Sink>(
+    fn client_or_game_line<F: Files, O: Sink>(
         &mut self,
         alloc: Global,
         event: &Event,
@@ -213,12 +213,12 @@ impl Ends {
         requires line { client_named event.now ≡ None → IsSome (server_line self.old.server event.now) }
         requires numbered { AreNumbered (F.told files.old) (F.given files.old) numbers.old self.old }
         ensures does { EndsDo self.old self.new counts.old counts.new (O.written out.old) (O.written out.new)
-            (O.faults out.old) (O.faults out.new) (one_end_step self.old event.now (client_named event.now)) result }
+            (O.faults out.old) (O.faults out.new) (client_or_game_step self.old event.now (client_named event.now)) result }
         ensures memory { IsErrOf result StepError.NoMemory → TakesMemory event.now }
         ensures files { DoesFiles (F.told files.old) (F.told files.new) (F.given files.old) (F.given files.new)
             (F.faults files.old) (F.faults files.new)
             (F.write_faults files.old) (F.write_faults files.new)
-            (one_end_acts self.old event.now (client_named event.now)) result }
+            (client_or_game_acts self.old event.now (client_named event.now)) result }
         ensures numbered { AreNumbered (F.told files.new) (F.given files.new) numbers.new self.new }
         ensures same { IsErrOf result StepError.NoMemory → numbers.new ≡ numbers.old }
     {

@@ -15,8 +15,8 @@ use Rattle.q3_slot.proofs.emitting.write_next.Goals as goal
 
 pub returns : goal.returns
 returns c =
-    let map = c.args.context.now.map in
-    let frames = c.args.context.now.frames in
+    let map = c.args.shared.now.map in
+    let frames = c.args.shared.now.frames in
     let client = c.args.to.client.now in
     let issued = c.args.to.issued.now in
     let slot : SlotState = slot_of c.args.sender.now (new_gathering (client_form None)) issued client in
@@ -30,8 +30,8 @@ returns c =
     c.build.ensures.built ∙ ap (λ (e : List EntityState). build_at frames c.args.to.slot (record { head = c.fill.new.head; entities = e })) is_seen in
     record {
       written =
-          subst (λ (built : Built). HoldsBuilt c.args.context.now.profile built c.write_against.new.context.buffer.items c.write_against.result)
-          (is_begun c.args.context.now.profile map frames c.build.new.frames c.args.to.slot c.args.sender.now (new_gathering (client_form None)) issued client
+          subst (λ (built : Built). HoldsBuilt c.args.shared.now.profile built c.write_against.new.shared.buffer.value c.write_against.result)
+          (is_begun c.args.shared.now.profile map frames c.build.new.frames c.args.to.slot c.args.sender.now (new_gathering (client_form None)) issued client
           c.fill.new.head.number snapshot map.baselines c.fill.ensures.number snapshot_is built refl)
           c.write_against.ensures.written;
       profile = search rules;

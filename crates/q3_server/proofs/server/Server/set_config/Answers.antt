@@ -16,13 +16,12 @@ invariant_of-self c =
     let old : c.deref_mut.result.now ≡ c.self.inside.slots.items = search rules in
     let len : length c.deref_mut.result.now ≡ c.self.inside.slots.len = search rules in
     let are : slots ≡ map (option_map (tells (piece_texts c.args.index c.args.text.now))) c.self.inside.slots.items = all_written c.self.inside.slots.len c.tell_all.new.slots c.deref_mut.result.now c.self.inside.slots.items (option_map (tells (piece_texts c.args.index c.args.text.now))) c.tell_all.ensures old len in
-    let none : admit_fault c.self.inside.context.map.strings c.args.index c.args.text.now ≡ None = search rules in (
+    let none : admit_fault c.self.inside.shared.map.strings c.args.index c.args.text.now ≡ None = search rules in (
       search rules,
       search rules,
       search rules,
       search rules,
-      search rules,
-      server_configured c.self.inside.context.profile c.self.inside.context.map c.set_config.new.self c.self.inside.slots.items c.self.inside.context.frames c.below.ensures c.args.index c.args.text.now slots c.if-index-eq-SYSTEM_INFO.false none c.set_config.ensures are was.5,
+      server_configured c.self.inside.shared.profile c.self.inside.shared.map c.set_config.new.self c.self.inside.slots.items c.self.inside.shared.frames c.below.ensures c.args.index c.args.text.now slots c.if-index-eq-SYSTEM_INFO.false none c.set_config.ensures are was.4,
     )
 
 pub first_without_room-requires-clause-short : goal.first_without_room-requires-clause-short

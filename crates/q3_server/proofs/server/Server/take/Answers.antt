@@ -10,7 +10,6 @@ invariant_of-self c =
       search rules,
       search rules,
       search rules,
-      search rules,
-      long_written c.self.inside.whole.len longest_message c.take.new.whole c.deref_mut.result.now c.self.inside.whole.items c.take.ensures.whole old len c.self.invariant.4,
-      server_took c.self.inside.context.profile c.self.inside.context.map c.self.inside.slots.items c.self.inside.context.frames c.in-Some.slot c.index_mut.result.now c.take.new.self (search rules) (search rules) c.self.invariant.5 c.below.ensures c.args.from c.args.datagram.now c.take.ensures.slot,
+      long_written c.self.inside.whole.len longest_message c.take.new.whole c.deref_mut.result.now c.self.inside.whole.items c.take.ensures.whole old len c.self.invariant.3,
+      server_took c.self.inside.shared.profile c.self.inside.shared.map c.self.inside.slots.items c.self.inside.shared.frames c.in-Some.slot c.index_mut.result.now c.take.new.self (search rules) (search rules) c.self.invariant.4 c.below.ensures c.args.from c.args.datagram.now c.take.ensures.slot,
     )

@@ -11,9 +11,9 @@ use Rattle.q3_slot.proofs.slot.Slot.emit.Goals as goal
 
 pub returns : goal.returns
 returns c =
-    let profile = c.args.context.now.profile in
-    let map = c.args.context.now.map in
-    let frames = c.args.context.now.frames in
+    let profile = c.args.shared.now.profile in
+    let map = c.args.shared.now.map in
+    let frames = c.args.shared.now.frames in
     let slot = c.args.slot in
     let gatherer = c.self.inside.gatherer in
     let first : SlotState = slot_of c.self.inside.sender gatherer c.self.inside.issued c.in-Some.client in
@@ -35,16 +35,15 @@ returns c =
       answer = c.begin_snapshot.ensures.answer gatherer ∙ ap (λ (e : SlotEmission). e.answer) emits ∙ ap (answer_of profile map frames slot) is_first;
       piece = subst (λ (piece : Option Piece). HandsOut piece c.begin_snapshot.new.out.items)
           (ap (λ (e : SlotEmission). e.piece) emits ∙ ap (piece_of profile map frames slot) is_first) (c.begin_snapshot.ensures.piece gatherer);
-      buffer = search rules;
       stands = c.slot_stands.ensures;
     }
 
 -- a gamestate that is owed
-pub returns-then-client-clause-slot : goal.returns-then-client-clause-slot
-returns-then-client-clause-slot c =
-    let profile = c.args.context.now.profile in
-    let map = c.args.context.now.map in
-    let frames = c.args.context.now.frames in
+pub returns-then-client : goal.returns-then-client
+returns-then-client c =
+    let profile = c.args.shared.now.profile in
+    let map = c.args.shared.now.map in
+    let frames = c.args.shared.now.frames in
     let slot = c.args.slot in
     let first : SlotState = slot_of c.self.inside.sender c.self.inside.gatherer c.self.inside.issued c.in-Some.client in
     let is_first : Some first ≡ c.args.self.now = search rules in
@@ -52,47 +51,16 @@ returns-then-client-clause-slot c =
     let open_ : (nat_le sequence_end (c.self.inside.sender.number + 1) || nat_lt most_placed frames.placed) ≡ false = search rules in
     let clear : is_unclear profile c.in-Some.client.executed.executed ≡ false = search rules in
     let emits = sym (emits_game profile map frames slot first idle open_ clear c.if-client.true) in
-    c.begin_owed.ensures.slot first (sym is_first) ∙ ap (λ (e : SlotEmission). Some e.slot) emits ∙ ap (slot_after profile map frames slot) is_first
-
-pub returns-then-client-clause-map : goal.returns-then-client-clause-map
-returns-then-client-clause-map c =
-    let profile = c.args.context.now.profile in
-    let map = c.args.context.now.map in
-    let frames = c.args.context.now.frames in
-    let slot = c.args.slot in
-    let first : SlotState = slot_of c.self.inside.sender c.self.inside.gatherer c.self.inside.issued c.in-Some.client in
-    let is_first : Some first ≡ c.args.self.now = search rules in
-    let idle : c.self.inside.sender.under_way ≡ None = search rules in
-    let open_ : (nat_le sequence_end (c.self.inside.sender.number + 1) || nat_lt most_placed frames.placed) ≡ false = search rules in
-    let clear : is_unclear profile c.in-Some.client.executed.executed ≡ false = search rules in
-    let emits = sym (emits_game profile map frames slot first idle open_ clear c.if-client.true) in
-    c.begin_owed.ensures.map first (sym is_first) ∙ ap (λ (e : SlotEmission). e.map) emits ∙ ap (map_after profile map frames slot) is_first
-
-pub returns-then-client-clause-answer : goal.returns-then-client-clause-answer
-returns-then-client-clause-answer c =
-    let profile = c.args.context.now.profile in
-    let map = c.args.context.now.map in
-    let frames = c.args.context.now.frames in
-    let slot = c.args.slot in
-    let first : SlotState = slot_of c.self.inside.sender c.self.inside.gatherer c.self.inside.issued c.in-Some.client in
-    let is_first : Some first ≡ c.args.self.now = search rules in
-    let idle : c.self.inside.sender.under_way ≡ None = search rules in
-    let open_ : (nat_le sequence_end (c.self.inside.sender.number + 1) || nat_lt most_placed frames.placed) ≡ false = search rules in
-    let clear : is_unclear profile c.in-Some.client.executed.executed ≡ false = search rules in
-    let emits = sym (emits_game profile map frames slot first idle open_ clear c.if-client.true) in
-    c.begin_owed.ensures.answer first (sym is_first) ∙ ap (λ (e : SlotEmission). e.answer) emits ∙ ap (answer_of profile map frames slot) is_first
-
-pub returns-then-client-clause-piece : goal.returns-then-client-clause-piece
-returns-then-client-clause-piece c =
-    let profile = c.args.context.now.profile in
-    let map = c.args.context.now.map in
-    let frames = c.args.context.now.frames in
-    let slot = c.args.slot in
-    let first : SlotState = slot_of c.self.inside.sender c.self.inside.gatherer c.self.inside.issued c.in-Some.client in
-    let is_first : Some first ≡ c.args.self.now = search rules in
-    let idle : c.self.inside.sender.under_way ≡ None = search rules in
-    let open_ : (nat_le sequence_end (c.self.inside.sender.number + 1) || nat_lt most_placed frames.placed) ≡ false = search rules in
-    let clear : is_unclear profile c.in-Some.client.executed.executed ≡ false = search rules in
-    let emits = sym (emits_game profile map frames slot first idle open_ clear c.if-client.true) in
-    subst (λ (piece : Option Piece). HandsOut piece c.begin_owed.new.out.items)
-    (ap (λ (e : SlotEmission). e.piece) emits ∙ ap (piece_of profile map frames slot) is_first) (c.begin_owed.ensures.piece first (sym is_first))
+    let was = sym is_first in
+    record {
+      slot = c.begin_owed.ensures.slot first was ∙ ap (λ (e : SlotEmission). Some e.slot) emits ∙ ap (slot_after profile map frames slot) is_first;
+      profile = c.begin_owed.ensures.profile;
+      map = c.begin_owed.ensures.map first was ∙ ap (λ (e : SlotEmission). e.map) emits ∙ ap (map_after profile map frames slot) is_first;
+      frames = search rules;
+      slots = search rules;
+      lists = search rules;
+      answer = c.begin_owed.ensures.answer first was ∙ ap (λ (e : SlotEmission). e.answer) emits ∙ ap (answer_of profile map frames slot) is_first;
+      piece = subst (λ (piece : Option Piece). HandsOut piece c.begin_owed.new.out.items)
+          (ap (λ (e : SlotEmission). e.piece) emits ∙ ap (piece_of profile map frames slot) is_first) (c.begin_owed.ensures.piece first was);
+      stands = c.slot_stands.ensures;
+    }

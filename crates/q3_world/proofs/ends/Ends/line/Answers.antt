@@ -5,7 +5,7 @@ use Rattle.q3_world.specs.Doing.{EndsDo}
 use Rattle.q3_world.specs.Ends as by_ends
 use Rattle.q3_world.specs.Ends.{EndsStep, place_at}
 use Rattle.q3_world.specs.Files.{AreNumbered, DoesFiles, line_acts}
-use Rattle.q3_world.proofs.Filing.{acts_of_one_end, does_nothing, does_one_end, is_game, numbered_joined, numbered_same, same_port}
+use Rattle.q3_world.proofs.Filing.{acts_of_client_or_game, does_nothing, does_client_or_game, is_game, numbered_joined, numbered_same, same_port}
 use Rattle.q3_world.proofs.ends.Ends.line.Goals as goal
 
 pub returns-in-Port-clause-files : goal.returns-in-Port-clause-files
@@ -33,18 +33,18 @@ returns-in-Ok-clause-numbered g c =
 pub returns-in_default-join-clause-files : goal.returns-in_default-join-clause-files
 returns-in_default-join-clause-files g c = writes_nothing _ _ _ _
 
-pub one_end_line-requires-clause-line : goal.one_end_line-requires-clause-line
-one_end_line-requires-clause-line g c = λ none.
+pub client_or_game_line-requires-clause-line : goal.client_or_game_line-requires-clause-line
+client_or_game_line-requires-clause-line g c = λ none.
     is_game c.args.profile.now c.args.self.now c.args.event.now c.requires.event c.in_default.not-Client c.in_default.not-Port c.in_default.not-Toclient c.in_default.not-Toserver c.requires.line none
 
 pub returns-in_default-clause-does : goal.returns-in_default-clause-does
 returns-in_default-clause-does g c =
-    does_one_end (λ (step : EndsStep). EndsDo c.args.self.now c.one_end_line.new.self c.args.counts.now c.one_end_line.new.counts (g.O.Sink.written c.args.out.now) (g.O.Sink.written c.one_end_line.new.out)
-    (g.O.Sink.faults c.args.out.now) (g.O.Sink.faults c.one_end_line.new.out) step c.one_end_line.result) c.args.profile.now c.args.self.now c.args.event.now
-    c.in_default.not-Client c.in_default.not-Port c.in_default.not-Toclient c.in_default.not-Toserver c.one_end_line.ensures.does
+    does_client_or_game (λ (step : EndsStep). EndsDo c.args.self.now c.client_or_game_line.new.self c.args.counts.now c.client_or_game_line.new.counts (g.O.Sink.written c.args.out.now) (g.O.Sink.written c.client_or_game_line.new.out)
+    (g.O.Sink.faults c.args.out.now) (g.O.Sink.faults c.client_or_game_line.new.out) step c.client_or_game_line.result) c.args.profile.now c.args.self.now c.args.event.now
+    c.in_default.not-Client c.in_default.not-Port c.in_default.not-Toclient c.in_default.not-Toserver c.client_or_game_line.ensures.does
 
 pub returns-in_default-clause-files : goal.returns-in_default-clause-files
 returns-in_default-clause-files g c =
-    subst (λ (acts : List FileAct). DoesFiles (g.F.Files.told c.args.files.now) (g.F.Files.told c.one_end_line.new.files) (g.F.Files.given c.args.files.now) (g.F.Files.given c.one_end_line.new.files)
-    (g.F.Files.faults c.args.files.now) (g.F.Files.faults c.one_end_line.new.files) (g.F.Files.write_faults c.args.files.now) (g.F.Files.write_faults c.one_end_line.new.files) acts c.one_end_line.result)
-    (sym (acts_of_one_end c.args.self.now c.args.event.now c.in_default.not-Toclient)) c.one_end_line.ensures.files
+    subst (λ (acts : List FileAct). DoesFiles (g.F.Files.told c.args.files.now) (g.F.Files.told c.client_or_game_line.new.files) (g.F.Files.given c.args.files.now) (g.F.Files.given c.client_or_game_line.new.files)
+    (g.F.Files.faults c.args.files.now) (g.F.Files.faults c.client_or_game_line.new.files) (g.F.Files.write_faults c.args.files.now) (g.F.Files.write_faults c.client_or_game_line.new.files) acts c.client_or_game_line.result)
+    (sym (acts_of_client_or_game c.args.self.now c.args.event.now c.in_default.not-Toclient)) c.client_or_game_line.ensures.files
