@@ -9,9 +9,9 @@ use Rattle.q3_client.specs.declared.client.Sent.{Sent}
 use Rattle.q3_client.specs.declared.client.Sent.TheVariants as sent
 use Rattle.q3_slot.specs.declared.answer.Emitted.{Emitted}
 use Rattle.q3_slot.specs.declared.answer.Emitted.TheVariants as emitted
+use Rattle.q3_slot.specs.declared.taking.Heard.{Heard}
 use Rattle.q3_slot.specs.declared.taking.ServerTook.{ServerTook}
 use Rattle.q3_slot.specs.declared.taking.ServerTook.TheVariants.{Ran}
-use Rattle.q3_report.specs.ServerLines.{Run}
 use Rattle.q3_report.specs.Answers.{Taking, ByClient, ByServer, Answered, Served, SentOut, Took}
 use Rattle.q3_counts.specs.declared.counts.Counts.{Counts}
 
@@ -51,14 +51,14 @@ lines_of_client (Applied applied) commands =
 lines_of_client other commands = one_event
 
 -- and of the server
-abbrev pub lines_of_server : ServerTook → Run → Counts
-lines_of_server (Ran slot number) ran = record one_event { client_commands = length ran.commands; moves = length ran.moves }
-lines_of_server other ran = one_event
+abbrev pub lines_of_server : ServerTook → Heard → Counts
+lines_of_server (Ran slot number) heard = record one_event { client_commands = length heard.commands; moves = length heard.moves.items }
+lines_of_server other heard = one_event
 
 -- the lines of an end that took bytes
 abbrev pub lines_of_taking : Taking → Counts
 lines_of_taking (ByClient c took state commands ended) = lines_of_client took commands
-lines_of_taking (ByServer took ran) = lines_of_server took ran
+lines_of_taking (ByServer took heard) = lines_of_server took heard
 
 -- the lines of an answer
 abbrev pub lines_in : Answered → Counts

@@ -1,7 +1,6 @@
 //! What a replay counts: the lines of its report, by their kind.
 
 ghost use Rattle.std.specs.Prelude.{◌≡◌};
-ghost use Rattle.q3_report.specs.ServerLines.{run_of};
 ghost use Rattle.q3_report.specs.Tellings.{answered_of};
 ghost use Rattle.q3_counts.specs.Counts.{no_counts, made_served, made_sent, accepted_in, skipped_in, lines_of_client, lines_of_server, lines_in, with_lines};
 
@@ -182,7 +181,7 @@ fn skipped_in(snap: &SnapOutcome) -> u64
 
 /// The lines of the server that took a datagram.
 fn lines_of_server(took: &ServerTook, heard: &Heard) -> Counts
-    ensures { result ≡ lines_of_server took.now (run_of heard.now) }
+    ensures { result ≡ lines_of_server took.now heard.now }
 {
     match took {
         ServerTook::Ran { .. } => Counts::of_server(heard.commands.len(), heard.moves.len()),

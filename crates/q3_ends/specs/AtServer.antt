@@ -7,7 +7,6 @@ use Rattle.q3_player.specs.declared.state.PlayerState.{PlayerState}
 use Rattle.q3_entity.specs.declared.state.EntityState.{EntityState}
 use Rattle.q3_script.specs.declared.event.Event.{Event}
 use Rattle.q3_script.specs.declared.event.Event.TheVariants as events
-use Rattle.q3_report.specs.ServerLines.{Run}
 use Rattle.q3_server.specs.Server.{ServerState, set_time_at, set_entity_at, remove_entity_at, set_player_at, set_area_at, new_map_at, set_baseline_at, set_config_at, say_at}
 use Rattle.q3_server.specs.Taking.{Taken}
 use Rattle.q3_report.specs.declared.answer.HandedIn.{HandedIn}
@@ -101,10 +100,6 @@ abbrev pub stepped_server : ServerState → Option ServerStep → ServerState
 stepped_server server None = server
 stepped_server server (Some step) = step.server
 
--- what a take of the server ran
-abbrev pub ran_of : Taken → Run
-ran_of taken = record { commands = taken.commands; entered = taken.entered; moves = taken.moves; owed = taken.owed }
-
 -- the answer of a server that took bytes
 abbrev pub taken_by_server : Front → Taken → Answered
-taken_by_server front taken = Took front (ByServer taken.answer (ran_of taken))
+taken_by_server front taken = Took front (ByServer taken.answer taken.heard)

@@ -217,7 +217,7 @@ comes_to server now from qport c slot g bytes told has =
     ∙ placed (by_slot.take_slot server.profile server.map c from bytes before))))))
   where
     placed : (t : by_slot.SlotTaken) → taken_at now c t ≡ taken_at server c t
-    placed t = ap (λ (s : ServerState). record { server = s; answer = t.answer; commands = t.commands; moves = t.moves; entered = t.entered; owed = t.owed }) (has.same t.slot)
+    placed t = ap (λ (s : ServerState). record { server = s; answer = t.answer; heard = t.heard }) (has.same t.slot)
 
 -- a slot takes a piece that is partial
 slot_piece : (profile : Profile) (map : MapState) (slot : SlotState) (c : ℕ) (address from : Address) (g : Gathering) (bytes : List ℕ) → (gathered_of g bytes).answer ≡ gathered.Partial

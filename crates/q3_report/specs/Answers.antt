@@ -1,14 +1,15 @@
 -- What an event answered, as a value: all that stands in its lines.
-use Rattle.std.specs.Prelude.{ℕ, Bool, List, Option, Some, None, Result}
+use Rattle.std.specs.Prelude.{ℕ, Bool, false, List, Option, Some, None, Result}
 use Rattle.q3_entity_ring.specs.Snapshot.{Snapshot}
 use Rattle.q3_text.specs.declared.text.Command.{Command}
 use Rattle.q3_clstate.specs.State.{AppliedState}
 use Rattle.q3_slot.specs.declared.answer.Emitted.{Emitted}
 use Rattle.q3_slot.specs.declared.answer.NoClient.{NoClient}
+use Rattle.q3_slot.specs.declared.taking.Heard.{Heard}
 use Rattle.q3_slot.specs.declared.taking.ServerTook.{ServerTook}
+use Rattle.q3_slot.specs.Taking.{nothing_heard}
 use Rattle.q3_client.specs.declared.client.ClientTook.{ClientTook}
 use Rattle.q3_client.specs.declared.client.Sent.{Sent}
-use Rattle.q3_report.specs.ServerLines.{Run, ran_nothing}
 use Rattle.q3_report.specs.declared.answer.HandedIn.{HandedIn}
 use Rattle.q3_report.specs.declared.answer.Front.{Front}
 use Rattle.q3_report.specs.declared.answer.TakeRefused.{TakeRefused}
@@ -17,7 +18,7 @@ use Rattle.q3_report.specs.declared.answer.TakeRefused.{TakeRefused}
 -- recording ended by itself; or the server with what it ran
 pub data Taking : Type 0 where
   ByClient : ℕ → ClientTook → AppliedState → List Command → Bool → Taking
-  ByServer : ServerTook → Run → Taking
+  ByServer : ServerTook → Heard → Taking
 
 -- what a client shows: there is no such client, it has no snapshot, or its newest
 pub data Showing : Type 0 where
@@ -37,10 +38,10 @@ pub data Answered : Type 0 where
   Bytes : ℕ → Option (List ℕ) → Answered
 
 -- what was executed and run with an answer
-abbrev pub ran_in : Answered → Run
-ran_in (Took front (ByClient c took state commands ended)) = record ran_nothing { commands = commands }
-ran_in (Took front (ByServer took run)) = run
-ran_in other = ran_nothing
+abbrev pub heard_in : Answered → Heard
+heard_in (Took front (ByClient c took state commands ended)) = record (nothing_heard false) { commands = commands }
+heard_in (Took front (ByServer took heard)) = heard
+heard_in other = nothing_heard false
 
 -- the snapshot that is shown
 abbrev pub snapshot_in : Answered → Option Snapshot

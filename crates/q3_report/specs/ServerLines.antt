@@ -1,9 +1,7 @@
 -- What the server's end answers, as reports print it.
 use Rattle.std.specs.Prelude.{ℕ, Bool, true, false, List, [], ◌∷◌, ◌++◌, codes, decimal, Option, Some, None}
 use Rattle.std.specs.List.{concat, flat_map}
-use Rattle.q3_text.specs.declared.text.Command.{Command}
 use Rattle.q3_window.specs.Report.{commands_text}
-use Rattle.q3_clmsg.specs.declared.moves.Move.{Move}
 use Rattle.q3_clmsg.specs.Report.{move_text, cause_word, cause_number}
 use Rattle.q3_slot.specs.declared.answer.Emitted.{Emitted}
 use Rattle.q3_slot.specs.declared.answer.Emitted.TheVariants as emitted
@@ -98,36 +96,21 @@ abbrev pub entered_text : Option ℕ → List ℕ
 entered_text None = []
 entered_text (Some time) = concat (codes "+ entered " ∷ decimal time ∷ codes "\n" ∷ [])
 
--- what a take ran
-pub record Run : Type 0 where
-  pub commands : List Command
-  pub entered : Option ℕ
-  pub moves : List Move
-  pub owed : Bool
-
--- and as the program keeps it
-abbrev pub run_of : Heard → Run
-run_of heard = record { commands = heard.commands; entered = heard.entered; moves = heard.moves.items; owed = heard.owed }
-
--- where nothing was executed or run
-abbrev pub ran_nothing : Run
-ran_nothing = record { commands = []; entered = None; moves = []; owed = false }
-
 -- the lines under a message that was run: a line for each command, one where the client entered the map, and one for each move
-abbrev pub run_text : Run → List ℕ
-run_text run = concat (commands_text run.commands ∷ entered_text run.entered ∷ flat_map move_text run.moves ∷ [])
+abbrev pub heard_text : Heard → List ℕ
+heard_text heard = concat (commands_text heard.commands ∷ entered_text heard.entered ∷ flat_map move_text heard.moves.items ∷ [])
 
 -- what follows `deliver D` where the server took a datagram: the rest of that line, and the lines under it
-abbrev pub server_text : ServerTook → Run → List ℕ
-server_text took.Runt run = codes " server runt\n"
-server_text took.Connectionless run = codes " server connectionless\n"
-server_text took.Stranger run = codes " server stranger\n"
-server_text (took.Old slot) run = slot_text slot (codes "old")
-server_text (took.OutOfOrder slot) run = slot_text slot (codes "outoforder")
-server_text (took.BadFragment slot) run = slot_text slot (codes "badfragment")
-server_text (took.BadCheck slot) run = slot_text slot (codes "badcheck")
-server_text (took.Partial slot) run = slot_text slot (codes "partial")
-server_text (took.Illegible slot cause) run = illegible_text slot (cause_word cause) (cause_number cause)
-server_text (took.Ignored slot id) run = ignored_text slot id ++ owed_text run.owed
-server_text (took.Gap slot number) run = gap_text slot number
-server_text (took.Ran slot number) run = ran_text slot number ++ run_text run
+abbrev pub server_text : ServerTook → Heard → List ℕ
+server_text took.Runt heard = codes " server runt\n"
+server_text took.Connectionless heard = codes " server connectionless\n"
+server_text took.Stranger heard = codes " server stranger\n"
+server_text (took.Old slot) heard = slot_text slot (codes "old")
+server_text (took.OutOfOrder slot) heard = slot_text slot (codes "outoforder")
+server_text (took.BadFragment slot) heard = slot_text slot (codes "badfragment")
+server_text (took.BadCheck slot) heard = slot_text slot (codes "badcheck")
+server_text (took.Partial slot) heard = slot_text slot (codes "partial")
+server_text (took.Illegible slot cause) heard = illegible_text slot (cause_word cause) (cause_number cause)
+server_text (took.Ignored slot id) heard = ignored_text slot id ++ owed_text heard.owed
+server_text (took.Gap slot number) heard = gap_text slot number
+server_text (took.Ran slot number) heard = ran_text slot number ++ heard_text heard

@@ -1,7 +1,6 @@
 -- What the program's answers tell, with what they lend.
 use Rattle.std.specs.Prelude.{option_map}
 use Rattle.q3_rings.specs.Loans.{snapshot_of}
-use Rattle.q3_report.specs.ServerLines.{run_of}
 use Rattle.q3_report.specs.declared.answer.Taker as taker
 use Rattle.q3_report.specs.declared.answer.Taker.TheVariants as takers
 use Rattle.q3_report.specs.declared.answer.Shown as shown
@@ -12,7 +11,7 @@ use Rattle.q3_report.specs.Answers.{Taking, ByClient, ByServer, Showing, ShowsNo
 
 abbrev pub taking_of : taker.Taker → Taking
 taking_of (takers.Client c took client log ended) = ByClient c took client.now.state log.now.commands ended
-taking_of (takers.Server took heard) = ByServer took (run_of heard.now)
+taking_of (takers.Server took heard) = ByServer took heard.now
 
 abbrev pub showing_of : shown.Shown → Showing
 showing_of shows.NoClient = ShowsNobody

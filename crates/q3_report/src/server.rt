@@ -6,7 +6,7 @@ ghost use Rattle.q3_io.specs.Faults.{HasCause};
 ghost use Rattle.q3_io.specs.Written.{Adds};
 ghost use Rattle.q3_clmsg.specs.Report.{move_text, cause_word, cause_number};
 ghost use Rattle.q3_slot.specs.declared.answer.Emitted.TheVariants as emitted;
-ghost use Rattle.q3_report.specs.ServerLines.{serve_text, slot_text, illegible_text, gap_text, ignored_text, owed_text, entered_text, ran_text, run_of, server_text};
+ghost use Rattle.q3_report.specs.ServerLines.{serve_text, slot_text, illegible_text, gap_text, ignored_text, owed_text, entered_text, ran_text, server_text};
 ghost use Rattle.q3_window.specs.Report.{commands_text};
 
 use q3_clmsg::report::{cause_number, cause_word};
@@ -140,7 +140,7 @@ pub(crate) fn print_took<O: Sink>(
     heard: &Heard,
     out: &mut O,
 ) -> Result<(), Failed>
-    ensures adds { Adds (O.written out.old) (O.written out.new) (server_text took.now (run_of heard.now)) result }
+    ensures adds { Adds (O.written out.old) (O.written out.new) (server_text took.now heard.now) result }
     ensures cause { HasCause (O.faults out.old) (O.faults out.new) result }
 {
     match took {

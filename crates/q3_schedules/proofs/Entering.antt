@@ -57,7 +57,7 @@ use Rattle.q3_text.specs.declared.text.Command.{Command}
 use Rattle.q3_window.specs.Incoming.{gap_in}
 use Rattle.q3_window.specs.Outgoing.{with_texts}
 use Rattle.q3_window.specs.declared.outgoing.WindowFull.{WindowFull}
-use Rattle.q3_report.specs.ServerLines.{Run}
+use Rattle.q3_slot.specs.declared.taking.Heard.{Heard}
 use Rattle.q3_clstate.specs.State.{AppliedState}
 use Rattle.q3_client.specs.declared.client.ClientTook.{ClientTook}
 use Rattle.q3_report.specs.declared.answer.HandedIn.{HandedIn}
@@ -67,7 +67,7 @@ use Rattle.q3_report.specs.declared.answer.Front.TheVariants as fronts
 use Rattle.q3_report.specs.declared.answer.TakeRefused.{TakeRefused}
 use Rattle.q3_report.specs.Answers.{ByClient, ByServer, Given, Took, Untaken}
 use Rattle.q3_ends.specs.AtServer as at_server
-use Rattle.q3_ends.specs.AtServer.{ServerStep, in_range, ran_of, server_line}
+use Rattle.q3_ends.specs.AtServer.{ServerStep, in_range, server_line}
 use Rattle.q3_world.proofs.Ranged.{in_range_or}
 use Rattle.q3_ends.specs.AtClient.{moved, typed}
 use Rattle.q3_world.specs.declared.places.Place.{Place}
@@ -164,8 +164,8 @@ goes_playing slot message enters = with_moves message.moves refl
 
 -- a slot goes on so, and where its client enters the map the answer says that it ran
 record TakesSo (last c : ℕ) (taken : by_slot.SlotTaken) : Type 0 where
-  goes : Goes last taken.slot.last_run taken.entered taken.moves
-  ran : (time : ℕ) → taken.entered ≡ Some time → (n : ℕ) × (taken.answer ≡ took.Ran c n)
+  goes : Goes last taken.slot.last_run taken.heard.entered taken.heard.moves.items
+  ran : (time : ℕ) → taken.heard.entered ≡ Some time → (n : ℕ) × (taken.answer ≡ took.Ran c n)
 
 takes_nothing : (slot : SlotState) (c : ℕ) (answer : ServerTook) → TakesSo slot.last_run c (by_slot.answers slot answer)
 takes_nothing slot c answer = record { goes = goes_nothing slot.last_run; ran = λ time e. absurd (none_some time e) }
@@ -251,14 +251,14 @@ past_mapped old time change (Some slot) run stays is = past_same old time slot (
 
 -- and after what a slot takes
 past_takes : (old : List Move) (time c : ℕ) (slot : SlotState) (taken : by_slot.SlotTaken) (run : List Move) → TakesSo slot.last_run c taken → IsPast old time slot run
-    → IsPast old time taken.slot (run ++ taken.moves)
+    → IsPast old time taken.slot (run ++ taken.heard.moves.items)
 past_takes old time c slot taken run takes is =
     let kept = takes.goes.keeps time is.last in
     record {
       last = kept.last;
-      after = is.after ++ taken.moves;
-      is = ap (λ (moves : List Move). moves ++ taken.moves) is.is ∙ append_assoc old is.after taken.moves;
-      each = All-append (λ (one : Move). time < one.time) is.after taken.moves is.each kept.each;
+      after = is.after ++ taken.heard.moves.items;
+      is = ap (λ (moves : List Move). moves ++ taken.heard.moves.items) is.is ∙ append_assoc old is.after taken.heard.moves.items;
+      each = All-append (λ (one : Move). time < one.time) is.after taken.heard.moves.items is.each kept.each;
     }
 
 -- ---- where nothing is run
@@ -515,14 +515,14 @@ module _ (profile : Profile) (whole : Whole) (old : List Move) (time c : ℕ) (l
       → slot_at whole.ends.server tag.client ≡ found → At old time c (to_server profile whole datagram tag from found).whole
   comes_to_server datagram tag from sent way None at =
       let history = history_at whole.histories tag.client in
-      noted tag.client (with_run history (ran_of (unmoved whole.ends.server took.Stranger))) (append-nil history.run)
+      noted tag.client (with_run history (unmoved whole.ends.server took.Stranger).heard) (append-nil history.run)
   comes_to_server datagram tag from sent way (Some slot) at =
       let server = whole.ends.server in
       let history = history_at whole.histories tag.client in
       let taken = taken_by profile whole tag from slot in
       let takes = takes_tag profile whole tag from slot sent way at holds in
       both_changed (λ (s : Option SlotState) (h : History). Past old time s h.run) server.slots whole.histories c tag.client (Some taken.slot)
-      (with_run history (ran_of (taken_at server tag.client taken))) holds.facts.slots holds.facts.histories lt
+      (with_run history (taken_at server tag.client taken).heard) holds.facts.slots holds.facts.histories lt
       (λ was. past_takes old time tag.client slot taken history.run takes (subst (λ (s : Option SlotState). Past old time s history.run) at was)) is
 
   comes_to : (datagram : ℕ) (tag : Tag) → IsSent profile whole.histories tag → (direction : Direction) → tag.direction ≡ direction → At old time c (arrive profile whole datagram tag direction).whole
@@ -574,10 +574,10 @@ record EntersAt (whole : Whole) (c time : ℕ) (now : Whole) : Type 0 where
   past : At (history_at whole.histories c).run time c now
 
 abbrev EntersWith : Whole → ℕ → ℕ → ℕ → ℕ → Step → Type 0
-EntersWith whole number c n time next = (run : Run) → ServerTookSo next.answer number (took.Ran c n) run → run.entered ≡ Some time → EntersAt whole c time next.whole
+EntersWith whole number c n time next = (run : Heard) → ServerTookSo next.answer number (took.Ran c n) run → run.entered ≡ Some time → EntersAt whole c time next.whole
 
 -- two answers of a server that ran a message
-same_ran : (number c n : ℕ) (answer : ServerTook) (ran run : Run) → ServerTookSo (Took (fronts.Deliver number) (ByServer answer ran)) number (took.Ran c n) run → (answer ≡ took.Ran c n) × (ran ≡ run)
+same_ran : (number c n : ℕ) (answer : ServerTook) (ran run : Heard) → ServerTookSo (Took (fronts.Deliver number) (ByServer answer ran)) number (took.Ran c n) run → (answer ≡ took.Ran c n) × (ran ≡ run)
 same_ran number c n answer ran run e = (cc, cc)
 
 same_client : (answer : ServerTook) (c k n m : ℕ) → answer ≡ took.Ran k m → answer ≡ took.Ran c n → k ≡ c
@@ -592,22 +592,22 @@ stranger_not_ran c n e = absurd cc
 enters_to : (profile : Profile) (whole : Whole) (number c n time : ℕ) (tag : Tag) (from : Address) → Holds profile whole → IsSent profile whole.histories tag → tag.direction ≡ ToServer from
     → (found : Option SlotState) → slot_at whole.ends.server tag.client ≡ found → EntersWith whole number c n time (to_server profile whole number tag from found)
 enters_to profile whole number c n time tag from holds sent way None at run answered entered =
-    absurd (stranger_not_ran c n (same_ran number c n took.Stranger (ran_of (unmoved whole.ends.server took.Stranger)) run answered).0)
+    absurd (stranger_not_ran c n (same_ran number c n took.Stranger (unmoved whole.ends.server took.Stranger).heard run answered).0)
 enters_to profile whole number c n time tag from holds sent way (Some slot) at run answered entered =
     let server = whole.ends.server in
     let k = tag.client in
     let history = history_at whole.histories k in
     let taken = taken_by profile whole tag from slot in
-    let next = with_run history (ran_of (taken_at server k taken)) in
+    let next = with_run history (taken_at server k taken).heard in
     let takes = takes_tag profile whole tag from slot sent way at holds in
-    let same = same_ran number c n taken.answer (ran_of (taken_at server k taken)) run answered in
-    let enters : taken.entered ≡ Some time = ap (λ (r : Run). r.entered) same.1 ∙ entered in
+    let same = same_ran number c n taken.answer (taken_at server k taken).heard run answered in
+    let enters : taken.heard.entered ≡ Some time = ap (λ (r : Heard). r.entered) same.1 ∙ entered in
     let ran = takes.ran time enters in
     let above = takes.goes.above time enters in
     let after = takes.goes.enters time enters in
     let keeps = (has_slot profile whole k slot sent.client at holds).1.keeps.of_slot in
     let last = keeps.last in
-    let past : IsPast history.run time taken.slot next.run = record { last = after.last; after = taken.moves; is = refl; each = after.each } in
+    let past : IsPast history.run time taken.slot next.run = record { last = after.last; after = taken.heard.moves.items; is = refl; each = after.each } in
     subst (λ (j : ℕ). EntersAt whole j time (to_server profile whole number tag from (Some slot)).whole) (same_client taken.answer c k n ran.0 ran.1 same.0)
     (record {
       before = All-weaker (λ (one : Move). one.time ≤ last_time 0 history.run) (λ (one : Move). one.time < time) (λ one most. omega (arith, most, last, above)) history.run
@@ -616,11 +616,11 @@ enters_to profile whole number c n time tag from holds sent way (Some slot) at r
           (subst (λ (h : History). Past history.run time (Some taken.slot) h.run) (sym (set_there whole.histories k no_history next holds.facts.histories sent.client)) past);
     })
 
-not_by_client : (number : ℕ) (c : ℕ) (client : ClientTook) (state : AppliedState) (commands : List Command) (ended : Bool) (answer : ServerTook) (run : Run)
+not_by_client : (number : ℕ) (c : ℕ) (client : ClientTook) (state : AppliedState) (commands : List Command) (ended : Bool) (answer : ServerTook) (run : Heard)
     → ServerTookSo (Took (fronts.Deliver number) (ByClient c client state commands ended)) number answer run → ⊥
 not_by_client number c client state commands ended answer run e = absurd cc
 
-not_untaken : {cause : TakeRefused} (number : ℕ) (answer : ServerTook) (run : Run) → ServerTookSo (Untaken (fronts.Deliver number) cause) number answer run → ⊥
+not_untaken : {cause : TakeRefused} (number : ℕ) (answer : ServerTook) (run : Heard) → ServerTookSo (Untaken (fronts.Deliver number) cause) number answer run → ⊥
 not_untaken {cause} number answer run e = absurd cc
 
 enters_client : (profile : Profile) (whole : Whole) (number c n time : ℕ) (tag : Tag) (found : Option Place) → EntersWith whole number c n time (to_client profile whole number tag found)

@@ -42,7 +42,7 @@ use Rattle.q3_built.specs.Built.{Built, number_of, IsSnapshot, IsNear, IsBuilt, 
 use Rattle.q3_slot.specs.Slot.{SlotState}
 use Rattle.q3_server.specs.Server.{places, slot_at}
 use Rattle.q3_client.specs.Client.{ClientState, Taken, Reception, receive_message, take_answer, take_gathered}
-use Rattle.q3_report.specs.ServerLines.{Run}
+use Rattle.q3_slot.specs.declared.taking.Heard.{Heard}
 use Rattle.q3_world.specs.declared.places.Place.{Place}
 use Rattle.q3_world.specs.Ends.{Ends, client_at, client_of, client_step_of, line_of, newest, place_at, with_client}
 use Rattle.q3_world.specs.Kept.{SentBytes, Kept, KeptStep, kept_step}
@@ -369,7 +369,7 @@ same_delivered : (number c c' : ℕ) (took took' : ClientTook) (state state' : A
     → Took (fronts.Deliver number) (ByClient c took state commands ended) ≡ Took (fronts.Deliver number) (ByClient c' took' state' commands' ended') → (c ≡ c') × (took ≡ took')
 same_delivered number c c' took took' state state' commands commands' ended ended' e = (cc, cc)
 
-not_by_server : (number : ℕ) (took : ServerTook) (ran : Run) (c : ℕ) (took' : ClientTook) (commands : List Command)
+not_by_server : (number : ℕ) (took : ServerTook) (ran : Heard) (c : ℕ) (took' : ClientTook) (commands : List Command)
     → ClientTookSo (Took (fronts.Deliver number) (ByServer took ran)) number c took' commands → ⊥
 not_by_server number took ran c took' commands so = let e = so.2 in absurd cc
 

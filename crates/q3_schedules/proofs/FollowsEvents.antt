@@ -37,7 +37,7 @@ use Rattle.q3_report.specs.declared.answer.HandedIn.TheVariants as answers
 use Rattle.q3_report.specs.declared.answer.BaselineRefused.TheVariants as unset
 use Rattle.q3_report.specs.Answers.{Given}
 use Rattle.q3_ends.specs.AtServer as at_server
-use Rattle.q3_ends.specs.AtServer.{ran_of, server_line}
+use Rattle.q3_ends.specs.AtServer.{server_line}
 use Rattle.q3_ends.specs.AtClient.{moved, typed}
 use Rattle.q3_ends.specs.Recording.{asking, note_taken}
 use Rattle.q3_world.specs.declared.places.Place.{Place}
@@ -217,12 +217,12 @@ module _ (profile : Profile) (whole : Whole) (old : History) (c : ℕ) (lt : c <
 
   comes_to_server : (datagram : ℕ) (tag : Tag) (from : Address) (found : Option SlotState) → At old c (to_server profile whole datagram tag from found).whole
   comes_to_server datagram tag from None = history_changed (λ (h : History). Of old whole.ends.server.map (place_at whole.ends c) h) whole.histories c tag.client
-      (with_run (history_at whole.histories tag.client) (ran_of (unmoved whole.ends.server Stranger))) holds.facts.histories lt (λ was. was) is
+      (with_run (history_at whole.histories tag.client) (unmoved whole.ends.server Stranger).heard) holds.facts.histories lt (λ was. was) is
   comes_to_server datagram tag from (Some slot) =
       let taken = by_slot.take_gathered whole.ends.server.map (record slot { address = from }) tag.client
       (tagged slot.gathering tag.number (said_bytes profile (said_under whole.histories tag)) tag.index) (λ n. Ok (by_slot.came_as whole.ends.server.map (said_under whole.histories tag).message)) in
       history_changed (λ (h : History). Of old whole.ends.server.map (place_at whole.ends c) h) whole.histories c tag.client
-      (with_run (history_at whole.histories tag.client) (ran_of (taken_at whole.ends.server tag.client taken))) holds.facts.histories lt (λ was. was) is
+      (with_run (history_at whole.histories tag.client) (taken_at whole.ends.server tag.client taken).heard) holds.facts.histories lt (λ was. was) is
 
   comes_to : FlowLaws → TaggedDoes → (datagram : ℕ) (tag : Tag) → IsSent profile whole.histories tag → (direction : Direction) → tag.direction ≡ direction
       → At old c (arrive profile whole datagram tag direction).whole

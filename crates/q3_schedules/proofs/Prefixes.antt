@@ -10,6 +10,7 @@ use Rattle.q3_text.specs.Commands.{numbered}
 use Rattle.q3_chan.specs.declared.gatherer.Gathered.{Gathered}
 use Rattle.q3_chan.specs.Tags.{tagged}
 use Rattle.q3_built.specs.Built.{built_bytes, plain_bytes}
+use Rattle.q3_slot.specs.declared.taking.Heard.{Heard}
 use Rattle.q3_slot.specs.Slot.{SlotState}
 use Rattle.q3_slot.specs.Taking as by_slot
 use Rattle.q3_server.specs.Taking as hears
@@ -19,8 +20,7 @@ use Rattle.q3_client.specs.Sending.{said_bytes}
 use Rattle.q3_entity_ring.specs.Snapshot.{Snapshot}
 use Rattle.q3_world.specs.declared.made.Direction.{Direction}
 use Rattle.q3_world.specs.declared.made.Direction.TheVariants.{ToClient, ToServer}
-use Rattle.q3_report.specs.Answers.{ran_in}
-use Rattle.q3_ends.specs.AtServer.{ran_of}
+use Rattle.q3_report.specs.Answers.{heard_in}
 use Rattle.q3_world.specs.declared.places.Place.{Place}
 use Rattle.q3_world.specs.Ends.{Ends}
 use Rattle.q3_world.specs.Kept.{KeptStep, kept_step}
@@ -99,7 +99,7 @@ client_goes_on profile whole tag slot place cited is had =
 -- and at the server
 slot_goes_on : (profile : Profile) (whole : Whole) (tag : Tag) (from : Address) (slot : SlotState) (place : Place) → Cited profile → IsOf profile whole tag from
     → Has profile whole tag.client slot place
-    → GoOn (length (history_at whole.histories tag.client).server_executed) (slot_takes profile whole tag from slot).commands
+    → GoOn (length (history_at whole.histories tag.client).server_executed) (slot_takes profile whole tag from slot).heard.commands
 slot_goes_on profile whole tag from slot place cited is had =
     let c = tag.client in
     let map = whole.ends.server.map in
@@ -110,13 +110,13 @@ slot_goes_on profile whole tag from slot place cited is had =
     let does = cited.below.does slot.gathering tag.number (said_bytes profile said) tag.index in
     let now = record slot { address = from; gathering = took.gathering } in
     elim does.either [
-      | inl waits ↦ subst (GoOn count) (sym (quiet_slot map now c took.answer (λ n. Ok (came_as map message)) waits.quiet).commands) (none_go_on count)
+      | inl waits ↦ subst (GoOn count) (sym (ap (λ (h : Heard). h.commands) (quiet_slot map now c took.answer (λ n. Ok (came_as map message)) waits.quiet).heard)) (none_go_on count)
       | inr came ↦
           let heard = said_hears profile whole tag from slot place cited is had came.newer in
           let doing = slot_does map now c tag.number (length (said_bytes profile said)) message took.answer came.answer heard.gap in
           elim (cases_Bool (is_other map message.id)) [
-            | inl other ↦ subst (GoOn count) (sym (ap (λ (t : by_slot.SlotTaken). t.commands) (doing.of_other other))) (none_go_on count)
-            | inr same ↦ subst (GoOn count) (sym (ap (λ (t : by_slot.SlotTaken). t.commands) (doing.of_map same))) heard.numbers
+            | inl other ↦ subst (GoOn count) (sym (ap (λ (t : by_slot.SlotTaken). t.heard.commands) (doing.of_other other))) (none_go_on count)
+            | inr same ↦ subst (GoOn count) (sym (ap (λ (t : by_slot.SlotTaken). t.heard.commands) (doing.of_map same))) heard.numbers
           ]
     ]
 
@@ -135,7 +135,7 @@ game_noted before noted commands number time (Some game) goes = goes
 
 -- by its tag
 arrived_goes_on : (profile : Profile) (whole : Whole) (number : ℕ) (tag : Tag) (direction : Direction) → Cited profile → tag.direction ≡ direction → IsSent profile whole.histories tag → Holds profile whole
-    → GoesOn (ran_in (arrive profile whole number tag direction).answer).commands (history_at whole.histories tag.client)
+    → GoesOn (heard_in (arrive profile whole number tag direction).answer).commands (history_at whole.histories tag.client)
     (history_at (arrive profile whole number tag direction).whole.histories tag.client) direction
 arrived_goes_on profile whole number tag ToClient cited way is holds =
     let c = tag.client in
@@ -160,13 +160,13 @@ arrived_goes_on profile whole number tag (ToServer from) cited way is holds =
     let slot = found.0 in
     let had = has_slot profile whole c slot sent.0 found.1 holds in
     let taken = slot_takes profile whole tag from slot in
-    let noted = with_run history (ran_of (hears.taken_at whole.ends.server c taken)) in
+    let noted = with_run history (hears.taken_at whole.ends.server c taken).heard in
     let there = set_there whole.histories c no_history noted holds.facts.histories sent.0 in
-    rw found.1 (subst (λ (h : History). GoesOn taken.commands history h (ToServer from)) (sym there)
+    rw found.1 (subst (λ (h : History). GoesOn taken.heard.commands history h (ToServer from)) (sym there)
     (slot_goes_on profile whole tag from slot had.0 cited sent had.1, refl, refl))
 
 abbrev StepGoesOn : Whole → Tag → Step → Type 0
-StepGoesOn whole tag next = GoesOn (ran_in next.answer).commands (history_at whole.histories tag.client) (history_at next.whole.histories tag.client) tag.direction
+StepGoesOn whole tag next = GoesOn (heard_in next.answer).commands (history_at whole.histories tag.client) (history_at next.whole.histories tag.client) tag.direction
 
 delivered_goes_on : (profile : Profile) (whole : Whole) (number : ℕ) (tag : Tag) → Cited profile → slice_get whole.sent (number - 1) ≡ Some tag → Holds profile whole
     → StepGoesOn whole tag (step profile whole (events.Deliver number))
@@ -185,9 +185,9 @@ executed_goes_on law below profile all number tag is are is_event at =
     let holds = holds_of profile kept whole stands in
     let history = history_at whole.histories tag.client in
     let by_tag = delivered_goes_on profile whole number tag cited at holds in
-    let answers : (ran_in (kept_step kept event).answer).commands ≡ (ran_in (step profile whole event).answer).commands =
-    ap (λ (s : KeptStep). (ran_in s.answer).commands) (delivers_same profile kept whole number cited stands) in
+    let answers : (heard_in (kept_step kept event).answer).commands ≡ (heard_in (step profile whole event).answer).commands =
+    ap (λ (s : KeptStep). (heard_in s.answer).commands) (delivers_same profile kept whole number cited stands) in
     let then_is : whole_then profile (all ++ event ∷ []) ≡ (step profile whole event).whole =
     after_both profile (opening profile) all (event ∷ []) ∙ after_one profile whole event in
     subst (λ (commands : List Command). GoesOn commands history (history_at (whole_then profile (all ++ event ∷ [])).histories tag.client) tag.direction) (sym answers)
-    (subst (λ (w : Whole). GoesOn (ran_in (step profile whole event).answer).commands history (history_at w.histories tag.client) tag.direction) (sym then_is) by_tag)
+    (subst (λ (w : Whole). GoesOn (heard_in (step profile whole event).answer).commands history (history_at w.histories tag.client) tag.direction) (sym then_is) by_tag)

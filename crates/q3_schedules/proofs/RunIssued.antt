@@ -36,7 +36,7 @@ use Rattle.q3_world.proofs.ByTags.{cited_of}
 use Rattle.q3_map.specs.Map.{MapState, is_other}
 use Rattle.q3_clmsg.specs.Values.{Message}
 use Rattle.q3_slot.specs.Taking.{OfMap, OfOther, asks_game, came_as, goes_on, heads_of}
-use Rattle.q3_report.specs.ServerLines.{Run, ran_nothing}
+use Rattle.q3_slot.specs.declared.taking.Heard.{Heard}
 use Rattle.q3_schedules.proofs.Stood.{Stood, delivers_same, holds_of, of_each, stood}
 
 -- ---- moves
@@ -75,13 +75,10 @@ slot_does map slot c n count message answer came gap =
     }
 
 -- what is run, and answered
-abbrev ran_of_slot : by_slot.SlotTaken → Run
-ran_of_slot taken = record { commands = taken.commands; entered = taken.entered; moves = taken.moves; owed = taken.owed }
-
 abbrev ran_so : ℕ → by_slot.SlotTaken → Answered
-ran_so number taken = Took (fronts.Deliver number) (ByServer taken.answer (ran_of_slot taken))
+ran_so number taken = Took (fronts.Deliver number) (ByServer taken.answer taken.heard)
 
-abbrev ran_message : ℕ → ℕ → ℕ → Run → Answered
+abbrev ran_message : ℕ → ℕ → ℕ → Heard → Answered
 ran_message number c n run = Took (fronts.Deliver number) (ByServer (answer.Ran c n) run)
 
 -- what a delivery to the server answers, by its tag
@@ -105,14 +102,14 @@ RunsSo map given after number c n slot history =
     → ServerTookSo given number (answer.Ran c n)
     (record {
       commands = run_of history n;
+      moves = record { items = (playing_of slot history n).moves };
       entered = (playing_of slot history n).entered;
-      moves = (playing_of slot history n).moves;
       owed = slot.owed;
     })
     × GoesOnPlaying after (playing_of slot history n))
     × (is_other map (said_at history.said n).message.id ≡ true
     → ServerTookSo given number (answer.Ignored c (said_at history.said n).message.id)
-    (record ran_nothing { owed = slot.owed || asks_game map slot (heads_of (said_at history.said n).message) }))
+    (by_slot.nothing_heard (slot.owed || asks_game map slot (heads_of (said_at history.said n).message))))
 
 -- by its tag
 runs_by_tag : (profile : Profile) (whole : Whole) (number : ℕ) (tag : Tag) (from : Address) (slot : SlotState) (place : Place) (count : ℕ) → Cited profile

@@ -14,7 +14,8 @@ use Rattle.q3_slot.specs.declared.taking.ServerTook.{ServerTook}
 use Rattle.q3_slot.specs.declared.taking.ServerTook.TheVariants as took
 use Rattle.q3_client.specs.declared.client.ClientTook.{ClientTook}
 use Rattle.q3_client.specs.declared.client.ClientTook.TheVariants.{Dropped, Runt, Connectionless, Old, OutOfOrder, BadCheck, BadFragment, Partial, Illegible, Applied as ClientApplied}
-use Rattle.q3_report.specs.ServerLines.{Run, server_text, run_text, entered_text, owed_text}
+use Rattle.q3_report.specs.ServerLines.{heard_text, server_text, entered_text, owed_text}
+use Rattle.q3_slot.specs.declared.taking.Heard.{Heard}
 use Rattle.q3_report.specs.ServerLines as server_lines
 use Rattle.q3_report.specs.ClientLines as client_lines
 use Rattle.q3_report.specs.ClientLines.{took_text, client_text}
@@ -125,7 +126,7 @@ client_lines_are c (Illegible cause) state commands ended =
     client_alone c (Illegible cause) state commands ended (client_illegible (server_words.cause_word cause) (server_cause cause) (server_words.cause_number cause)) refl
 client_lines_are c (ClientApplied applied) state commands ended = client_applied c applied state commands ended
 
-server_alone : (server : ServerTook) (run : Run) (rest : List ℕ) → Spelled (server_text server run) ((32 ∷ rest) ∷ []) → lines_of_server server run ≡ one_event
+server_alone : (server : ServerTook) (run : Heard) (rest : List ℕ) → Spelled (server_text server run) ((32 ∷ rest) ∷ []) → lines_of_server server run ≡ one_event
     → TakingLines (ByServer server run)
 server_alone server run rest spelled same = taking_alone (ByServer server run) rest spelled same
 
@@ -150,17 +151,17 @@ server_illegible slot word plain (Some n) =
     (after_part word (codes " " ++ (decimal n ++ codes "\n")) plain (slot_word (decimal n) (number n)))) in
     (codes "server " ++ (decimal slot ++ (codes " illegible " ++ (word ++ (codes " " ++ (decimal n ++ []))))), is.spelled)
 
-run_beneath : (run : Run) → Beneath false true (run_text run) (plus (counts_each false true false false true false (length run.commands)) (plus no_counts (plus (counts_each false true false false false true (length run.moves)) no_counts)))
+run_beneath : (run : Heard) → Beneath false true (heard_text run) (plus (counts_each false true false false true false (length run.commands)) (plus no_counts (plus (counts_each false true false false false true (length run.moves.items)) no_counts)))
 run_beneath run =
-    both_beneath false true (commands_text run.commands) (entered_text run.entered ++ (flat_map move_text run.moves ++ []))
-    (counts_each false true false false true false (length run.commands)) (plus no_counts (plus (counts_each false true false false false true (length run.moves)) no_counts))
+    both_beneath false true (commands_text run.commands) (entered_text run.entered ++ (flat_map move_text run.moves.items ++ []))
+    (counts_each false true false false true false (length run.commands)) (plus no_counts (plus (counts_each false true false false false true (length run.moves.items)) no_counts))
     (commands_beneath false true run.commands)
-    (both_beneath false true (entered_text run.entered) (flat_map move_text run.moves ++ []) no_counts (plus (counts_each false true false false false true (length run.moves)) no_counts)
+    (both_beneath false true (entered_text run.entered) (flat_map move_text run.moves.items ++ []) no_counts (plus (counts_each false true false false false true (length run.moves.items)) no_counts)
     (entered_beneath false true run.entered)
-    (both_beneath false true (flat_map move_text run.moves) [] (counts_each false true false false false true (length run.moves)) no_counts
-    (moves_beneath false true run.moves) (none_beneath false true)))
+    (both_beneath false true (flat_map move_text run.moves.items) [] (counts_each false true false false false true (length run.moves.items)) no_counts
+    (moves_beneath false true run.moves.items) (none_beneath false true)))
 
-server_lines_are : (server : ServerTook) (run : Run) → TakingLines (ByServer server run)
+server_lines_are : (server : ServerTook) (run : Heard) → TakingLines (ByServer server run)
 server_lines_are took.Runt run = server_alone took.Runt run (codes "server runt") (whole (codes " server runt") refl).spelled refl
 server_lines_are took.Connectionless run = server_alone took.Connectionless run (codes "server connectionless") (whole (codes " server connectionless") refl).spelled refl
 server_lines_are took.Stranger run = server_alone took.Stranger run (codes "server stranger") (whole (codes " server stranger") refl).spelled refl
@@ -187,10 +188,10 @@ server_lines_are (took.Gap slot n) run =
 server_lines_are (took.Ran slot n) run =
     let is = slot_line slot (codes " ran " ++ (decimal n ++ codes "\n")) (slot_number (codes " ran ") n refl) in
     let run_is = run_beneath run in
-    taking_beneath (ByServer (took.Ran slot n) run) (codes "server " ++ (decimal slot ++ (codes " ran " ++ (decimal n ++ [])))) false true (run_text run)
-    (plus (counts_each false true false false true false (length run.commands)) (plus no_counts (plus (counts_each false true false false false true (length run.moves)) no_counts)))
-    refl refl run_is (join (server_lines.ran_text slot n) (run_text run) (is.line ∷ []) run_is.lines is.spelled run_is.spelled)
-    (ran_counts (length run.commands) (length run.moves))
+    taking_beneath (ByServer (took.Ran slot n) run) (codes "server " ++ (decimal slot ++ (codes " ran " ++ (decimal n ++ [])))) false true (heard_text run)
+    (plus (counts_each false true false false true false (length run.commands)) (plus no_counts (plus (counts_each false true false false false true (length run.moves.items)) no_counts)))
+    refl refl run_is (join (server_lines.ran_text slot n) (heard_text run) (is.line ∷ []) run_is.lines is.spelled run_is.spelled)
+    (ran_counts (length run.commands) (length run.moves.items))
 
 pub taking_lines : (taking : Taking) → TakingLines taking
 taking_lines (ByClient c took state commands ended) = client_lines_are c took state commands ended

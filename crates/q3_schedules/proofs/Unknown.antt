@@ -24,14 +24,14 @@ use Rattle.q3_world.proofs.Holding.{Holds}
 use Rattle.q3_world.proofs.Arriving.{is_sent, is_for, is_of_client, client_of_tag, slot_of_tag}
 use Rattle.q3_world.proofs.ByTags.{cited_of}
 use Rattle.q3_clstate.specs.State.{AppliedState}
-use Rattle.q3_report.specs.ServerLines.{Run}
+use Rattle.q3_slot.specs.declared.taking.Heard.{Heard}
 use Rattle.q3_schedules.proofs.Stood.{Stood, delivers_same, holds_of, step_own, stood}
 
 not_delivered : (number c : ℕ) (state : AppliedState) (took : ClientTook) (commands : List Command) (ended : Bool) (cause : TakeRefused)
     → Took (fronts.Deliver number) (ByClient c took state commands ended) ≡ Untaken (fronts.Deliver number) cause → ⊥
 not_delivered number c state took commands ended cause e = absurd cc
 
-not_ran : (number : ℕ) (took : ServerTook) (ran : Run) (cause : TakeRefused) → Took (fronts.Deliver number) (ByServer took ran) ≡ Untaken (fronts.Deliver number) cause → ⊥
+not_ran : (number : ℕ) (took : ServerTook) (ran : Heard) (cause : TakeRefused) → Took (fronts.Deliver number) (ByServer took ran) ≡ Untaken (fronts.Deliver number) cause → ⊥
 not_ran number took ran cause e = absurd cc
 
 -- a datagram that was made is known

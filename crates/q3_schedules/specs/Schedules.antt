@@ -27,7 +27,7 @@ use Rattle.q3_chan.specs.Gathering.{gathered}
 use Rattle.q3_report.specs.declared.answer.Front.TheVariants as fronts
 use Rattle.q3_report.specs.declared.answer.TakeRefused.{TakeRefused}
 use Rattle.q3_report.specs.declared.answer.TakeRefused.TheVariants as refused
-use Rattle.q3_report.specs.Answers.{Answered, ByClient, ByServer, SentOut, Took, Untaken, ran_in, snapshot_in}
+use Rattle.q3_report.specs.Answers.{Answered, ByClient, ByServer, SentOut, Took, Untaken, heard_in, snapshot_in}
 use Rattle.q3_world.specs.declared.made.Direction.TheVariants as direction
 use Rattle.q3_built.specs.Built.{Built, number_of, IsNear, is_unclear, built_bytes}
 use Rattle.q3_slot.specs.Slot.{SlotState}
@@ -35,7 +35,7 @@ use Rattle.q3_slot.specs.Emitting.{next_snapshot, begun_next, most_placed}
 use Rattle.q3_map.specs.Map.{MapState, is_other}
 use Rattle.q3_client.specs.Sending.{Said, wants_delta}
 use Rattle.q3_slot.specs.declared.stage.ClientStage.TheVariants.{Active}
-use Rattle.q3_slot.specs.Taking.{Playing, asks_game, goes_on, heads_of}
+use Rattle.q3_slot.specs.Taking.{Playing, asks_game, goes_on, heads_of, nothing_heard}
 use Rattle.q3_server.specs.Server.{ServerState, places, slot_at}
 use Rattle.q3_client.specs.Client.{ClientState}
 use Rattle.q3_world.specs.Moves.{TimesRise, StandAmong}
@@ -50,7 +50,7 @@ use Rattle.q3_window.specs.Incoming.{fresh_of}
 use Rattle.q3_window.specs.Outgoing.{text_at}
 use Rattle.q3_config.specs.Commands.{change_in}
 use Rattle.q3_config.specs.Strings.{server_id}
-use Rattle.q3_report.specs.ServerLines.{Run, ran_nothing}
+use Rattle.q3_slot.specs.declared.taking.Heard.{Heard}
 use Rattle.q3_world.specs.ByTags.{kept_then, whole_then, IsOwn}
 use Rattle.q3_world.specs.Answering.{outcome_of, applied_of}
 use Rattle.q3_world.specs.World.{Tag, Played, History, history_at, built_at, said_at, texts_of, after}
@@ -70,7 +70,7 @@ abbrev pub ClientTookSo : Answered → ℕ → ℕ → ClientTook → List Comma
 ClientTookSo answer number c made commands = (state : AppliedState) × (ended : Bool) × (answer ≡ Took (fronts.Deliver number) (ByClient c made state commands ended))
 
 -- the server made this of it, and ran this
-abbrev pub ServerTookSo : Answered → ℕ → ServerTook → Run → Type 0
+abbrev pub ServerTookSo : Answered → ℕ → ServerTook → Heard → Type 0
 ServerTookSo answer number made run = answer ≡ Took (fronts.Deliver number) (ByServer made run)
 
 -- an event of a schedule in which each end gets only what the other made; the laws below are said of such schedules
@@ -162,7 +162,7 @@ KeysAgree = (profile : Profile) (all : List Event) (c : ℕ) (slot : SlotState) 
 abbrev pub ExecutedGoesOn : Type 0
 ExecutedGoesOn = (profile : Profile) (all : List Event) (number : ℕ) (tag : Tag) → IsChecked profile → AllByRecursion IsScheduled all
     → IsScheduled (events.Deliver number) → slice_get (whole_then profile all).sent (number - 1) ≡ Some tag
-    → GoesOn (ran_in (kept_step (kept_then profile all) (events.Deliver number)).answer).commands
+    → GoesOn (heard_in (kept_step (kept_then profile all) (events.Deliver number)).answer).commands
     (history_then profile all tag.client) (history_then profile (all ++ events.Deliver number ∷ []) tag.client) tag.direction
 
 -- each snapshot that a client accepted is the one that the server built for it under that number, and the numbers rise
@@ -313,8 +313,8 @@ NewerIsRun = (profile : Profile) (all : List Event) (number n count : ℕ) (sent
     → ServerTookSo (kept_step (kept_then profile all) (events.Deliver number)).answer number (took.Ran sent.client n)
     (record {
       commands = run_of (history_then profile all sent.client) n;
+      moves = record { items = (playing_of slot (history_then profile all sent.client) n).moves };
       entered = (playing_of slot (history_then profile all sent.client) n).entered;
-      moves = (playing_of slot (history_then profile all sent.client) n).moves;
       owed = slot.owed;
     })
     × GoesOnPlaying (slot_at (kept_step (kept_then profile all) (events.Deliver number)).kept.ends.server sent.client)
@@ -322,9 +322,7 @@ NewerIsRun = (profile : Profile) (all : List Event) (number n count : ℕ) (sent
     × (is_other (kept_then profile all).ends.server.map (said_at (history_then profile all sent.client).said n).message.id ≡ true
     → ServerTookSo (kept_step (kept_then profile all) (events.Deliver number)).answer number
     (took.Ignored sent.client (said_at (history_then profile all sent.client).said n).message.id)
-    (record ran_nothing {
-      owed = slot.owed || asks_game (kept_then profile all).ends.server.map slot (heads_of (said_at (history_then profile all sent.client).said n).message);
-    }))
+    (nothing_heard (slot.owed || asks_game (kept_then profile all).ends.server.map slot (heads_of (said_at (history_then profile all sent.client).said n).message))))
 
 -- the moves of a client that the server ran stand among those that the client issued, each once and in their order, and their
 -- times rise
@@ -335,7 +333,7 @@ MovesWereIssued = (profile : Profile) (all : List Event) (c : ℕ) → IsChecked
 -- a move with which a client enters a map isn't among those that are run: all that were run before it are earlier, and all that
 -- are run later are later
 abbrev pub EnteringIsNotRun : Type 0
-EnteringIsNotRun = (profile : Profile) (before rest : List Event) (c number n time : ℕ) (run : Run) → IsChecked profile
+EnteringIsNotRun = (profile : Profile) (before rest : List Event) (c number n time : ℕ) (run : Heard) → IsChecked profile
     → AllByRecursion IsScheduled (before ++ events.Deliver number ∷ rest) → c < places
     → ServerTookSo (kept_step (kept_then profile before) (events.Deliver number)).answer number (took.Ran c n) run → run.entered ≡ Some time
     → All (λ (one : Move). one.time < time) (history_then profile before c).run

@@ -66,10 +66,7 @@ taken_alike : (one other : ServerState) (d : ℕ) (taken : SlotTaken) → one.ma
     → TakeAlike d (hears.taken_at one d taken) (hears.taken_at other d taken)
 taken_alike one other d taken maps within within' = record {
   answer = refl;
-  commands = refl;
-  moves = refl;
-  entered = refl;
-  owed = refl;
+  heard = refl;
   maps = maps;
   slot = get_or-set_same one.slots d (Some taken.slot) None within ∙ sym (get_or-set_same other.slots d (Some taken.slot) None within');
 }
@@ -78,10 +75,7 @@ by_alike : (one other : ServerState) (d : ℕ) (from : Address) (bytes : List �
     → TakeAlike d (hears.take_by one d from bytes slot) (hears.take_by other d from bytes slot)
 by_alike one other d from bytes None agree is within within' = record {
   answer = refl;
-  commands = refl;
-  moves = refl;
-  entered = refl;
-  owed = refl;
+  heard = refl;
   maps = agree.maps;
   slot = agree.slot;
 }

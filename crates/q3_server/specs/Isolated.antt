@@ -20,10 +20,7 @@ pub record Agree (d : ℕ) (one other : ServerState) : Type 0 where
 -- two takes answer alike, run the same, and leave the same in the map and in a slot
 pub record TakeAlike (d : ℕ) (one other : Taken) : Type 0 where
   pub answer : one.answer ≡ other.answer
-  pub commands : one.commands ≡ other.commands
-  pub moves : one.moves ≡ other.moves
-  pub entered : one.entered ≡ other.entered
-  pub owed : one.owed ≡ other.owed
+  pub heard : one.heard ≡ other.heard
   pub maps : one.server.map ≡ other.server.map
   pub slot : slot_at one.server d ≡ slot_at other.server d
 

@@ -1,46 +1,34 @@
 -- What the server does with a datagram: the slot of its client takes it.
-use Rattle.std.specs.Prelude.{ℕ, Bool, false, List, [], position, Option, Some, None, Result, Ok, Err}
+use Rattle.std.specs.Prelude.{ℕ, false, List, position, Option, Some, None, Result, Ok, Err}
 use Rattle.q3_io.specs.declared.address.Address.{Address}
 use Rattle.q3_chan.specs.declared.qport.NoQport.{NoQport}
 use Rattle.q3_chan.specs.declared.qport.NoQport.TheVariants as no
 use Rattle.q3_chan.specs.Checks.{is_checked}
 use Rattle.q3_chan.specs.Senders.{qport_of}
-use Rattle.q3_text.specs.declared.text.Command.{Command}
-use Rattle.q3_clmsg.specs.declared.moves.Move.{Move}
+use Rattle.q3_slot.specs.declared.taking.Heard.{Heard}
 use Rattle.q3_slot.specs.declared.taking.ServerTook.{ServerTook}
 use Rattle.q3_slot.specs.declared.taking.ServerTook.TheVariants.{Runt, Connectionless, Stranger}
 use Rattle.q3_slot.specs.Slot.{SlotState, is_of}
-use Rattle.q3_slot.specs.Taking.{SlotTaken, take_slot}
+use Rattle.q3_slot.specs.Taking.{SlotTaken, nothing_heard, take_slot}
 use Rattle.q3_server.specs.Server.{ServerState, slot_at, with_slot}
 
 -- the slot of the client at a host by its qport; the port doesn't count
 abbrev pub sender_of : ServerState → ℕ → ℕ → Option ℕ
 sender_of server host qport = position (is_of host qport) server.slots
 
--- what a take gives: the server after it, its answer, the commands and the moves that were run, the time of the move with which the
--- client entered the map, if it did, and whether a gamestate is owed
+-- what a take gives: the server after it, its answer, and what was run
 pub record Taken : Type 0 where
   pub server : ServerState
   pub answer : ServerTook
-  pub commands : List Command
-  pub moves : List Move
-  pub entered : Option ℕ
-  pub owed : Bool
+  pub heard : Heard
 
 -- a server that runs nothing
 abbrev pub unmoved : ServerState → ServerTook → Taken
-unmoved server answer = record { server = server; answer = answer; commands = []; moves = []; entered = None; owed = false }
+unmoved server answer = record { server = server; answer = answer; heard = nothing_heard false }
 
 -- what a slot took, at its place
 abbrev pub taken_at : ServerState → ℕ → SlotTaken → Taken
-taken_at server c taken = record {
-  server = with_slot server c taken.slot;
-  answer = taken.answer;
-  commands = taken.commands;
-  moves = taken.moves;
-  entered = taken.entered;
-  owed = taken.owed;
-}
+taken_at server c taken = record { server = with_slot server c taken.slot; answer = taken.answer; heard = taken.heard }
 
 -- a datagram for the client in a slot
 abbrev pub take_by : ServerState → ℕ → Address → List ℕ → Option SlotState → Taken

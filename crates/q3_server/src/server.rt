@@ -359,10 +359,7 @@ impl Server {
     pub fn take(&mut self, from: Address, datagram: &[u8], heard: &mut Heard) -> ServerTook
         ensures server { self.new ≡ (take_at self.old from datagram.now).server }
         ensures answer { result ≡ (take_at self.old from datagram.now).answer }
-        ensures commands { heard.new.commands ≡ (take_at self.old from datagram.now).commands }
-        ensures moves { heard.new.moves.items ≡ (take_at self.old from datagram.now).moves }
-        ensures entered { heard.new.entered ≡ (take_at self.old from datagram.now).entered }
-        ensures owed { heard.new.owed ≡ (take_at self.old from datagram.now).owed }
+        ensures heard { heard.new ≡ (take_at self.old from datagram.now).heard }
     {
         laws::below();
         heard.clear();

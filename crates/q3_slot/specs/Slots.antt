@@ -4,13 +4,11 @@ use Rattle.q3_io.specs.declared.address.Address.{Address}
 use Rattle.q3_chan.specs.Datagrams.{server_form, client_form}
 use Rattle.q3_chan.specs.Sending.{Sending, Piece, new_sending}
 use Rattle.q3_chan.specs.Gathering.{Gathering, new_gathering}
-use Rattle.q3_text.specs.declared.text.Command.{Command}
 use Rattle.q3_window.specs.declared.outgoing.WindowFull.{WindowFull}
 use Rattle.q3_window.specs.Outgoing.{OutgoingState, fits, issue_at, total_of, with_texts}
 use Rattle.q3_config.specs.Commands.{Change, change_in}
 use Rattle.q3_fields.specs.Kinds.{Layout}
 use Rattle.q3_entity.specs.Entities.{IsList}
-use Rattle.q3_clmsg.specs.declared.moves.Move.{Move}
 use Rattle.q3_clmsg.specs.declared.error.ClientIllegible.{ClientIllegible}
 use Rattle.q3_clmsg.specs.Values.{Message}
 use Rattle.q3_profile.specs.declared.profile.Profile.{Profile}
@@ -26,13 +24,14 @@ use Rattle.q3_slot.specs.declared.answer.Emitted.TheVariants as emitted
 use Rattle.q3_slot.specs.declared.answer.NoClient.{NoClient}
 use Rattle.q3_slot.specs.declared.answer.SayError.{SayError}
 use Rattle.q3_slot.specs.declared.answer.SayError.TheVariants as refused
+use Rattle.q3_slot.specs.declared.taking.Heard.{Heard}
 use Rattle.q3_slot.specs.declared.taking.ServerTook.{ServerTook}
 use Rattle.q3_slot.specs.declared.taking.ServerTook.TheVariants as took
 use Rattle.q3_slot.specs.declared.taking.Origin.{Origin}
 use Rattle.q3_slot.specs.declared.taking.Origin.TheVariants as origins
 use Rattle.q3_slot.specs.Slot.{SlotState, asked, is_connected}
 use Rattle.q3_slot.specs.Emitting.{SlotEmission, next_frames, next_snapshot, begun_next, next_game_built, emit_built, emit_game, emit_slot, telling_under}
-use Rattle.q3_slot.specs.Taking.{Came, OfMap, OfOther, Playing, goes_on, leading_of, take_slot}
+use Rattle.q3_slot.specs.Taking.{Came, OfMap, OfOther, Playing, goes_on, leading_of, nothing_heard, take_slot}
 
 -- what is being sent to a client, what was gathered of what it sends, which commands were issued to it, and what is kept of it
 -- beside that
@@ -195,17 +194,11 @@ came_of message (Err cause) = Err cause
 abbrev pub slot_after_datagram : Profile → MapState → ℕ → Address → List ℕ → Option SlotState → Option SlotState
 slot_after_datagram profile map c from datagram found = option_map (λ slot. (take_slot profile map c from datagram slot).slot) found
 
--- what a take answers and runs
-pub record Run : Type 0 where
-  pub answer : ServerTook
-  pub commands : List Command
-  pub moves : List Move
-  pub entered : Option ℕ
-  pub owed : Bool
+-- the answer to it, and what is run: nothing in a place with no client
+abbrev pub answer_to : Profile → MapState → ℕ → Address → List ℕ → Option SlotState → ServerTook
+answer_to profile map c from datagram None = took.Stranger
+answer_to profile map c from datagram (Some slot) = (take_slot profile map c from datagram slot).answer
 
--- a place with no client runs nothing
-abbrev pub taken_of : Profile → MapState → ℕ → Address → List ℕ → Option SlotState → Run
-taken_of profile map c from datagram None = record { answer = took.Stranger; commands = []; moves = []; entered = None; owed = false }
-taken_of profile map c from datagram (Some slot) =
-    let taken = take_slot profile map c from datagram slot in
-    record { answer = taken.answer; commands = taken.commands; moves = taken.moves; entered = taken.entered; owed = taken.owed }
+abbrev pub heard_of : Profile → MapState → ℕ → Address → List ℕ → Option SlotState → Heard
+heard_of profile map c from datagram None = nothing_heard false
+heard_of profile map c from datagram (Some slot) = (take_slot profile map c from datagram slot).heard

@@ -8,7 +8,6 @@ use Rattle.q3_chan.specs.declared.gatherer.Gathered.{Gathered}
 use Rattle.q3_chan.specs.declared.gatherer.Gathered.TheVariants as gathered
 use Rattle.q3_chan.specs.Gathering.{Took, gathered as gathered_of}
 use Rattle.q3_chan.specs.Keys.{client_key, client_scrambled}
-use Rattle.q3_text.specs.declared.text.Command.{Command}
 use Rattle.q3_window.specs.declared.outgoing.BadAck.{BadAck}
 use Rattle.q3_window.specs.Outgoing.{acknowledge_at, text_at}
 use Rattle.q3_window.specs.Incoming.{fresh_of, gap_in, executes}
@@ -19,6 +18,7 @@ use Rattle.q3_clmsg.specs.declared.error.ClientIllegible.TheVariants as causes
 use Rattle.q3_clmsg.specs.Moves.{message_key}
 use Rattle.q3_clmsg.specs.Values.{Message}
 use Rattle.q3_clmsg.specs.Reading.{heads_in, client_message_in}
+use Rattle.q3_slot.specs.declared.taking.Heard.{Heard}
 use Rattle.q3_slot.specs.declared.taking.ServerTook.{ServerTook}
 use Rattle.q3_slot.specs.declared.taking.ServerTook.TheVariants.{Runt, Connectionless, Old, OutOfOrder, BadCheck, BadFragment, Partial, Illegible, Ignored, Gap, Ran}
 use Rattle.q3_map.specs.Map.{MapState, is_other}
@@ -121,19 +121,19 @@ leading_of heads = record { id = heads.id; acknowledged = heads.acknowledged; co
 abbrev pub came_as : MapState → Message → Came
 came_as map message = if is_other map message.id then OfOther (heads_of message) else OfMap message
 
--- what a take of a slot gives: the slot after it, the answer, the commands and the moves that were run, the time of the move with
--- which the client entered the map, if it did, and whether a gamestate is owed
+-- nothing was run
+abbrev pub nothing_heard : Bool → Heard
+nothing_heard owed = record { commands = []; moves = record { items = [] }; entered = None; owed = owed }
+
+-- what a take of a slot gives: the slot after it, the answer, and what was run
 pub record SlotTaken : Type 0 where
   pub slot : SlotState
   pub answer : ServerTook
-  pub commands : List Command
-  pub moves : List Move
-  pub entered : Option ℕ
-  pub owed : Bool
+  pub heard : Heard
 
 -- a slot that runs nothing
 abbrev pub answers : SlotState → ServerTook → SlotTaken
-answers slot answer = record { slot = slot; answer = answer; commands = []; moves = []; entered = None; owed = slot.owed }
+answers slot answer = record { slot = slot; answer = answer; heard = nothing_heard slot.owed }
 
 -- whether a message number is above that of the last gamestate of the map, if one was begun
 abbrev pub is_after_game : ℕ → Option ℕ → Bool
@@ -164,10 +164,12 @@ run_with slot c number message playing = record {
     last_run = playing.last_run;
   };
   answer = Ran c number;
-  commands = fresh_of slot.executed.executed message.commands;
-  moves = playing.moves;
-  entered = playing.entered;
-  owed = slot.owed;
+  heard = record {
+    commands = fresh_of slot.executed.executed message.commands;
+    moves = record { items = playing.moves };
+    entered = playing.entered;
+    owed = slot.owed;
+  };
 }
 
 abbrev pub run_unless : SlotState → ℕ → ℕ → Message → Option ℕ → SlotTaken

@@ -20,7 +20,7 @@ ghost use Rattle.q3_slot.specs.declared.stage.ClientStage.TheVariants.{Connected
 ghost use Rattle.q3_slot.specs.Emitting.{next_snapshot, snapshot_flags};
 ghost use Rattle.q3_slot.specs.Slot.{asked};
 ghost use Rattle.q3_slot.specs.Slots.{slot_of, slot_with, came_of, goes_with, played};
-ghost use Rattle.q3_slot.specs.Taking.{asks_game, delta_after, ignores, is_after_game, last_run_of, leading_of, run_read, runs, said_by};
+ghost use Rattle.q3_slot.specs.Taking.{asks_game, delta_after, ignores, is_after_game, last_run_of, leading_of, nothing_heard, run_read, runs, said_by};
 
 use crate::stage::ClientStage;
 use crate::taking::{
@@ -178,28 +178,16 @@ impl Joined {
         message: &ClientMessage,
         heard: &mut Heard,
     ) -> ServerTook
-        requires no_commands { heard.old.commands ≡ [] }
-        requires no_moves { heard.old.moves.items ≡ [] }
-        requires no_entered { heard.old.entered ≡ None }
-        requires owed { heard.old.owed ≡ self.old.owed }
+        requires heard { heard.old ≡ nothing_heard self.old.owed }
         ensures slot { (sending : Sending) (gathering : Gathering) → slot_of sending gathering issued.new self.new
             ≡ (run_read map.now (slot_of sending gathering issued.old self.old) slot number
             (came_of (said_of message.now) read)).slot }
         ensures answer { (sending : Sending) (gathering : Gathering)
             → result ≡ (run_read map.now (slot_of sending gathering issued.old self.old) slot number
             (came_of (said_of message.now) read)).answer }
-        ensures commands { (sending : Sending) (gathering : Gathering) → heard.new.commands
-            ≡ (run_read map.now (slot_of sending gathering issued.old self.old) slot number
-            (came_of (said_of message.now) read)).commands }
-        ensures moves { (sending : Sending) (gathering : Gathering) → heard.new.moves.items
-            ≡ (run_read map.now (slot_of sending gathering issued.old self.old) slot number
-            (came_of (said_of message.now) read)).moves }
-        ensures entered { (sending : Sending) (gathering : Gathering) → heard.new.entered
-            ≡ (run_read map.now (slot_of sending gathering issued.old self.old) slot number
-            (came_of (said_of message.now) read)).entered }
-        ensures owed { (sending : Sending) (gathering : Gathering) → heard.new.owed
-            ≡ (run_read map.now (slot_of sending gathering issued.old self.old) slot number
-            (came_of (said_of message.now) read)).owed }
+        ensures heard { (sending : Sending) (gathering : Gathering)
+            → heard.new ≡ (run_read map.now (slot_of sending gathering issued.old self.old) slot number
+            (came_of (said_of message.now) read)).heard }
     {
         let origin = match read {
             Ok(origin) => origin,
@@ -224,17 +212,15 @@ impl Joined {
         heads: Heads,
         heard: &mut Heard,
     ) -> ServerTook
+        requires heard { heard.old ≡ nothing_heard self.old.owed }
         ensures slot { (sending : Sending) (gathering : Gathering) → slot_of sending gathering issued.new self.new
             ≡ (ignores map.now (slot_of sending gathering issued.old self.old) slot (leading_of heads)).slot }
         ensures answer { (sending : Sending) (gathering : Gathering)
             → result ≡ (ignores map.now (slot_of sending gathering issued.old self.old) slot
             (leading_of heads)).answer }
-        ensures owed { (sending : Sending) (gathering : Gathering)
-            → heard.new.owed ≡ (ignores map.now (slot_of sending gathering issued.old self.old) slot
-            (leading_of heads)).owed }
-        ensures commands { heard.new.commands ≡ heard.old.commands }
-        ensures moves { heard.new.moves.items ≡ heard.old.moves.items }
-        ensures entered { heard.new.entered ≡ heard.old.entered }
+        ensures heard { (sending : Sending) (gathering : Gathering)
+            → heard.new ≡ (ignores map.now (slot_of sending gathering issued.old self.old) slot
+            (leading_of heads)).heard }
     {
         // it was within the window where the message was read
         let _ = issued.acknowledge(heads.command);

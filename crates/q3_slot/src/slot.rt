@@ -14,7 +14,8 @@ ghost use Rattle.q3_config.specs.Laws.{piece_texts};
 ghost use Rattle.q3_window.specs.Outgoing.{fits, total_of, with_texts};
 ghost use Rattle.q3_slot.specs.Slot.{SlotState, is_of, new_slot, on_new_map, sending_of, with_area, with_delayed, with_player};
 ghost use Rattle.q3_slot.specs.Standing.{IsSlot};
-ghost use Rattle.q3_slot.specs.Slots.{HoldLists, game_for, given, changes_own, slot_saying, said_of_slot, lacks_places, lacks_room, tells, slot_after, map_after, frames_after, answer_of, piece_of, slot_after_datagram, taken_of};
+ghost use Rattle.q3_slot.specs.Slots.{HoldLists, game_for, given, changes_own, slot_saying, said_of_slot, lacks_places, lacks_room, tells, slot_after, map_after, frames_after, answer_of, piece_of, slot_after_datagram, answer_to, heard_of};
+ghost use Rattle.q3_slot.specs.Taking.{nothing_heard};
 
 use crate::answer::{Emitted, NoClient, SayError};
 use crate::beginning::{begin_game, begin_snapshot};
@@ -262,17 +263,10 @@ impl Slot {
         heard: &mut Heard,
     ) -> ServerTook
         requires whole { length whole.old ≡ longest_message }
-        requires no_commands { heard.old.commands ≡ [] }
-        requires no_moves { heard.old.moves.items ≡ [] }
-        requires no_entered { heard.old.entered ≡ None }
-        requires not_owed { heard.old.owed ≡ false }
+        requires heard { heard.old ≡ nothing_heard false }
         ensures slot { self.new ≡ slot_after_datagram profile.now map.now slot from datagram.now self.old }
-        ensures answer { result ≡ (taken_of profile.now map.now slot from datagram.now self.old).answer }
-        ensures commands { heard.new.commands ≡ (taken_of profile.now map.now slot from datagram.now
-            self.old).commands }
-        ensures moves { heard.new.moves.items ≡ (taken_of profile.now map.now slot from datagram.now self.old).moves }
-        ensures entered { heard.new.entered ≡ (taken_of profile.now map.now slot from datagram.now self.old).entered }
-        ensures owed { heard.new.owed ≡ (taken_of profile.now map.now slot from datagram.now self.old).owed }
+        ensures answer { result ≡ answer_to profile.now map.now slot from datagram.now self.old }
+        ensures heard { heard.new ≡ heard_of profile.now map.now slot from datagram.now self.old }
         ensures whole { length whole.new ≡ longest_message }
     {
         let Some(client) = &mut self.client else {

@@ -11,7 +11,7 @@ ghost use Rattle.q3_clmsg.specs.Values.{said_of};
 ghost use Rattle.q3_window.specs.Incoming.{executes, fresh_of, gap_in};
 ghost use Rattle.q3_window.specs.Outgoing.{acknowledge_at, issued_of};
 ghost use Rattle.q3_slot.specs.Slots.{came_of};
-ghost use Rattle.q3_slot.specs.Taking.{ack_taken, came_under, said_under, with_heads, delta_after, runs, last_run_of};
+ghost use Rattle.q3_slot.specs.Taking.{ack_taken, came_under, said_under, with_heads, delta_after, runs, last_run_of, nothing_heard};
 
 use arrayvec::ArrayVec;
 use q3_bits::NoMemory;
@@ -72,10 +72,7 @@ pub struct Heard {
 impl Heard {
     /// Nothing was run. `Err` is want of memory.
     pub fn new(alloc: Global) -> Result<Heard, NoMemory>
-        ensures commands { IfOk result (λ heard. heard.commands ≡ []) }
-        ensures moves { IfOk result (λ heard. heard.moves.items ≡ []) }
-        ensures entered { IfOk result (λ heard. heard.entered ≡ None) }
-        ensures owed { IfOk result (λ heard. heard.owed ≡ false) }
+        ensures { IfOk result (λ heard. heard ≡ nothing_heard false) }
     {
         Ok(Heard {
             commands: Commands::new(alloc)?,
@@ -87,10 +84,7 @@ impl Heard {
 
     /// Nothing was run, as after `new`.
     pub fn clear(&mut self)
-        ensures commands { self.new.commands ≡ [] }
-        ensures moves { self.new.moves.items ≡ [] }
-        ensures entered { self.new.entered ≡ None }
-        ensures owed { self.new.owed ≡ false }
+        ensures { self.new ≡ nothing_heard false }
     {
         self.commands.clear();
         self.moves.clear();

@@ -393,11 +393,11 @@ delivered_to profile whole number tag (Some place) cited is at holds =
 
 -- ---- delivering to the server
 
-abbrev pub Heard : Type 0
-Heard = Result Came ClientIllegible
+abbrev pub CameRead : Type 0
+CameRead = Result Came ClientIllegible
 
 -- where nothing came whole, nothing is read
-pub quiet_heard : (map : MapState) (slot : SlotState) (c : ℕ) (answer : Gathered) (read other : ℕ → Heard) → IsQuiet answer → by_slot.take_answer map slot c answer read ≡ by_slot.take_answer map slot c answer other
+pub quiet_heard : (map : MapState) (slot : SlotState) (c : ℕ) (answer : Gathered) (read other : ℕ → CameRead) → IsQuiet answer → by_slot.take_answer map slot c answer read ≡ by_slot.take_answer map slot c answer other
 quiet_heard map slot c gathered.Partial read other is = refl
 quiet_heard map slot c gathered.Old read other is = refl
 quiet_heard map slot c gathered.OutOfOrder read other is = refl
@@ -406,13 +406,12 @@ quiet_heard map slot c answer read other is = absurd is
 -- the slot is as it was, and executes and runs nothing
 pub record Idle (slot : SlotState) (taken : by_slot.SlotTaken) : Type 0 where
   pub slot_is : taken.slot ≡ slot
-  pub commands : taken.commands ≡ []
-  pub moves : taken.moves ≡ []
+  pub heard : taken.heard ≡ by_slot.nothing_heard slot.owed
 
-pub quiet_slot : (map : MapState) (slot : SlotState) (c : ℕ) (answer : Gathered) (read : ℕ → Heard) → IsQuiet answer → Idle slot (by_slot.take_answer map slot c answer read)
-quiet_slot map slot c gathered.Partial read is = record { slot_is = refl; commands = refl; moves = refl }
-quiet_slot map slot c gathered.Old read is = record { slot_is = refl; commands = refl; moves = refl }
-quiet_slot map slot c gathered.OutOfOrder read is = record { slot_is = refl; commands = refl; moves = refl }
+pub quiet_slot : (map : MapState) (slot : SlotState) (c : ℕ) (answer : Gathered) (read : ℕ → CameRead) → IsQuiet answer → Idle slot (by_slot.take_answer map slot c answer read)
+quiet_slot map slot c gathered.Partial read is = record { slot_is = refl; heard = refl }
+quiet_slot map slot c gathered.Old read is = record { slot_is = refl; heard = refl }
+quiet_slot map slot c gathered.OutOfOrder read is = record { slot_is = refl; heard = refl }
 quiet_slot map slot c answer read is = absurd is
 
 -- what comes whole is read as what the message that was said is to the map
@@ -428,7 +427,7 @@ heard_alike profile map slot c took number said hears_back does from =
       | inl waits ↦ quiet_heard map now c took.answer (λ k. said_by profile map slot took.message) (λ k. Ok (came_as map said.message)) waits.quiet
       | inr came ↦
           let read : said_by profile map slot took.message ≡ Ok (came_as map said.message) = ap (λ (m : List ℕ). said_by profile map slot m) came.message_is ∙ hears_back came.newer in
-          ap (λ (r : Heard). by_slot.take_answer map now c took.answer (λ k. r)) read
+          ap (λ (r : CameRead). by_slot.take_answer map now c took.answer (λ k. r)) read
     ]
 
 -- a tag of a client's datagram
@@ -562,7 +561,7 @@ holds_heard profile whole c number n from slot place took said cited lt had host
     let history = history_at whole.histories c in
     let now = record slot { address = from; gathering = g } in
     let message = said.message in
-    let read : ℕ → Heard = λ k. Ok (came_as map message) in
+    let read : ℕ → CameRead = λ k. Ok (came_as map message) in
     let keeps = had.keeps.of_slot in
     let mapped = had.joined.mapped in
     let before = had.joined.asked.delta in
@@ -570,7 +569,7 @@ holds_heard profile whole c number n from slot place took said cited lt had host
     elim does.either [
       | inl waits ↦
           let same = quiet_slot map now c took.answer read waits.quiet in
-          rw (same.slot_is, same.commands, same.moves) (Holds-heard profile whole c slot slot place from g (record { commands = []; entered = result.entered; moves = []; owed = result.owed }) lt had host does.form refl refl refl gathers
+          rw (same.slot_is, same.heard) (Holds-heard profile whole c slot slot place from g (by_slot.nothing_heard slot.owed) lt had host does.form refl refl refl gathers
           (none_run profile slot history keeps)
           (hears_nothing slot place.client history g waits.taken had.joined.commanded)
           (All-nil (Contains history.issued)) before mapped holds)
@@ -586,7 +585,7 @@ holds_heard profile whole c number n from slot place took said cited lt had host
                 let ignored : result ≡ by_slot.ignores map now c (heads_of message) =
                 read_so ∙ ap (λ (b : Bool). by_slot.run_read map now c n (Ok (if b then OfOther (heads_of message) else OfMap message))) other in
                 subst (λ (t : by_slot.SlotTaken). Holds profile (server_took whole number c (hears.taken_at whole.ends.server c t)).whole) (sym ignored)
-                (Holds-heard profile whole c slot has place from g (record { commands = []; entered = None; moves = []; owed = owed }) lt had host does.form refl refl refl gathers
+                (Holds-heard profile whole c slot has place from g (by_slot.nothing_heard owed) lt had host does.form refl refl refl gathers
                 (none_run profile has history (KeepsSlot-acknowledged profile slot history.qport history.host history.built history.run history.server_commands after owed still keeps))
                 (hears_other slot place.client history g n said came.taken heard)
                 (All-nil (Contains history.issued)) before (mapped_other map slot place.client history said there other mapped) holds)
@@ -599,7 +598,7 @@ holds_heard profile whole c number n from slot place took said cited lt had host
                 let ran_so : result ≡ by_slot.run_unless now c n message None =
                 read_so ∙ (ap (λ (b : Bool). by_slot.run_read map now c n (Ok (if b then OfOther (heads_of message) else OfMap message))) same ∙ runs_whole now c n message heard.gap) in
                 subst (λ (t : by_slot.SlotTaken). Holds profile (server_took whole number c (hears.taken_at whole.ends.server c t)).whole) (sym ran_so)
-                (Holds-heard profile whole c slot has place from g (record { commands = fresh_of slot.executed.executed message.commands; entered = playing.entered; moves = playing.moves; owed = slot.owed })
+                (Holds-heard profile whole c slot has place from g (record { commands = fresh_of slot.executed.executed message.commands; moves = record { items = playing.moves }; entered = playing.entered; owed = slot.owed })
                 lt had host does.form refl refl refl gathers
                 (KeepsSlot-ran profile slot history.qport history.host history.built history.run history.server_commands after executed playing still rises.0 rises.1 keeps)
                 (hears_run slot place.client history g n said came.taken heard)

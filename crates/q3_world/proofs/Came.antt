@@ -25,7 +25,7 @@ use Rattle.q3_world.specs.StandsFor.{messages_of, messages_said, KeepsSlot, IsPi
 use Rattle.q3_world.proofs.Growth.{HistoryGrows-beside}
 use Rattle.q3_world.proofs.Clients.{KeepsSlot-came, KeepsClient-took}
 use Rattle.q3_world.proofs.Joined.{AreAsked-ran}
-use Rattle.q3_report.specs.ServerLines.{Run}
+use Rattle.q3_slot.specs.declared.taking.Heard.{Heard}
 use Rattle.q3_slot.specs.declared.stage.ClientStage.{ClientStage}
 use Rattle.q3_world.specs.Games.{AreSince, AreMapped, accepted_since, standing_of}
 use Rattle.q3_world.proofs.Holding.{Holds, Has, sent_grows, with_server_of, Holds-slot, frames_stay, with_client_of, Holds-client}
@@ -101,13 +101,13 @@ pub record HearsSo (client : ClientState) (history : History) (g : Gathering) (w
 
 -- an acknowledgement was taken, commands were executed, and moves were run, each of which was issued; and a snapshot may be asked for
 -- that was accepted
-pub Holds-heard : (profile : Profile) (whole : Whole) (c : ℕ) (slot has : SlotState) (place : Place) (from : Address) (g : Gathering) (ran : Run) → c < places
+pub Holds-heard : (profile : Profile) (whole : Whole) (c : ℕ) (slot has : SlotState) (place : Place) (from : Address) (g : Gathering) (ran : Heard) → c < places
     → Has profile whole c slot place → from.host ≡ slot.address.host → g.form ≡ slot.gathering.form → has.gathering ≡ slot.gathering → has.qport ≡ slot.qport → has.challenge ≡ slot.challenge
     → Gathers (messages_said profile (history_at whole.histories c).said) (length (history_at whole.histories c).said) g
     → KeepsSlot profile has (history_at whole.histories c).qport (history_at whole.histories c).host
-    (history_at whole.histories c).built ((history_at whole.histories c).run ++ ran.moves) (history_at whole.histories c).server_commands
+    (history_at whole.histories c).built ((history_at whole.histories c).run ++ ran.moves.items) (history_at whole.histories c).server_commands
     → HearsSo place.client (history_at whole.histories c) g has.issued has.executed ran.commands
-    → All (Contains (history_at whole.histories c).issued) ran.moves → (has.delta ≡ 0) ⊎ WasAccepted (history_at whole.histories c).accepted has.delta
+    → All (Contains (history_at whole.histories c).issued) ran.moves.items → (has.delta ≡ 0) ⊎ WasAccepted (history_at whole.histories c).accepted has.delta
     → AreMapped whole.ends.server.map (standing_of has) place.client.state place.client.gathering.taken place.client.last_time (history_at whole.histories c).built (history_at whole.histories c).games
     (history_at whole.histories c).said (history_at whole.histories c).accepted (history_at whole.histories c).client_executed → Holds profile whole
     → Holds profile (with_server_of whole c (slot_heard has from g) whole.ends.server.map whole.ends.server.frames (with_run (history_at whole.histories c) ran) whole.sent)
@@ -126,7 +126,7 @@ Holds-heard profile whole c slot has place from g ran lt had host side same_gath
       stays = λ s e h joined. joined;
       grows = grows;
       keeps = record {
-        of_slot = KeepsSlot-came profile has history.qport history.host history.built (history.run ++ ran.moves)
+        of_slot = KeepsSlot-came profile has history.qport history.host history.built (history.run ++ ran.moves.items)
             history.server_commands from g (host ∙ keeps.of_slot.host) (side ∙ ap (λ (g : Gathering). g.form) (sym same_gathering)) ran_so;
         of_client = keeps.of_client;
         challenge = same_challenge ∙ keeps.challenge;
@@ -135,7 +135,7 @@ Holds-heard profile whole c slot has place from g ran lt had host side same_gath
       };
       joined = record {
         of_client = joined.of_client;
-        of_slot = record { gathers = gathers; ran = All-append (Contains history.issued) history.run ran.moves joined.of_slot.ran were };
+        of_slot = record { gathers = gathers; ran = All-append (Contains history.issued) history.run ran.moves.items joined.of_slot.ran were };
         asked = AreAsked-ran slot next history.said history.built history.accepted asks joined.asked;
         commanded = record { to_client = so.to_client; to_server = so.to_server };
         mapped = mapped;

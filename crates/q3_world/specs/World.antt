@@ -29,7 +29,7 @@ use Rattle.q3_client.specs.declared.client.ClientTook.TheVariants as took
 use Rattle.q3_client.specs.Client.{Taken, receive_message, take_gathered}
 use Rattle.q3_client.specs.Sending as speaks
 use Rattle.q3_client.specs.Sending.{Said, said_bytes}
-use Rattle.q3_report.specs.ServerLines.{Run}
+use Rattle.q3_slot.specs.declared.taking.Heard.{Heard}
 use Rattle.q3_config.specs.Strings.{has_string}
 use Rattle.q3_server.specs.Server.{ServerState, Emission, places, slot_at, emit_at}
 use Rattle.q3_server.specs.Taking as hears
@@ -37,7 +37,6 @@ use Rattle.q3_report.specs.declared.answer.HandedIn.TheVariants as handed
 use Rattle.q3_report.specs.declared.answer.Front.TheVariants as fronts
 use Rattle.q3_report.specs.declared.answer.TakeRefused.TheVariants as refused
 use Rattle.q3_report.specs.Answers.{Answered, Given, Served, SentOut, Untaken, Bytes}
-use Rattle.q3_ends.specs.AtServer.{ran_of}
 use Rattle.q3_ends.specs.Recording.{asking}
 use Rattle.q3_world.specs.declared.made.Direction.{Direction}
 use Rattle.q3_world.specs.declared.made.Direction.TheVariants.{ToClient, ToServer}
@@ -220,9 +219,9 @@ with_issued history one (Given (handed.Move c (Ok x))) = record history { issued
 with_issued history one other = history
 
 -- the commands that the server executed, and the moves that it ran
-abbrev pub with_run : History → Run → History
-with_run history ran =
-    record history { run = history.run ++ ran.moves; server_executed = history.server_executed ++ texts_of ran.commands }
+abbrev pub with_run : History → Heard → History
+with_run history heard =
+    record history { run = history.run ++ heard.moves.items; server_executed = history.server_executed ++ texts_of heard.commands }
 
 -- what is noted of a line that hands something in, by its answer
 abbrev pub noted : ServerState → List History → Event → Answered → List History
@@ -314,7 +313,7 @@ said_under histories tag = said_at (history_at histories tag.client).said tag.nu
 -- the server took a datagram of a client, and what it ran is noted
 abbrev pub server_took : Whole → ℕ → ℕ → hears.Taken → Step
 server_took whole number c taken =
-    with_noted whole (with_history whole.histories c (with_run (history_at whole.histories c) (ran_of taken)))
+    with_noted whole (with_history whole.histories c (with_run (history_at whole.histories c) taken.heard))
     (by_ends.server_took whole.ends (fronts.Deliver number) taken)
 
 -- a client's datagram comes to its slot, from an address, by its tag: of a message that comes whole the slot runs the value

@@ -22,5 +22,5 @@ returns-in-Other-clause-slot c sending gathering = c.ignore.ensures.slot sending
 pub returns-in-Other-clause-answer : goal.returns-in-Other-clause-answer
 returns-in-Other-clause-answer c sending gathering = c.ignore.ensures.answer sending gathering ∙ ap (λ (t : SlotTaken). t.answer) (ignored c sending gathering)
 
-pub returns-in-Other-clause-owed : goal.returns-in-Other-clause-owed
-returns-in-Other-clause-owed c sending gathering = c.ignore.ensures.owed sending gathering ∙ ap (λ (t : SlotTaken). t.owed) (ignored c sending gathering)
+pub returns-in-Other-clause-heard : goal.returns-in-Other-clause-heard
+returns-in-Other-clause-heard c sending gathering = c.ignore.ensures.heard sending gathering ∙ ap (λ (t : SlotTaken). t.heard) (ignored c sending gathering)

@@ -1,7 +1,7 @@
 use Rattle.std.proofs.Common.{◌≡◌, ◌∙◌, Option, Some, sym, ap, rules}
 use Rattle.q3_clmsg.specs.Values.{said_of}
 use Rattle.q3_slot.specs.Slot.{SlotState}
-use Rattle.q3_slot.specs.Slots.{came_of, slot_of, slot_after_datagram, taken_of}
+use Rattle.q3_slot.specs.Slots.{answer_to, came_of, heard_of, slot_of, slot_after_datagram}
 use Rattle.q3_slot.specs.Taking.{SlotTaken, run_read, take_slot}
 use Rattle.q3_slot.proofs.Taken.{whole_is_taken}
 use Rattle.q3_slot.proofs.slot.Slot.take.Goals as goal
@@ -31,24 +31,9 @@ returns-clause-slot c =
 pub returns-clause-answer : goal.returns-clause-answer
 returns-clause-answer c =
     c.run.ensures.answer c.self.inside.sender c.take.new.self ∙ ap (λ (t : SlotTaken). t.answer) (taken c)
-    ∙ ap (λ (found : Option SlotState). (taken_of c.args.profile.now c.args.map.now c.args.slot c.args.from c.args.datagram.now found).answer) (is_first c)
+    ∙ ap (answer_to c.args.profile.now c.args.map.now c.args.slot c.args.from c.args.datagram.now) (is_first c)
 
-pub returns-clause-commands : goal.returns-clause-commands
-returns-clause-commands c =
-    c.run.ensures.commands c.self.inside.sender c.take.new.self ∙ ap (λ (t : SlotTaken). t.commands) (taken c)
-    ∙ ap (λ (found : Option SlotState). (taken_of c.args.profile.now c.args.map.now c.args.slot c.args.from c.args.datagram.now found).commands) (is_first c)
-
-pub returns-clause-moves : goal.returns-clause-moves
-returns-clause-moves c =
-    c.run.ensures.moves c.self.inside.sender c.take.new.self ∙ ap (λ (t : SlotTaken). t.moves) (taken c)
-    ∙ ap (λ (found : Option SlotState). (taken_of c.args.profile.now c.args.map.now c.args.slot c.args.from c.args.datagram.now found).moves) (is_first c)
-
-pub returns-clause-entered : goal.returns-clause-entered
-returns-clause-entered c =
-    c.run.ensures.entered c.self.inside.sender c.take.new.self ∙ ap (λ (t : SlotTaken). t.entered) (taken c)
-    ∙ ap (λ (found : Option SlotState). (taken_of c.args.profile.now c.args.map.now c.args.slot c.args.from c.args.datagram.now found).entered) (is_first c)
-
-pub returns-clause-owed : goal.returns-clause-owed
-returns-clause-owed c =
-    c.run.ensures.owed c.self.inside.sender c.take.new.self ∙ ap (λ (t : SlotTaken). t.owed) (taken c)
-    ∙ ap (λ (found : Option SlotState). (taken_of c.args.profile.now c.args.map.now c.args.slot c.args.from c.args.datagram.now found).owed) (is_first c)
+pub returns-clause-heard : goal.returns-clause-heard
+returns-clause-heard c =
+    c.run.ensures.heard c.self.inside.sender c.take.new.self ∙ ap (λ (t : SlotTaken). t.heard) (taken c)
+    ∙ ap (heard_of c.args.profile.now c.args.map.now c.args.slot c.args.from c.args.datagram.now) (is_first c)
