@@ -5,7 +5,8 @@ ghost use Rattle.std.specs.List.{All, list_all, find, range_with_len};
 ghost use Rattle.q3_bits.specs.declared.words.CodeError.TheVariants as errors;
 ghost use Rattle.q3_bits.specs.Bits.{number_of};
 ghost use Rattle.q3_bits.specs.Table.{bits_of_word, words_of, IsWord};
-ghost use Rattle.q3_bits.specs.CodeWords.{texts_of, is_bit, bits_of_text, word_fault, words_fault, clashes, first_clash};
+ghost use Rattle.q3_bits.specs.CodeWords.{texts_of, is_bit, bits_of_text, word_fault, words_fault, clashes};
+ghost use Rattle.q3_bits.specs.CodeWords as spec;
 
 use crate::code::Word;
 use std::alloc::{AllocError, AllocFailed, Global};
@@ -111,7 +112,7 @@ fn bits_of(letters: &[u8]) -> u32
 /// The first pair of places whose words clash.
 pub(crate) fn first_clash(words: &[Word]) -> Option<(usize, usize)>
     requires { All IsWord words.now }
-    ensures { result ≡ first_clash (words_of words.now) }
+    ensures { result ≡ spec.first_clash (words_of words.now) }
 {
     for i in 0..words.len() {
         if let Some(j) = clash_with(words, i) {

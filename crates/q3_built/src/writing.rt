@@ -11,7 +11,7 @@ ghost use Rattle.q3_chan.specs.Keys.{server_key, server_scrambled};
 ghost use Rattle.q3_entity.specs.Entities.{IsList};
 ghost use Rattle.q3_svmsg.specs.Values.{base_entities, base_viewed, IsNamed};
 ghost use Rattle.q3_svmsg.specs.Texts.{server_message_bits};
-ghost use Rattle.q3_built.specs.Built.{is_unclear};
+ghost use Rattle.q3_built.specs.Built as spec;
 ghost use Rattle.q3_built.specs.Writing.{HoldsMessage, HoldsScrambled, game_message_in, snapshot_in};
 
 use crate::parts::{SnapshotParts, TellingParts, Written};
@@ -25,7 +25,7 @@ use q3_svmsg::{GameParts, SnapParts, write_game_parts, write_parts};
 
 /// Whether a leading long takes more bits than stay clear by protocol 68: never by protocol 71.
 pub fn is_unclear(profile: &Profile, ack: u32) -> bool
-    ensures { result ≡ is_unclear profile.now ack }
+    ensures { result ≡ spec.is_unclear profile.now ack }
 {
     let bits = profile.code.row_length(&[(ack, LONG)]);
     q3_chan::is_unclear(profile.protocol, Side::Server, bits)

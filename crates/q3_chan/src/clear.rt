@@ -4,7 +4,8 @@
 //! and so is protocol 71, by which nothing is scrambled.
 
 ghost use Rattle.std.specs.Prelude.{◌≡◌};
-ghost use Rattle.q3_chan.specs.Keys.{server_key, client_key, side_scrambled, server_scrambled, client_scrambled, clear_bytes, is_unclear, start_by};
+ghost use Rattle.q3_chan.specs.Keys.{server_key, client_key, side_scrambled, server_scrambled, client_scrambled, start_by};
+ghost use Rattle.q3_chan.specs.Keys as spec;
 
 use crate::form::is_checked;
 use crate::scrambling::scramble;
@@ -14,7 +15,7 @@ use q3_text::Text;
 
 /// How many bytes of a message stay clear: its leading longs, one of a server's and three of a client's.
 fn clear_bytes(side: Side) -> usize
-    ensures { result ≡ clear_bytes side }
+    ensures { result ≡ spec.clear_bytes side }
 {
     match side {
         Side::Server => 4,
@@ -25,7 +26,7 @@ fn clear_bytes(side: Side) -> usize
 /// Whether so many bits of leading longs are more than stay clear, so that scrambling would hide a part of them: never by a protocol
 /// that scrambles nothing.
 pub fn is_unclear(protocol: u32, side: Side, bits: usize) -> bool
-    ensures { result ≡ is_unclear protocol side bits }
+    ensures { result ≡ spec.is_unclear protocol side bits }
 {
     !is_checked(protocol) && bits > 8 * clear_bytes(side)
 }

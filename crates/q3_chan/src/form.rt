@@ -2,7 +2,7 @@
 //! is this project's own, after ioquake3's `NETCHAN_GENCHECKSUM` (qcommon.h) and `Netchan_Process` (net_chan.c).
 
 ghost use Rattle.std.specs.Prelude.{◌≡◌};
-ghost use Rattle.q3_chan.specs.Checks.{is_checked, check_for, check_of};
+ghost use Rattle.q3_chan.specs.Checks as spec;
 
 use crate::side::Side;
 
@@ -21,14 +21,14 @@ pub struct Form {
 
 /// Whether a check goes with each datagram by a protocol, and nothing is scrambled.
 pub fn is_checked(protocol: u32) -> bool
-    ensures { result ≡ is_checked protocol }
+    ensures { result ≡ spec.is_checked protocol }
 {
     protocol == CHECKED_PROTOCOL
 }
 
 /// By what each datagram between a server and the client that joined with a challenge is checked: the challenge, or nothing.
 pub fn check_for(protocol: u32, challenge: u32) -> Option<u32>
-    ensures { result ≡ check_for protocol challenge }
+    ensures { result ≡ spec.check_for protocol challenge }
 {
     if is_checked(protocol) {
         Some(challenge)
@@ -39,7 +39,7 @@ pub fn check_for(protocol: u32, challenge: u32) -> Option<u32>
 
 /// The check of a message's number.
 pub(crate) fn check_of(challenge: u32, number: u32) -> u32
-    ensures { result ≡ check_of challenge number }
+    ensures { result ≡ spec.check_of challenge number }
 {
     let product = u64::from(number) * u64::from(challenge);
     ((u64::from(challenge) ^ product) % (1 << 32)) as u32

@@ -2,8 +2,10 @@
 //! in net_chan.c.
 
 ghost use Rattle.std.specs.Prelude.{◌≡◌, ◌+◌, ◌≤◌, ◌++◌, ℕ, nat_le, length, take, IfOk, None};
-ghost use Rattle.q3_chan.specs.Datagrams.{with_check, longest_message, is_fragment, length_of};
-ghost use Rattle.q3_chan.specs.Gathering.{new_gathering, gathered, gathering_of, arrives, emptied, take_newer, take_whole, take_fragment, take_piece, add_piece, Delivers};
+ghost use Rattle.q3_chan.specs.Datagrams.{with_check, longest_message, length_of};
+ghost use Rattle.q3_chan.specs.Datagrams as datagrams_spec;
+ghost use Rattle.q3_chan.specs.Gathering.{new_gathering, gathered, gathering_of, arrives, emptied, Delivers};
+ghost use Rattle.q3_chan.specs.Gathering as spec;
 
 use crate::buffer::{new_buffer, put_at};
 use crate::form::Form;
@@ -126,10 +128,10 @@ impl Gatherer {
     fn take_newer(&mut self, datagram: &[u8], into: &mut [u8]) -> Gathered
         requires room { length into.old ≡ longest_message }
         requires number { 4 ≤ length datagram.now }
-        requires header { length_of self.old.form (is_fragment datagram.now) ≤ length datagram.now }
-        ensures gathering { self.new ≡ (take_newer self.old datagram.now).gathering }
-        ensures answer { result ≡ (take_newer self.old datagram.now).answer }
-        ensures message { Delivers result into.new (take_newer self.old datagram.now).message }
+        requires header { length_of self.old.form (datagrams_spec.is_fragment datagram.now) ≤ length datagram.now }
+        ensures gathering { self.new ≡ (spec.take_newer self.old datagram.now).gathering }
+        ensures answer { result ≡ (spec.take_newer self.old datagram.now).answer }
+        ensures message { Delivers result into.new (spec.take_newer self.old datagram.now).message }
     {
         let number = number_in(datagram);
         let there = after_header(self.form, datagram);
@@ -145,9 +147,9 @@ impl Gatherer {
     /// Takes a message that goes whole.
     fn take_whole(&mut self, number: u32, message: &[u8], into: &mut [u8]) -> Gathered
         requires { length into.old ≡ longest_message }
-        ensures gathering { self.new ≡ (take_whole self.old number message.now).gathering }
-        ensures answer { result ≡ (take_whole self.old number message.now).answer }
-        ensures message { Delivers result into.new (take_whole self.old number message.now).message }
+        ensures gathering { self.new ≡ (spec.take_whole self.old number message.now).gathering }
+        ensures answer { result ≡ (spec.take_whole self.old number message.now).answer }
+        ensures message { Delivers result into.new (spec.take_whole self.old number message.now).message }
     {
         if message.len() > LONGEST_MESSAGE {
             return Gathered::BadFragment;
@@ -180,9 +182,9 @@ impl Gatherer {
         into: &mut [u8],
     ) -> Gathered
         requires { length into.old ≡ longest_message }
-        ensures gathering { self.new ≡ (take_fragment self.old start count there.now).gathering }
-        ensures answer { result ≡ (take_fragment self.old start count there.now).answer }
-        ensures message { Delivers result into.new (take_fragment self.old start count there.now).message }
+        ensures gathering { self.new ≡ (spec.take_fragment self.old start count there.now).gathering }
+        ensures answer { result ≡ (spec.take_fragment self.old start count there.now).answer }
+        ensures message { Delivers result into.new (spec.take_fragment self.old start count there.now).message }
     {
         if start != self.count {
             return Gathered::OutOfOrder;
@@ -193,9 +195,9 @@ impl Gatherer {
     /// Takes a piece after what was gathered, which is said to have so many of the bytes there.
     fn take_piece(&mut self, count: usize, there: &[u8], into: &mut [u8]) -> Gathered
         requires { length into.old ≡ longest_message }
-        ensures gathering { self.new ≡ (take_piece self.old count there.now).gathering }
-        ensures answer { result ≡ (take_piece self.old count there.now).answer }
-        ensures message { Delivers result into.new (take_piece self.old count there.now).message }
+        ensures gathering { self.new ≡ (spec.take_piece self.old count there.now).gathering }
+        ensures answer { result ≡ (spec.take_piece self.old count there.now).answer }
+        ensures message { Delivers result into.new (spec.take_piece self.old count there.now).message }
     {
         if count > FRAGMENT_SIZE || there.len() < count || count > LONGEST_MESSAGE - self.count {
             return Gathered::BadFragment;
@@ -207,9 +209,9 @@ impl Gatherer {
     fn add_piece(&mut self, piece: &[u8], into: &mut [u8]) -> Gathered
         requires room { length into.old ≡ longest_message }
         requires most { length self.old.bytes + length piece.now ≤ longest_message }
-        ensures gathering { self.new ≡ (add_piece self.old piece.now).gathering }
-        ensures answer { result ≡ (add_piece self.old piece.now).answer }
-        ensures message { Delivers result into.new (add_piece self.old piece.now).message }
+        ensures gathering { self.new ≡ (spec.add_piece self.old piece.now).gathering }
+        ensures answer { result ≡ (spec.add_piece self.old piece.now).answer }
+        ensures message { Delivers result into.new (spec.add_piece self.old piece.now).message }
     {
         self.append(piece);
         if piece.len() < FRAGMENT_SIZE {

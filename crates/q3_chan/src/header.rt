@@ -3,8 +3,9 @@
 
 ghost use Rattle.std.specs.Prelude.{◌≡◌, ◌<◌, ◌+◌, ◌≤◌, ◌++◌, nat_lt, length, is_some};
 ghost use Rattle.byteorder.specs.Endian.{little_bytes};
-ghost use Rattle.q3_chan.specs.Datagrams.{sequence_end, header_bytes, check_bytes, check_in, marked, is_fragment, number_in, short_header, header_length, before_check, check_length, short_of, length_of, has_bad_check, start_in, count_in, after_header};
-ghost use Rattle.q3_chan.specs.Gathering.{is_connectionless};
+ghost use Rattle.q3_chan.specs.Datagrams.{sequence_end, header_bytes, check_bytes, length_of};
+ghost use Rattle.q3_chan.specs.Datagrams as spec;
+ghost use Rattle.q3_chan.specs.Gathering as gathering;
 
 use crate::form::{Form, check_of};
 use crate::limits::DATAGRAM_ROOM;
@@ -81,7 +82,7 @@ pub(crate) fn put_header(out: &mut Datagram, header: Header, fragment: bool, num
 /// The number of a message in a datagram.
 fn marked(fragment: bool, number: u32) -> u32
     requires { number < sequence_end }
-    ensures { result ≡ marked fragment number }
+    ensures { result ≡ spec.marked fragment number }
 {
     if fragment {
         number + FRAGMENT_MARK
@@ -103,7 +104,7 @@ fn put_check(out: &mut Datagram, check: Option<u32>, number: u32)
 /// Whether a datagram begins with four bytes of 255.
 pub(crate) fn is_connectionless(datagram: &[u8]) -> bool
     requires { 4 ≤ length datagram.now }
-    ensures { result ≡ is_connectionless datagram.now }
+    ensures { result ≡ gathering.is_connectionless datagram.now }
 {
     &datagram[..4] == [255; 4].as_slice()
 }
@@ -111,7 +112,7 @@ pub(crate) fn is_connectionless(datagram: &[u8]) -> bool
 /// Whether a datagram has a fragment of a message.
 pub(crate) fn is_fragment(datagram: &[u8]) -> bool
     requires { 4 ≤ length datagram.now }
-    ensures { result ≡ is_fragment datagram.now }
+    ensures { result ≡ spec.is_fragment datagram.now }
 {
     LittleEndian::read_u32(datagram) >= FRAGMENT_MARK
 }
@@ -119,14 +120,14 @@ pub(crate) fn is_fragment(datagram: &[u8]) -> bool
 /// The number of the message, without the mark.
 pub(crate) fn number_in(datagram: &[u8]) -> u32
     requires { 4 ≤ length datagram.now }
-    ensures { result ≡ number_in datagram.now }
+    ensures { result ≡ spec.number_in datagram.now }
 {
     LittleEndian::read_u32(datagram) % FRAGMENT_MARK
 }
 
 /// How many bytes stand before the check: those of the number, and of the qport that a client sends.
 fn before_check(side: Side) -> usize
-    ensures { result ≡ before_check side }
+    ensures { result ≡ spec.before_check side }
 {
     match side {
         Side::Server => 4,
@@ -136,21 +137,21 @@ fn before_check(side: Side) -> usize
 
 /// How many bytes the check has, where there is one.
 fn check_length(checked: bool) -> usize
-    ensures { result ≡ check_length checked }
+    ensures { result ≡ spec.check_length checked }
 {
     if checked { 4 } else { 0 }
 }
 
 /// How many bytes stand before a message that goes whole.
 fn short_header(side: Side, checked: bool) -> usize
-    ensures { result ≡ short_header side checked }
+    ensures { result ≡ spec.short_header side checked }
 {
     before_check(side) + check_length(checked)
 }
 
 /// How many bytes stand before the message or its piece.
 fn header_length(side: Side, checked: bool, fragment: bool) -> usize
-    ensures { result ≡ header_length side checked fragment }
+    ensures { result ≡ spec.header_length side checked fragment }
 {
     if fragment {
         short_header(side, checked) + 4
@@ -162,7 +163,7 @@ fn header_length(side: Side, checked: bool, fragment: bool) -> usize
 /// Whether a datagram is shorter than its header, which has a check or none.
 pub(crate) fn lacks_header(side: Side, checked: bool, datagram: &[u8]) -> bool
     requires { 4 ≤ length datagram.now }
-    ensures { result ≡ nat_lt (length datagram.now) (header_length side checked (is_fragment datagram.now)) }
+    ensures { result ≡ nat_lt (length datagram.now) (spec.header_length side checked (spec.is_fragment datagram.now)) }
 {
     datagram.len() < header_length(side, checked, is_fragment(datagram))
 }
@@ -176,7 +177,7 @@ pub(crate) fn is_form_checked(form: Form) -> bool
 
 /// How many bytes stand before a message of a form that goes whole.
 fn short_of(form: Form) -> usize
-    ensures { result ≡ short_of form }
+    ensures { result ≡ spec.short_of form }
 {
     short_header(form.side, is_form_checked(form))
 }
@@ -184,8 +185,8 @@ fn short_of(form: Form) -> usize
 /// Whether the check of a datagram, where it has one, is another than that of its number.
 pub(crate) fn has_bad_check(form: Form, datagram: &[u8]) -> bool
     requires number { 4 ≤ length datagram.now }
-    requires header { length_of form (is_fragment datagram.now) ≤ length datagram.now }
-    ensures { result ≡ has_bad_check form.side form.check datagram.now }
+    requires header { length_of form (spec.is_fragment datagram.now) ≤ length datagram.now }
+    ensures { result ≡ spec.has_bad_check form.side form.check datagram.now }
 {
     match form.check {
         None => false,
@@ -197,8 +198,8 @@ pub(crate) fn has_bad_check(form: Form, datagram: &[u8]) -> bool
 
 /// The check that a datagram has.
 fn check_in(side: Side, datagram: &[u8]) -> u32
-    requires { before_check side + 4 ≤ length datagram.now }
-    ensures { result ≡ check_in side datagram.now }
+    requires { spec.before_check side + 4 ≤ length datagram.now }
+    ensures { result ≡ spec.check_in side datagram.now }
 {
     LittleEndian::read_u32(&datagram[before_check(side)..])
 }
@@ -206,8 +207,8 @@ fn check_in(side: Side, datagram: &[u8]) -> u32
 /// The bytes after the header.
 pub(crate) fn after_header(form: Form, datagram: &[u8]) -> &[u8]
     requires number { 4 ≤ length datagram.now }
-    requires header { length_of form (is_fragment datagram.now) ≤ length datagram.now }
-    ensures { result.now ≡ after_header form datagram.now }
+    requires header { length_of form (spec.is_fragment datagram.now) ≤ length datagram.now }
+    ensures { result.now ≡ spec.after_header form datagram.now }
 {
     let length = header_length(form.side, is_form_checked(form), is_fragment(datagram));
     &datagram[length..]
@@ -215,16 +216,16 @@ pub(crate) fn after_header(form: Form, datagram: &[u8]) -> &[u8]
 
 /// Where a fragment's piece starts in its message.
 pub(crate) fn start_in(form: Form, datagram: &[u8]) -> usize
-    requires { short_of form + 4 ≤ length datagram.now }
-    ensures { result ≡ start_in form datagram.now }
+    requires { spec.short_of form + 4 ≤ length datagram.now }
+    ensures { result ≡ spec.start_in form datagram.now }
 {
     usize::from(LittleEndian::read_u16(&datagram[short_of(form)..]))
 }
 
 /// How many bytes a fragment's piece is said to have.
 pub(crate) fn count_in(form: Form, datagram: &[u8]) -> usize
-    requires { short_of form + 4 ≤ length datagram.now }
-    ensures { result ≡ count_in form datagram.now }
+    requires { spec.short_of form + 4 ≤ length datagram.now }
+    ensures { result ≡ spec.count_in form datagram.now }
 {
     usize::from(LittleEndian::read_u16(&datagram[short_of(form) + 2..]))
 }

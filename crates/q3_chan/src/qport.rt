@@ -2,7 +2,7 @@
 //! engine's `SV_PacketEvent` (sv_main.c), which reads the qport before it looks for the client.
 
 ghost use Rattle.std.specs.Prelude.{◌≡◌, ◌≤◌, length};
-ghost use Rattle.q3_chan.specs.Senders.{qport_in, qport_of};
+ghost use Rattle.q3_chan.specs.Senders as spec;
 
 use crate::header::{is_connectionless, lacks_header};
 use crate::side::Side;
@@ -21,7 +21,7 @@ pub enum NoQport {
 /// `Runt` where it has fewer bytes than its header.
 #[tactic(auto, unfolding(crate::specs::Senders::qport_of))]
 pub fn qport_of(checked: bool, datagram: &[u8]) -> Result<u16, NoQport>
-    ensures { result ≡ qport_of checked datagram.now }
+    ensures { result ≡ spec.qport_of checked datagram.now }
 {
     if datagram.len() < 4 {
         return Err(NoQport::Runt);
@@ -38,7 +38,7 @@ pub fn qport_of(checked: bool, datagram: &[u8]) -> Result<u16, NoQport>
 /// The qport after the number of a client's message.
 fn qport_in(datagram: &[u8]) -> u16
     requires { 6 ≤ length datagram.now }
-    ensures { result ≡ qport_in datagram.now }
+    ensures { result ≡ spec.qport_in datagram.now }
 {
     LittleEndian::read_u16(&datagram[4..])
 }

@@ -12,9 +12,11 @@ ghost use Rattle.q3_chan.specs.Gathering.{new_gathering};
 ghost use Rattle.q3_chan.specs.Sending.{HandsOut, new_sending};
 ghost use Rattle.q3_rings.specs.Loans.{snapshot_of};
 ghost use Rattle.q3_rings.specs.Rings.{view_at};
-ghost use Rattle.q3_client.specs.Client.{new_client, type_at, take_at, is_accepted, moves_after};
+ghost use Rattle.q3_client.specs.Client.{new_client, type_at, take_at, moves_after};
+ghost use Rattle.q3_client.specs.Client as client_spec;
 ghost use Rattle.q3_client.specs.Moves.{add_move_at, most_moves};
-ghost use Rattle.q3_client.specs.Sending.{emit_at, emit_new, wants_delta, IsSaid};
+ghost use Rattle.q3_client.specs.Sending.{emit_at, IsSaid};
+ghost use Rattle.q3_client.specs.Sending as spec;
 
 use crate::moves::{Issued, carry, is_issuable};
 use crate::receiving::{gather, receive};
@@ -259,7 +261,7 @@ impl Client {
     #[tactic(auto, using(crate::proofs::Begins::no_moves))]
     fn note(&mut self, applied: &Applied)
         ensures { self.new ≡ record self.old {
-          delta = is_accepted applied.now.snap;
+          delta = client_spec.is_accepted applied.now.snap;
           moves = moves_after applied.now.game self.old.moves;
         } }
     {
@@ -349,10 +351,10 @@ impl Client {
     fn emit_new(&mut self, out: &mut Datagram) -> Sent
         requires idle { self.old.sending.under_way ≡ None }
         requires out { out.old.items ≡ [] }
-        ensures client { self.new ≡ (emit_new self.old).client }
-        ensures answer { result ≡ (emit_new self.old).answer }
-        ensures piece { HandsOut (emit_new self.old).piece out.new.items }
-        ensures began { IfSome (emit_new self.old).began (IsSaid self.old.state.profile self.old.challenge) }
+        ensures client { self.new ≡ (spec.emit_new self.old).client }
+        ensures answer { result ≡ (spec.emit_new self.old).answer }
+        ensures piece { HandsOut (spec.emit_new self.old).piece out.new.items }
+        ensures began { IfSome (spec.emit_new self.old).began (IsSaid self.old.state.profile self.old.challenge) }
     {
         let number = self.sender.number() + 1;
         if number >= SEQUENCE_END {
@@ -385,7 +387,7 @@ impl Client {
 
     /// Whether the message that is begun next may ask for a delta.
     fn wants_delta(&self) -> bool
-        ensures { result ≡ wants_delta self.now }
+        ensures { result ≡ spec.wants_delta self.now }
     {
         self.delta && !self.asks_whole
     }
@@ -416,7 +418,7 @@ impl Client {
 
 /// Whether a snapshot was accepted.
 fn is_accepted(outcome: SnapOutcome) -> bool
-    ensures { result ≡ is_accepted outcome }
+    ensures { result ≡ client_spec.is_accepted outcome }
 {
     matches!(outcome, SnapOutcome::Accepted { .. })
 }

@@ -4,7 +4,8 @@
 
 ghost use Rattle.std.specs.Prelude.{◌≡◌, ◌≤◌, length, true};
 ghost use Rattle.q3_clmsg.specs.Moves.{IsMove};
-ghost use Rattle.q3_client.specs.Moves.{most_moves, is_issuable, is_carried, carried};
+ghost use Rattle.q3_client.specs.Moves.{most_moves, carried};
+ghost use Rattle.q3_client.specs.Moves as spec;
 
 use arrayvec::ArrayVec;
 use circular_buffer::HeapCircularBuffer;
@@ -21,7 +22,7 @@ pub(crate) struct Issued {
 
 /// Whether a move may be issued: none of forward, right and up is -128, and its time is below 2^31.
 pub(crate) fn is_issuable(one: &Move) -> bool
-    ensures is { result ≡ is_issuable one.now }
+    ensures is { result ≡ spec.is_issuable one.now }
     ensures fits { result ≡ true → IsMove one.now }
 {
     if one.forward == -128 || one.right == -128 || one.up == -128 || one.time >= 1 << 31 {
@@ -34,7 +35,7 @@ pub(crate) fn is_issuable(one: &Move) -> bool
 impl Issued {
     /// Whether the message of a number carries the move, where each message repeats the moves of `dup` messages before it.
     fn is_carried(&self, number: u32, dup: u8) -> bool
-        ensures { result ≡ is_carried number dup self.now }
+        ensures { result ≡ spec.is_carried number dup self.now }
     {
         u64::from(number) <= u64::from(self.begun) + u64::from(dup) + 1
     }

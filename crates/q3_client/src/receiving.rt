@@ -7,7 +7,8 @@ ghost use Rattle.q3_chan.specs.Datagrams.{longest_message};
 ghost use Rattle.q3_chan.specs.Gathering.{gathered, Delivers};
 ghost use Rattle.q3_window.specs.Outgoing.{issued_of};
 ghost use Rattle.q3_client.specs.Client.{cleared, receive_by};
-ghost use Rattle.q3_client.specs.Receiving.{acknowledged_by, state_received, issued_received, answer_received, heard_received, message_received};
+ghost use Rattle.q3_client.specs.Receiving.{state_received, issued_received, answer_received, heard_received, message_received};
+ghost use Rattle.q3_client.specs.Receiving as spec;
 
 use q3_bits::Code;
 use q3_chan::{Gathered, Gatherer, scramble_server};
@@ -89,7 +90,7 @@ fn clear_front(
 /// The number of the command that a message acknowledges. `Err` where its bits don't read, or with `Ack` where the window
 /// doesn't take it.
 fn acknowledged_by(code: &Code, outgoing: &Outgoing, bytes: &[u8]) -> Result<u32, Illegible>
-    ensures number { result ≡ acknowledged_by code.now outgoing.now bytes.now }
+    ensures number { result ≡ spec.acknowledged_by code.now outgoing.now bytes.now }
     ensures known { IfOk result (λ ack. (outgoing.now.acknowledged ≤ ack) × (ack ≤ issued_of outgoing.now)) }
 {
     let (ack, _) = read_ack(code, bytes)?;

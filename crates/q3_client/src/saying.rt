@@ -6,10 +6,12 @@
 ghost use Rattle.std.specs.Prelude.{◌≡◌, ◌≤◌, [], ◌∷◌, length};
 ghost use Rattle.q3_bits.specs.Words.{row_bits};
 ghost use Rattle.q3_chan.specs.Datagrams.{longest_message};
-ghost use Rattle.q3_chan.specs.Keys.{client_key, is_unclear};
+ghost use Rattle.q3_chan.specs.Keys.{client_key};
+ghost use Rattle.q3_chan.specs.Keys as spec;
 ghost use Rattle.q3_chan.specs.declared.side.Side.TheVariants.{Client};
-ghost use Rattle.q3_window.specs.Outgoing.{IsOutgoing, carried as waiting_of};
-ghost use Rattle.q3_clmsg.specs.Moves.{message_key};
+ghost use Rattle.q3_window.specs.Outgoing.{IsOutgoing};
+ghost use Rattle.q3_window.specs.Outgoing as outgoing_spec;
+ghost use Rattle.q3_clmsg.specs.Moves as moves_spec;
 ghost use Rattle.q3_clmsg.specs.Texts.{client_message_bits};
 ghost use Rattle.q3_clmsg.specs.Values.{parts_said};
 ghost use Rattle.q3_clstate.specs.Standing.{IsApplied};
@@ -26,7 +28,7 @@ use q3_window::Outgoing;
 /// Whether by protocol 68 the leading longs of the message that goes to the server next take more bits than stay clear: never by
 /// protocol 71.
 pub(crate) fn is_unclear(state: &ClState, acknowledged: u32) -> bool
-    ensures { result ≡ is_unclear state.now.profile.protocol Client
+    ensures { result ≡ spec.is_unclear state.now.profile.protocol Client
         (length (row_bits state.now.profile.code ((state.now.id, 32) ∷ (acknowledged, 32)
         ∷ (state.now.executed.executed, 32) ∷ []))) }
 {
@@ -61,9 +63,10 @@ pub(crate) fn write_scrambled(
     ensures window { IsOutgoing outgoing.now }
     ensures fills { FillsScrambled (client_key state.now.profile.protocol challenge state.now.id acknowledged
         state.now.executed.last)
-        (client_message_bits state.now.profile.code (message_key state.now.feed acknowledged state.now.executed.last)
+        (client_message_bits state.now.profile.code
+        (moves_spec.message_key state.now.feed acknowledged state.now.executed.last)
         (message_with state.now.id acknowledged state.now.executed.executed
-        (waiting_of outgoing.now) delta moves.now)) into.new result }
+        (outgoing_spec.carried outgoing.now) delta moves.now)) into.new result }
 {
     let text = state.last_text();
     let key = message_key(state.feed(), acknowledged, text);
@@ -86,7 +89,7 @@ fn parts_of<'a>(
 ) -> SaidParts<'a>
     ensures window { IsOutgoing outgoing.now }
     ensures parts { parts_said result ≡ message_with state.now.id acknowledged state.now.executed.executed
-        (waiting_of outgoing.now) delta moves.now }
+        (outgoing_spec.carried outgoing.now) delta moves.now }
 {
     SaidParts {
         id: state.id(),

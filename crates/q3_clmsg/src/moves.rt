@@ -5,7 +5,8 @@
 ghost use Rattle.std.specs.Prelude.{◌≡◌, ◌≤◌, ◌<◌, ◌^◌, IfOk};
 ghost use Rattle.std.specs.Int.{w8, cast_unsigned};
 ghost use Rattle.q3_bits.specs.Streams.{Reads, Writes, holding};
-ghost use Rattle.q3_clmsg.specs.Moves.{message_key as key_of_message, AreFields, move_widths, no_move, fields_of, move_of, step_of, hidden as hidden_by, time_bits, field_delta, changed_bits, fields_bits, move_delta, moves_bits, time_at, field_over, fields_at, move_at, moves_at};
+ghost use Rattle.q3_clmsg.specs.Moves.{AreFields, move_widths, no_move, fields_of, move_of, step_of, time_bits, field_delta, changed_bits, fields_bits, move_delta, moves_bits, time_at, field_over, fields_at, move_at, moves_at};
+ghost use Rattle.q3_clmsg.specs.Moves as spec;
 
 use arrayvec::ArrayVec;
 use q3_bits::{BIT, BYTE, LONG, Overflow, ReadError, Reader, Writer, laws};
@@ -59,7 +60,7 @@ impl Move {
 /// The key of a message's moves, without their times: the map's checksum feed, the number of the newest server message
 /// that came whole, and the hash of the text of the newest server command.
 pub fn message_key(feed: u32, acknowledged: u32, text: &Text) -> u32
-    ensures { result ≡ key_of_message feed acknowledged text.now }
+    ensures { result ≡ spec.message_key feed acknowledged text.now }
 {
     feed ^ acknowledged ^ hash_key(text)
 }
@@ -67,7 +68,7 @@ pub fn message_key(feed: u32, acknowledged: u32, text: &Text) -> u32
 /// A field of up to 16 bits, hidden by a key or shown.
 fn hidden(key: u32, width: u32, field: u32) -> u32
     requires { width ≤ 16 }
-    ensures { result ≡ hidden_by key width field }
+    ensures { result ≡ spec.hidden key width field }
 {
     field ^ (key % (1 << width))
 }

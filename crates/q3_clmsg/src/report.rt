@@ -1,14 +1,14 @@
 //! The words that tell why a client's message isn't legible, as reports print them.
 
 ghost use Rattle.std.specs.Prelude.{◌≡◌};
-ghost use Rattle.q3_clmsg.specs.Report.{cause_word as word_of_cause, cause_number as number_of_cause};
+ghost use Rattle.q3_clmsg.specs.Report as spec;
 
 use crate::error::ClientIllegible;
 use q3_bits::bits_word;
 
 /// The word of a cause.
 pub fn cause_word(cause: ClientIllegible) -> &'static [u8]
-    ensures { result.now ≡ word_of_cause cause }
+    ensures { result.now ≡ spec.cause_word cause }
 {
     match cause {
         ClientIllegible::Bits(e) => bits_word(e),
@@ -22,7 +22,7 @@ pub fn cause_word(cause: ClientIllegible) -> &'static [u8]
 
 /// The number that is printed after the word of a cause.
 pub fn cause_number(cause: ClientIllegible) -> Option<u32>
-    ensures { result ≡ number_of_cause cause }
+    ensures { result ≡ spec.cause_number cause }
 {
     match cause {
         ClientIllegible::BadOp(byte) => Some(u32::from(byte)),

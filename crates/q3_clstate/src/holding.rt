@@ -4,7 +4,8 @@ ghost use Rattle.std.specs.Prelude.{◌≡◌, ◌≤◌, None, IfOk};
 ghost use Rattle.q3_entity.specs.Baselines.{no_baselines};
 ghost use Rattle.q3_entity.specs.Entities.{Rises};
 ghost use Rattle.q3_rings.specs.Rings.{no_snapshots, held_snapshot};
-ghost use Rattle.q3_clstate.specs.State.{is_stale, skipped_for};
+ghost use Rattle.q3_clstate.specs.State.{skipped_for};
+ghost use Rattle.q3_clstate.specs.State as spec;
 ghost use Rattle.q3_clstate.specs.Kept.{held_after, read_outcome, skipped_outcome};
 
 use crate::applied::SnapOutcome;
@@ -83,7 +84,7 @@ impl Holding {
 
     /// Whether a snapshot isn't newer than all that were accepted.
     fn is_stale(&self, number: u32) -> bool
-        ensures { result ≡ is_stale self.now.rings.held number }
+        ensures { result ≡ spec.is_stale self.now.rings.held number }
     {
         number <= self.rings.newest()
     }

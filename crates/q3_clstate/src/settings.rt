@@ -6,7 +6,8 @@
 ghost use Rattle.std.specs.Prelude.{◌≡◌, IfOk};
 ghost use Rattle.q3_config.specs.Strings.{no_strings};
 ghost use Rattle.q3_config.specs.Changes.{after_command};
-ghost use Rattle.q3_clstate.specs.State.{id_in, settled, tells_id, after_texts};
+ghost use Rattle.q3_clstate.specs.State.{id_in, settled, after_texts};
+ghost use Rattle.q3_clstate.specs.State as spec;
 
 use q3_bits::NoMemory;
 use q3_config::{Configs, SYSTEM_INFO, shape};
@@ -88,7 +89,7 @@ impl MapSettings {
 
     /// Executes a command: a change of string 1 may tell another id.
     fn run(&mut self, text: &Text)
-        ensures { self.new ≡ settled self.old.id (tells_id text.now) (after_command self.old.strings text.now) }
+        ensures { self.new ≡ settled self.old.id (spec.tells_id text.now) (after_command self.old.strings text.now) }
     {
         if self.configs.apply_command(text) && tells_id(text) {
             self.note_id();
@@ -107,7 +108,7 @@ impl MapSettings {
 
 /// Whether a command's text has the shape of a change of string 1.
 fn tells_id(text: &Text) -> bool
-    ensures { result ≡ tells_id text.now }
+    ensures { result ≡ spec.tells_id text.now }
 {
     match shape(text) {
         Some(index) => index == SYSTEM_INFO,

@@ -4,9 +4,11 @@
 //! (cl_cgame.c).
 
 ghost use Rattle.std.specs.Prelude.{◌≡◌, ◌<◌, ◌≤◌, ◌==◌, not, if◌then◌else◌, length, map, find, option_map, All, Some, IsTrue, IfOk, OnOk};
-ghost use Rattle.q3_config.specs.Strings.{AreStrings, places, longest_string, no_strings, string_at, has_string, config_size, is_config_byte, set_fault, admit_fault, refused, after_set, server_id};
+ghost use Rattle.q3_config.specs.Strings.{AreStrings, places, longest_string, no_strings, string_at, has_string, config_size, is_config_byte, set_fault, admit_fault, refused, after_set};
+ghost use Rattle.q3_config.specs.Strings as spec;
 ghost use Rattle.q3_config.specs.Commands as commands;
-ghost use Rattle.q3_config.specs.Changes.{unchanged, make_change, go_on, after_change, after_command};
+ghost use Rattle.q3_config.specs.Changes.{unchanged, go_on, after_change, after_command};
+ghost use Rattle.q3_config.specs.Changes as changes_spec;
 ghost use Rattle.q3_config.specs.Parts.{meant, finished};
 
 use crate::error::ConfigError;
@@ -78,7 +80,7 @@ impl Configs {
     /// there is no such key there or no such number.
     #[tactic(auto, unfolding(crate::specs::Strings::server_id))]
     pub fn server_id(&self) -> Option<u32>
-        ensures { result ≡ server_id self.now }
+        ensures { result ≡ spec.server_id self.now }
     {
         decimal(info_value(self.get(SYSTEM_INFO), b"sv_serverid")?)
     }
@@ -172,7 +174,7 @@ impl Configs {
 
     /// Changes a string, or ends the pending text where it can't be.
     fn make_change(&mut self, index: u32, text: &[u8]) -> bool
-        ensures { make_change self.old index text.now ≡ record { strings = self.new; changed = result } }
+        ensures { changes_spec.make_change self.old index text.now ≡ record { strings = self.new; changed = result } }
     {
         match self.table.change(index, text) {
             Some(changed) => changed,

@@ -4,7 +4,8 @@
 ghost use Rattle.std.specs.Prelude.{◌≡◌, ◌<◌, ◌≤◌, length, option_map, IfSome};
 ghost use Rattle.std.specs.Str.{bytes_eq};
 ghost use Rattle.q3_config.specs.Strings.{places};
-ghost use Rattle.q3_config.specs.Commands.{spelled, word_in, quoted_in, change_in};
+ghost use Rattle.q3_config.specs.Commands.{word_in, quoted_in, change_in};
+ghost use Rattle.q3_config.specs.Commands as spec;
 ghost use Rattle.q3_config.specs.Parts.{meant, told};
 
 use crate::limits::STRINGS;
@@ -22,7 +23,7 @@ pub(crate) enum Word {
 impl Word {
     /// How it is spelled.
     pub fn spelled(self) -> &'static [u8]
-        ensures { result.now ≡ spelled (meant self) }
+        ensures { result.now ≡ spec.spelled (meant self) }
     {
         match self {
             Word::Whole => b"cs",

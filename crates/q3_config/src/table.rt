@@ -6,7 +6,8 @@ ghost use Rattle.std.specs.Prelude.{◌≡◌, ℕ, ◌+◌, ◌≤◌, ◌<◌,
 ghost use Rattle.std.specs.List.{concat};
 ghost use Rattle.std.specs.Str.{bytes_eq};
 ghost use Rattle.q3_text.specs.Texts.{translated};
-ghost use Rattle.q3_config.specs.Strings.{Pending, places, longest_string, most_size, size_of, config_size, room_fault, set_fault, refused, after_set};
+ghost use Rattle.q3_config.specs.Strings.{Pending, places, longest_string, most_size, config_size, room_fault, set_fault, refused, after_set};
+ghost use Rattle.q3_config.specs.Strings as spec;
 ghost use Rattle.q3_config.specs.Changes.{make_change};
 ghost use Rattle.q3_config.specs.Parts.{strings_with, attempted};
 ghost use Rattle.q3_config.specs.Table.{room, text_in, texts_in, LieWithin};
@@ -227,7 +228,7 @@ fn is_translated(bytes: &[u8], text: &[u8]) -> bool
 /// What a string adds to the size.
 fn size_of(text: &[u8]) -> usize
     requires { length text.now < 2 ^ 63 }
-    ensures { result ≡ size_of text.now }
+    ensures { result ≡ spec.size_of text.now }
 {
     if text.is_empty() { 0 } else { text.len() + 1 }
 }

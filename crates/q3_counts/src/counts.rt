@@ -2,7 +2,8 @@
 
 ghost use Rattle.std.specs.Prelude.{◌≡◌};
 ghost use Rattle.q3_report.specs.Tellings.{answered_of};
-ghost use Rattle.q3_counts.specs.Counts.{no_counts, made_served, made_sent, accepted_in, skipped_in, lines_of_client, lines_of_server, lines_in, with_lines};
+ghost use Rattle.q3_counts.specs.Counts.{no_counts, with_lines};
+ghost use Rattle.q3_counts.specs.Counts as spec;
 
 use q3_client::{ClientTook, Sent};
 use q3_clstate::{Log, SnapOutcome};
@@ -112,7 +113,7 @@ impl Counts {
 
 /// The lines of an answer.
 pub fn lines_in(answer: &Answer) -> Counts
-    ensures { result ≡ lines_in (answered_of answer.now) }
+    ensures { result ≡ spec.lines_in (answered_of answer.now) }
 {
     match answer {
         Answer::Serve { emitted, .. } => Counts::of_making(made_served(emitted)),
@@ -130,7 +131,7 @@ pub fn lines_in(answer: &Answer) -> Counts
 }
 
 fn made_served(emitted: &Emitted) -> u64
-    ensures { result ≡ made_served emitted.now }
+    ensures { result ≡ spec.made_served emitted.now }
 {
     match emitted {
         Emitted::Fragment { .. } | Emitted::Game { .. } | Emitted::Snapshot { .. } => 1,
@@ -139,7 +140,7 @@ fn made_served(emitted: &Emitted) -> u64
 }
 
 fn made_sent(sent: &Sent) -> u64
-    ensures { result ≡ made_sent sent.now }
+    ensures { result ≡ spec.made_sent sent.now }
 {
     match sent {
         Sent::Fragment { .. } | Sent::Message { .. } => 1,
@@ -149,7 +150,7 @@ fn made_sent(sent: &Sent) -> u64
 
 /// The lines of a client that took a datagram.
 fn lines_of_client(took: &ClientTook, log: &Log) -> Counts
-    ensures { result ≡ lines_of_client took.now log.now.commands }
+    ensures { result ≡ spec.lines_of_client took.now log.now.commands }
 {
     match took {
         ClientTook::Applied(applied) => Counts::of_client(
@@ -162,7 +163,7 @@ fn lines_of_client(took: &ClientTook, log: &Log) -> Counts
 }
 
 fn accepted_in(snap: &SnapOutcome) -> u64
-    ensures { result ≡ accepted_in snap.now }
+    ensures { result ≡ spec.accepted_in snap.now }
 {
     match snap {
         SnapOutcome::Accepted { .. } => 1,
@@ -171,7 +172,7 @@ fn accepted_in(snap: &SnapOutcome) -> u64
 }
 
 fn skipped_in(snap: &SnapOutcome) -> u64
-    ensures { result ≡ skipped_in snap.now }
+    ensures { result ≡ spec.skipped_in snap.now }
 {
     match snap {
         SnapOutcome::Skipped { .. } => 1,
@@ -181,7 +182,7 @@ fn skipped_in(snap: &SnapOutcome) -> u64
 
 /// The lines of the server that took a datagram.
 fn lines_of_server(took: &ServerTook, heard: &Heard) -> Counts
-    ensures { result ≡ lines_of_server took.now heard.now }
+    ensures { result ≡ spec.lines_of_server took.now heard.now }
 {
     match took {
         ServerTook::Ran { .. } => Counts::of_server(heard.commands.len(), heard.moves.len()),

@@ -4,7 +4,8 @@ ghost use Rattle.std.specs.Prelude.{◌≡◌, ◌≢◌, ◌+◌, ◌<◌, ◌�
 ghost use Rattle.q3_io.specs.Told.{Told, contents_at};
 ghost use Rattle.q3_bits.specs.ResultBind.{fault_as};
 ghost use Rattle.q3_clstate.specs.State.{apply_at, state_after_message, answered, heard_in};
-ghost use Rattle.q3_demo.specs.Player.{PlaysOn, end_alone, step_of_all};
+ghost use Rattle.q3_demo.specs.Player.{PlaysOn, step_of_all};
+ghost use Rattle.q3_demo.specs.Player as spec;
 ghost use Rattle.q3_demo.specs.Playing.{Stepped, unplayed, step};
 ghost use Rattle.q3_demo.specs.Records.{longest_record};
 ghost use Rattle.q3_demo.specs.Running.{HasFrom, OnlyAsks, AsksOf, asked_of, ReadCause};
@@ -234,7 +235,7 @@ fn apply(
 /// What a piece counts as after the last record that may be played: anything but the demo's end is refused, and a read fault
 /// stays one.
 fn end_alone(at: u64, piece: Result<Piece, DemoError>) -> Result<Option<Applied>, DemoError>
-    ensures { result ≡ end_alone at piece }
+    ensures { result ≡ spec.end_alone at piece }
 {
     match piece {
         Ok(Piece::End) => Ok(None),

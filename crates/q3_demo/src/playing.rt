@@ -6,7 +6,8 @@ ghost use Rattle.q3_demo.specs.Records.{piece_of};
 ghost use Rattle.q3_demo.specs.Report.{state_text};
 ghost use Rattle.q3_demo.specs.Playing.{most_records, at_most, play_of, play_from, step};
 ghost use Rattle.q3_demo.specs.Running.{HasFrom, OnlyAsks, Plays, ReadCause, WriteCause};
-ghost use Rattle.q3_demo.specs.Steps.{TakesStep, after_limit};
+ghost use Rattle.q3_demo.specs.Steps.{TakesStep};
+ghost use Rattle.q3_demo.specs.Steps as spec;
 
 use crate::error::DemoError;
 use crate::lines::print_record;
@@ -131,7 +132,7 @@ fn end_here<F: Files, O: Sink>(
 
 /// What a refusal counts as after the last record that may be played: a read fault stays one.
 fn after_limit(at: u64, error: DemoError) -> DemoError
-    ensures { result ≡ after_limit at error }
+    ensures { result ≡ spec.after_limit at error }
 {
     match error {
         DemoError::ReadFault => DemoError::ReadFault,

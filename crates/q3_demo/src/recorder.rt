@@ -7,7 +7,8 @@
 ghost use Rattle.std.specs.Prelude.{◌≡◌, ◌<◌, ◌≤◌, ◌+◌, ◌++◌, [], length, take, None, Some, IfOk, option_map};
 ghost use Rattle.q3_io.specs.Faults.{HasCause};
 ghost use Rattle.q3_demo.specs.Records.{longest_record};
-ghost use Rattle.q3_demo.specs.Recording.{composed, game_bits, note_at, closing, record_bytes, is_whole, is_before};
+ghost use Rattle.q3_demo.specs.Recording.{composed, game_bits, note_at, closing, record_bytes};
+ghost use Rattle.q3_demo.specs.Recording as spec;
 ghost use Rattle.q3_demo.specs.Recorder.{new_recorder, most_added, is_waiting, MayNote, AppendsBytes, noted_as, done};
 
 use crate::compose::{compose_game, compose_whole};
@@ -298,14 +299,14 @@ impl Recorder {
 
 /// Whether a snapshot was accepted that is whole.
 fn is_whole(outcome: SnapOutcome) -> bool
-    ensures { result ≡ is_whole outcome }
+    ensures { result ≡ spec.is_whole outcome }
 {
     matches!(outcome, SnapOutcome::Accepted { base: 0 })
 }
 
 /// Whether a snapshot was accepted against one before the first that is recorded.
 fn is_before(first: u32, outcome: SnapOutcome) -> bool
-    ensures { result ≡ is_before first outcome }
+    ensures { result ≡ spec.is_before first outcome }
 {
     match outcome {
         SnapOutcome::Accepted { base } => 0 < base && base < first,

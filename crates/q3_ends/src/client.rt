@@ -3,8 +3,10 @@
 ghost use Rattle.std.specs.Prelude.{◌≡◌, true, Some, is_some, IfOk, IsErr, IsSome, None, OnOk};
 ghost use Rattle.q3_report.specs.Tellings.{answered_of, showing_of};
 ghost use Rattle.q3_demo.specs.Recorder.{done};
-ghost use Rattle.q3_ends.specs.AtClient.{type_text, add_move, showing};
-ghost use Rattle.q3_ends.specs.ClientLine.{client_line, client_named, unjoined, fresh_of, client_after, recording_after, answer_in, acts_in, answer_with};
+ghost use Rattle.q3_ends.specs.AtClient.{showing};
+ghost use Rattle.q3_ends.specs.AtClient as at_client_spec;
+ghost use Rattle.q3_ends.specs.ClientLine.{fresh_of, client_after, recording_after, answer_in, acts_in, answer_with};
+ghost use Rattle.q3_ends.specs.ClientLine as spec;
 ghost use Rattle.q3_ends.specs.Recording.{HasFile, WritesFiles};
 
 use crate::recording::{Recording, begin, stop};
@@ -29,7 +31,7 @@ pub enum LineAnswer {
 
 /// The client that a line names, if it is one of a client's own.
 pub fn client_named(event: &Event) -> Option<u8>
-    ensures { result ≡ client_named event.now }
+    ensures { result ≡ spec.client_named event.now }
 {
     match event {
         Event::TypeText { c, .. } => Some(*c),
@@ -43,8 +45,8 @@ pub fn client_named(event: &Event) -> Option<u8>
 
 /// What is answered to a line of a client's own where there is no such client.
 pub fn unjoined(event: &Event) -> Answer<'_>
-    requires { IsSome (client_named event.now) }
-    ensures { Some (answered_of result) ≡ unjoined event.now }
+    requires { IsSome (spec.client_named event.now) }
+    ensures { Some (answered_of result) ≡ spec.unjoined event.now }
 {
     match event {
         Event::TypeText { c, .. } => Answer::HandedIn(HandedIn::TypeText {
@@ -92,18 +94,18 @@ pub fn client_line<F: Files>(
     number: &mut usize,
     files: &mut F,
 ) -> Result<LineAnswer, Failed>
-    requires line { IsSome (client_named event.now) }
+    requires line { IsSome (spec.client_named event.now) }
     requires fresh { fresh ≡ fresh_of event.now }
     requires file { HasFile (F.told files.old) (F.given files.old) number.old recording.old }
-    ensures client { client.new ≡ client_after client.old (client_line client.old recording.old event.now) }
+    ensures client { client.new ≡ client_after client.old (spec.client_line client.old recording.old event.now) }
     ensures recording { OnOk result (recording.new
-        ≡ recording_after recording.old (client_line client.old recording.old event.now)) }
+        ≡ recording_after recording.old (spec.client_line client.old recording.old event.now)) }
     ensures answer { IfOk result (λ answer. Some (answer_with answer client.new)
-        ≡ answer_in (client_line client.old recording.old event.now)) }
+        ≡ answer_in (spec.client_line client.old recording.old event.now)) }
     ensures files { WritesFiles (F.told files.old) (F.told files.new) (F.given files.old) (F.given files.new)
         (F.faults files.old) (F.faults files.new)
         (F.write_faults files.old) (F.write_faults files.new)
-        (acts_in (client_line client.old recording.old event.now)) (done result) }
+        (acts_in (spec.client_line client.old recording.old event.now)) (done result) }
     ensures file { HasFile (F.told files.new) (F.given files.new) number.new recording.new }
     ensures given_up { IsErr result → recording.new ≡ None }
 {
@@ -141,8 +143,8 @@ pub fn line_answer(client: &Client, answer: LineAnswer) -> Answer<'_>
 
 /// A client issues a command.
 fn type_text(client: &mut Client, c: u8, text: &Text) -> HandedIn
-    ensures client { client.new ≡ (type_text client.old c text.now).client }
-    ensures answer { result ≡ (type_text client.old c text.now).answer }
+    ensures client { client.new ≡ (at_client_spec.type_text client.old c text.now).client }
+    ensures answer { result ≡ (at_client_spec.type_text client.old c text.now).answer }
 {
     match client.type_command(text) {
         Ok(number) => HandedIn::TypeText {
@@ -158,8 +160,8 @@ fn type_text(client: &mut Client, c: u8, text: &Text) -> HandedIn
 
 /// A client issues a move.
 fn add_move(client: &mut Client, c: u8, one: &Move) -> HandedIn
-    ensures client { client.new ≡ (add_move client.old c one.now).client }
-    ensures answer { result ≡ (add_move client.old c one.now).answer }
+    ensures client { client.new ≡ (at_client_spec.add_move client.old c one.now).client }
+    ensures answer { result ≡ (at_client_spec.add_move client.old c one.now).answer }
 {
     match client.add_move(one) {
         Ok(()) => HandedIn::Move { c, outcome: Ok(()) },

@@ -5,7 +5,8 @@ ghost use Rattle.q3_script.specs.Grammar.{IsInRange};
 ghost use Rattle.q3_server.specs.Taking.{take_at};
 ghost use Rattle.q3_report.specs.Tellings.{answered_of};
 ghost use Rattle.q3_report.specs.declared.answer.HandedIn.TheVariants as answers;
-ghost use Rattle.q3_ends.specs.AtServer.{baseline_line, entity_line, remove_line, server_line, stepped_server, taken_by_server};
+ghost use Rattle.q3_ends.specs.AtServer.{baseline_line, entity_line, remove_line, stepped_server, taken_by_server};
+ghost use Rattle.q3_ends.specs.AtServer as spec;
 
 use q3_entity::EntityState;
 use q3_io::Address;
@@ -18,8 +19,8 @@ use q3_server::{Heard, Server};
 #[tactic(auto, unfolding(crate::specs::AtServer::server_line))]
 pub fn server_line(server: &mut Server, event: &Event) -> Option<HandedIn>
     requires { IsInRange event.now }
-    ensures server { server.new ≡ stepped_server server.old (server_line server.old event.now) }
-    ensures answer { result ≡ option_map (λ step. step.answer) (server_line server.old event.now) }
+    ensures server { server.new ≡ stepped_server server.old (spec.server_line server.old event.now) }
+    ensures answer { result ≡ option_map (λ step. step.answer) (spec.server_line server.old event.now) }
 {
     match event {
         Event::Map { id, feed } => Some(HandedIn::Map {

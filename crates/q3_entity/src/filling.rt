@@ -4,7 +4,7 @@
 ghost use Rattle.std.specs.Prelude.{◌≡◌, ◌+◌, ◌<◌, ◌≤◌, ◌++◌, nat_lt, if◌then◌else◌, Ok, Err, IfOk, IfErr, length, take};
 ghost use Rattle.q3_entity.specs.declared.error.EntityError.TheVariants.{Many};
 ghost use Rattle.q3_entity.specs.Entities.{most_entities};
-ghost use Rattle.q3_entity.specs.Walking.{count_after as count_of};
+ghost use Rattle.q3_entity.specs.Walking as spec;
 
 use crate::error::EntityError;
 use crate::reading::Entry;
@@ -19,7 +19,7 @@ pub(crate) fn count_after(
     count: usize,
 ) -> Result<usize, EntityError>
     requires { count ≤ most_entities }
-    ensures { result ≡ count_of count in_base number entry }
+    ensures { result ≡ spec.count_after count in_base number entry }
 {
     match entry {
         Entry::Removed if in_base => Ok(count),

@@ -8,7 +8,8 @@ ghost use Rattle.q3_bits.specs.Streams.{Reads, Writes, holding};
 ghost use Rattle.q3_fields.specs.Kinds.{IsKind};
 ghost use Rattle.q3_fields.specs.States.{normal_words};
 ghost use Rattle.q3_fields.specs.declared.delta.DeltaError.TheVariants.{Bits};
-ghost use Rattle.q3_fields.specs.Deltas.{last_changed, changed_count as changed_of, changed_bits, marked_field_bits, fields_bits, counted_bits, changed_at, marked_field_at, fields_at, words_at};
+ghost use Rattle.q3_fields.specs.Deltas.{last_changed, changed_bits, marked_field_bits, fields_bits, counted_bits, changed_at, marked_field_at, fields_at, words_at};
+ghost use Rattle.q3_fields.specs.Deltas as spec;
 
 use crate::kind::{Kind, norm};
 use crate::reading::{read_entity_field, read_player_field};
@@ -74,7 +75,7 @@ fn normal_word(table: &Table, k: usize, word: u32) -> u32
 
 /// The index of the last field of the table whose words differ, plus one; 0 where all agree.
 pub fn changed_count(table: &Table, from: &[u32; 64], to: &[u32; 64]) -> usize
-    ensures count { result ≡ changed_of table.now.kinds from.now to.now }
+    ensures count { result ≡ spec.changed_count table.now.kinds from.now to.now }
     ensures in_table { result ≤ length table.now.kinds }
     ensures few { result ≤ 64 }
 {

@@ -2,7 +2,7 @@
 
 ghost use Rattle.std.specs.Prelude.{◌≡◌, ◌+◌, ◌*◌, ◌^◌, ◌≤◌, ◌<◌, ◌≤ℤ◌, ℕ, ℤ, pos, neg_ℤ};
 ghost use Rattle.q3_fields.specs.Floats.{exponent_up_to, magnitude, pattern, small_float};
-ghost use Rattle.q3_fields.specs.Texts.{biased, unbiased};
+ghost use Rattle.q3_fields.specs.Texts as spec;
 ghost use Rattle.q3_fields.specs.Laws.{IsSmall};
 
 /// The float pattern of a whole number from -4096 to 4095.
@@ -95,7 +95,7 @@ fn leading_bits(word: u32) -> u32
 /// A whole number from -4096 to 4095 in the 13 bits that carry it.
 pub(crate) fn biased(k: i32) -> u32
     requires { IsSmall k }
-    ensures { result ≡ biased k }
+    ensures { result ≡ spec.biased k }
 {
     (k + 4096) as u32
 }
@@ -103,7 +103,7 @@ pub(crate) fn biased(k: i32) -> u32
 /// The whole number from -4096 to 4095 that 13 bits carry.
 pub(crate) fn unbiased(value: u32) -> i32
     requires { value < 2 ^ 13 }
-    ensures number { result ≡ unbiased value }
+    ensures number { result ≡ spec.unbiased value }
     ensures small { IsSmall result }
 {
     value as i32 - 4096

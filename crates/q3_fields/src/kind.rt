@@ -2,7 +2,8 @@
 
 ghost use Rattle.std.specs.Prelude.{◌≡◌, ◌<◌, ◌≤◌, ◌^◌, ◌%◌};
 ghost use Rattle.q3_fields.specs.declared.kind.Kind.TheVariants.{Float};
-ghost use Rattle.q3_fields.specs.Kinds.{IsKind, sign_extended, norm as norm_of};
+ghost use Rattle.q3_fields.specs.Kinds.{IsKind};
+ghost use Rattle.q3_fields.specs.Kinds as spec;
 
 /// What a field holds, and in how many bits.
 #[derive(Clone, Copy, Debug, PartialEq, Eq)]
@@ -21,7 +22,7 @@ pub enum Kind {
 #[tactic(auto, unfolding(crate::specs::Kinds::norm))]
 pub fn norm(kind: Kind, word: u32) -> u32
     requires { IsKind kind }
-    ensures { result ≡ norm_of kind word }
+    ensures { result ≡ spec.norm kind word }
 {
     match kind {
         Kind::Float => positive_zero(word),
@@ -33,7 +34,7 @@ pub fn norm(kind: Kind, word: u32) -> u32
 /// A float's pattern, with 0 for a negative zero.
 #[tactic(auto, unfolding(crate::specs::Kinds::norm))]
 pub(crate) fn positive_zero(word: u32) -> u32
-    ensures { result ≡ norm_of Float word }
+    ensures { result ≡ spec.norm Float word }
 {
     if word == 1 << 31 { 0 } else { word }
 }
@@ -54,7 +55,7 @@ fn cut(word: u32, width: u8) -> u32
 pub(crate) fn sign_extended(word: u32, width: u8) -> u32
     requires some { 1 ≤ width }
     requires most { width ≤ 24 }
-    ensures { result ≡ sign_extended width word }
+    ensures { result ≡ spec.sign_extended width word }
 {
     let low = word % (1 << width);
     if low < 1 << (width - 1) {

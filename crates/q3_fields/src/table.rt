@@ -1,7 +1,8 @@
 //! Tables of fields. Keeps the rule "field tables", the engine's `entityStateFields` and `playerStateFields`.
 
 ghost use Rattle.std.specs.Prelude.{◌≡◌, ◌<◌, ◌≤◌, length, slice_get, Some, IfOk, IfSome};
-ghost use Rattle.q3_fields.specs.Kinds.{HasNumberBits, IsKind, IsTable, kind_of, table_of, numbered_table, end_mark, least_number_bits, most_number_bits, least_end, most_end};
+ghost use Rattle.q3_fields.specs.Kinds.{HasNumberBits, IsKind, IsTable, table_of, numbered_table, end_mark, least_number_bits, most_number_bits, least_end, most_end};
+ghost use Rattle.q3_fields.specs.Kinds as spec;
 
 use crate::kind::Kind;
 use std::marker::Model;
@@ -144,7 +145,7 @@ impl Table {
 
 /// The kind that a width says.
 fn kind_of(width: i64) -> Option<Kind>
-    ensures kind { result ≡ kind_of width }
+    ensures kind { result ≡ spec.kind_of width }
     ensures allowed { IfSome result IsKind }
 {
     match width {

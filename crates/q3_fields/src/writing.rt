@@ -6,7 +6,8 @@ ghost use Rattle.q3_bits.specs.Words.{field_bits};
 ghost use Rattle.q3_bits.specs.Streams.{Writes};
 ghost use Rattle.q3_fields.specs.Kinds.{IsKind};
 ghost use Rattle.q3_fields.specs.Floats.{small_float};
-ghost use Rattle.q3_fields.specs.Texts.{biased, float_bits, player_field, entity_field};
+ghost use Rattle.q3_fields.specs.Texts.{float_bits, player_field, entity_field};
+ghost use Rattle.q3_fields.specs.Texts as spec;
 
 use crate::float::{biased, small_of};
 use crate::kind::{Kind, norm};
@@ -89,7 +90,7 @@ fn write_float(w: &mut Writer, mark: u32, count: u32, word: u32) -> Result<(), O
 
 /// The 13 bits that carry a small float.
 fn carried_in_13(word: u32) -> Option<u32>
-    ensures { result ≡ option_map biased (small_float word) }
+    ensures { result ≡ option_map spec.biased (small_float word) }
 {
     match small_of(word) {
         None => None,

@@ -5,7 +5,8 @@ ghost use Rattle.std.specs.Prelude.{◌≡◌, ◌+◌, ◌^◌, ◌<◌, ◌≤
 ghost use Rattle.q3_entity.specs.Entities.{Rises, run_of};
 ghost use Rattle.q3_entity_ring.specs.Places.{no_places};
 ghost use Rattle.q3_entity_ring.specs.Ring.{PlacesOnce};
-ghost use Rattle.q3_frames.specs.Frames.{no_frames, is_near, base_of, build_at};
+ghost use Rattle.q3_frames.specs.Frames.{no_frames, base_of, build_at};
+ghost use Rattle.q3_frames.specs.Frames as spec;
 
 use q3_entity::{EntityState, Run};
 use q3_entity_ring::{Places, Ring, laws};
@@ -146,7 +147,7 @@ fn place_or_share(ring: &mut Ring, entities: &[EntityState], fresh: bool) -> u64
 
 /// Whether the frame of a number may be the base of a message, by the numbers.
 fn is_near(number: u32, base: u32) -> bool
-    ensures { result ≡ is_near number base }
+    ensures { result ≡ spec.is_near number base }
 {
     0 < base && base < number && number - base < DISTANCE_END
 }

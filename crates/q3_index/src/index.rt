@@ -7,9 +7,11 @@ ghost use Rattle.q3_demo.specs.Playing.{Played, Stepped, records_of, step, play_
 ghost use Rattle.q3_demo.specs.Running.{OnlyAsks, AsksOf, asked_of};
 ghost use Rattle.q3_bits.specs.ResultBind.{fault_as};
 ghost use Rattle.q3_index.specs.Text.{spacing};
-ghost use Rattle.q3_index.specs.Seeking.{restored, greatest, start_at, seek_at, bytes_between};
+ghost use Rattle.q3_index.specs.Seeking.{restored, start_at, seek_at, bytes_between};
+ghost use Rattle.q3_index.specs.Seeking as spec;
 ghost use Rattle.q3_index.specs.Running.{Seeks, SeekCause, RefusesDemo, AsksOfTwo, IsMade, PlaysSo};
-ghost use Rattle.q3_index.specs.Steps.{Answers, IsPlaced, saved_at, played_by, play_one, refused_as};
+ghost use Rattle.q3_index.specs.Steps.{Answers, IsPlaced, saved_at, played_by, play_one};
+ghost use Rattle.q3_index.specs.Steps as steps_spec;
 
 use crate::error::SeekError;
 use crate::laws;
@@ -163,7 +165,7 @@ impl Index {
 
     /// The greatest checkpoint at or below so many records.
     fn greatest(&self, number: u32) -> Option<Checkpoint>
-        ensures is { result ≡ greatest self.now.checkpoints number }
+        ensures is { result ≡ spec.greatest self.now.checkpoints number }
         ensures placed { IfSome result IsPlaced }
     {
         if number < SPACING {
@@ -295,7 +297,7 @@ fn play_next<F: Files>(player: &mut Player, files: &mut F, demo: usize) -> Resul
 
 /// What a refusal counts as: a read fault stays one, and else the demo is refused.
 fn refused_as(error: DemoError) -> SeekError
-    ensures { result ≡ refused_as error }
+    ensures { result ≡ steps_spec.refused_as error }
 {
     match error {
         DemoError::ReadFault => SeekError::ReadFault,

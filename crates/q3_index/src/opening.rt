@@ -7,7 +7,8 @@ ghost use Rattle.q3_demo.specs.Running.{OnlyAsks, AsksOf};
 ghost use Rattle.q3_index.specs.Text.{spacing};
 ghost use Rattle.q3_index.specs.Opening.{version_at, width_at, head_after, head_at, checkpoints_of, open_at};
 ghost use Rattle.q3_index.specs.Running.{Opens, OpenCause};
-ghost use Rattle.q3_index.specs.Steps.{ArePlaced, IsPlaced, Reads, from_place, value_of, head_size, numbers_at, checkpoint_at, least_of, read_to};
+ghost use Rattle.q3_index.specs.Steps.{ArePlaced, IsPlaced, Reads, from_place, value_of, numbers_at, checkpoint_at, least_of, read_to};
+ghost use Rattle.q3_index.specs.Steps as spec;
 
 use crate::error::IndexError;
 use crate::index::{Checkpoint, Index, SPACING};
@@ -42,11 +43,11 @@ pub enum Version {
 
 impl Version {
     ghost use Rattle.std.specs.Prelude.{◌≡◌};
-    ghost use Rattle.q3_index.specs.Steps.{head_size};
+    ghost use Rattle.q3_index.specs.Steps as spec;
 
     /// How many bytes the head has.
     fn head_size(self) -> usize
-        ensures { result ≡ head_size self }
+        ensures { result ≡ spec.head_size self }
     {
         match self {
             Version::First => HEAD_BYTES - 1,
@@ -124,7 +125,7 @@ pub fn open_index<F: Files>(
 fn read_head<F: Files>(files: &mut F, index: usize, end: u64) -> Result<Head, IndexError>
     requires index { index < F.given files.old }
     ensures reads { (told : Told) → F.told files.old ≡ Some told → end ≡ length (contents_at told index)
-        → Reads (λ head. (head, from_place (contents_at told index) (head_size head.version)))
+        → Reads (λ head. (head, from_place (contents_at told index) (spec.head_size head.version)))
         (head_at (from_place (contents_at told index) 0)) result }
     ensures count { IfOk result (λ head. head.count ≡ head.records / spacing) }
     ensures given { F.given files.new ≡ F.given files.old }
@@ -209,7 +210,7 @@ fn read_checkpoints<F: Files>(
     requires count { head.count ≡ head.records / spacing }
     ensures reads { (told : Told) → F.told files.old ≡ Some told → end ≡ length (contents_at told index)
         → Reads (λ checkpoints. checkpoints.items) (checkpoints_of head
-        (from_place (contents_at told index) (head_size head.version))) result }
+        (from_place (contents_at told index) (spec.head_size head.version))) result }
     ensures placed { IfOk result (λ checkpoints. ArePlaced checkpoints.items) }
     ensures given { F.given files.new ≡ F.given files.old }
     ensures asks { OnlyAsks (F.told files.old) (F.told files.new) }

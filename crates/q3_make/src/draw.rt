@@ -2,7 +2,8 @@
 
 ghost use Rattle.std.specs.Prelude.{◌≡◌, ◌+◌, ◌<◌, ◌≤◌, ◌++◌, length, decimal, All, IfOk};
 ghost use Rattle.q3_text.specs.Texts.{IsTextByte};
-ghost use Rattle.q3_make.specs.Generated.{draw, entity_with, player_with, walking, time_at, made_by, entity_line, remove_line, player_line, say_line, type_line, move_line, serve_line, send_line, deliver_line, config_line, line_of, drawn_line};
+ghost use Rattle.q3_make.specs.Generated.{walking};
+ghost use Rattle.q3_make.specs.Generated as spec;
 
 use arrayvec::ArrayVec;
 use itoa::Buffer;
@@ -24,7 +25,7 @@ const MOST_BYTES: usize = 64;
 #[tactic(auto, unfolding(crate::specs::Generated::draw))]
 fn draw(generator: &mut Lcg64Xsh32, n: u32) -> u32
     requires { 0 < n }
-    ensures value { (result, generator.new) ≡ draw n generator.old }
+    ensures value { (result, generator.new) ≡ spec.draw n generator.old }
     ensures below { result < n }
 {
     generator.next_word() % n
@@ -33,7 +34,7 @@ fn draw(generator: &mut Lcg64Xsh32, n: u32) -> u32
 /// An entity with one word.
 pub(crate) fn entity_with(number: u16, place: usize, word: u32) -> EntityState
     requires { place < 64 }
-    ensures { result ≡ entity_with number place word }
+    ensures { result ≡ spec.entity_with number place word }
 {
     let mut state = EntityState::zero(number);
     state.words[place] = word;
@@ -43,7 +44,7 @@ pub(crate) fn entity_with(number: u16, place: usize, word: u32) -> EntityState
 /// A player with one word and one stat.
 fn player_with(place: usize, word: u32, stat: usize, value: u8) -> PlayerState
     requires { (place < 64) × (stat < 16) }
-    ensures { result ≡ player_with place word stat value }
+    ensures { result ≡ spec.player_with place word stat value }
 {
     let mut player = PlayerState::zero();
     player.words[place] = word;
@@ -76,14 +77,14 @@ fn text_with(word: &[u8], number: u32) -> Text
 /// The server's time at a drawn line.
 fn time_at(i: u32) -> u32
     requires { i ≤ 65000 }
-    ensures { result ≡ time_at i }
+    ensures { result ≡ spec.time_at i }
 {
     1_000 + 10 * i
 }
 
 /// An entity with one word.
 fn entity_line(alloc: Global, generator: &mut Lcg64Xsh32) -> Result<Event, NoMemory>
-    ensures { IfOk result (λ event. (event, generator.new) ≡ entity_line generator.old) }
+    ensures { IfOk result (λ event. (event, generator.new) ≡ spec.entity_line generator.old) }
 {
     let number = 1 + draw(generator, 200);
     let place = draw(generator, 4);
@@ -95,7 +96,7 @@ fn entity_line(alloc: Global, generator: &mut Lcg64Xsh32) -> Result<Event, NoMem
 
 /// An entity that is gone.
 fn remove_line(generator: &mut Lcg64Xsh32) -> Event
-    ensures { (result, generator.new) ≡ remove_line generator.old }
+    ensures { (result, generator.new) ≡ spec.remove_line generator.old }
 {
     Event::Remove {
         number: (1 + draw(generator, 200)) as u16,
@@ -104,14 +105,14 @@ fn remove_line(generator: &mut Lcg64Xsh32) -> Event
 
 /// A client.
 fn draw_client(generator: &mut Lcg64Xsh32) -> u8
-    ensures value { (result, generator.new) ≡ draw 4 generator.old }
+    ensures value { (result, generator.new) ≡ spec.draw 4 generator.old }
 {
     draw(generator, 4) as u8
 }
 
 /// A player with one word and one stat.
 fn player_line(alloc: Global, generator: &mut Lcg64Xsh32) -> Result<Event, NoMemory>
-    ensures { IfOk result (λ event. (event, generator.new) ≡ player_line generator.old) }
+    ensures { IfOk result (λ event. (event, generator.new) ≡ spec.player_line generator.old) }
 {
     let c = draw_client(generator);
     let place = draw(generator, 4);
@@ -127,7 +128,7 @@ fn player_line(alloc: Global, generator: &mut Lcg64Xsh32) -> Result<Event, NoMem
 
 /// A command to a client.
 fn say_line(alloc: Global, i: u32, generator: &mut Lcg64Xsh32) -> Result<Event, NoMemory>
-    ensures { IfOk result (λ event. (event, generator.new) ≡ say_line i generator.old) }
+    ensures { IfOk result (λ event. (event, generator.new) ≡ spec.say_line i generator.old) }
 {
     Ok(Event::Say {
         c: draw_client(generator),
@@ -137,7 +138,7 @@ fn say_line(alloc: Global, i: u32, generator: &mut Lcg64Xsh32) -> Result<Event, 
 
 /// A command of a client.
 fn type_line(alloc: Global, i: u32, generator: &mut Lcg64Xsh32) -> Result<Event, NoMemory>
-    ensures { IfOk result (λ event. (event, generator.new) ≡ type_line i generator.old) }
+    ensures { IfOk result (λ event. (event, generator.new) ≡ spec.type_line i generator.old) }
 {
     Ok(Event::TypeText {
         c: draw_client(generator),
@@ -148,7 +149,7 @@ fn type_line(alloc: Global, i: u32, generator: &mut Lcg64Xsh32) -> Result<Event,
 /// A move of a client.
 fn move_line(i: u32, generator: &mut Lcg64Xsh32) -> Event
     requires { i ≤ 65000 }
-    ensures { (result, generator.new) ≡ move_line i generator.old }
+    ensures { (result, generator.new) ≡ spec.move_line i generator.old }
 {
     let c = draw_client(generator);
     let pitch = draw(generator, 65_536) as u16;
@@ -176,7 +177,7 @@ fn walks(time: u32, angles: [u16; 3], forward: u8, buttons: u16) -> Move
 
 /// A datagram from the server.
 fn serve_line(generator: &mut Lcg64Xsh32) -> Event
-    ensures { (result, generator.new) ≡ serve_line generator.old }
+    ensures { (result, generator.new) ≡ spec.serve_line generator.old }
 {
     Event::Serve {
         c: draw_client(generator),
@@ -185,7 +186,7 @@ fn serve_line(generator: &mut Lcg64Xsh32) -> Event
 
 /// A datagram from a client.
 fn send_line(generator: &mut Lcg64Xsh32) -> Event
-    ensures { (result, generator.new) ≡ send_line generator.old }
+    ensures { (result, generator.new) ≡ spec.send_line generator.old }
 {
     Event::Send {
         c: draw_client(generator),
@@ -195,7 +196,7 @@ fn send_line(generator: &mut Lcg64Xsh32) -> Event
 /// One of the last 24 datagrams arrives.
 fn deliver_line(made: u32, generator: &mut Lcg64Xsh32) -> Event
     requires { 0 < made }
-    ensures { (result, generator.new) ≡ deliver_line made generator.old }
+    ensures { (result, generator.new) ≡ spec.deliver_line made generator.old }
 {
     let back = draw(generator, made.min(24));
     Event::Deliver {
@@ -205,7 +206,7 @@ fn deliver_line(made: u32, generator: &mut Lcg64Xsh32) -> Event
 
 /// A config string changes.
 fn config_line(alloc: Global, i: u32, generator: &mut Lcg64Xsh32) -> Result<Event, NoMemory>
-    ensures { IfOk result (λ event. (event, generator.new) ≡ config_line i generator.old) }
+    ensures { IfOk result (λ event. (event, generator.new) ≡ spec.config_line i generator.old) }
 {
     Ok(Event::Config {
         index: 2 + draw(generator, 40),
@@ -223,7 +224,7 @@ fn line_of(
 ) -> Result<Event, NoMemory>
     requires line { i ≤ 65000 }
     requires some { 0 < made }
-    ensures { IfOk result (λ event. (event, generator.new) ≡ line_of kind i made generator.old) }
+    ensures { IfOk result (λ event. (event, generator.new) ≡ spec.line_of kind i made generator.old) }
 {
     match kind {
         0..=1 => entity_line(alloc, generator),
@@ -250,7 +251,7 @@ pub(crate) fn drawn_line(
 ) -> Result<Event, NoMemory>
     requires line { i ≤ 65000 }
     requires some { 0 < made }
-    ensures { IfOk result (λ event. (event, generator.new) ≡ drawn_line i made generator.old) }
+    ensures { IfOk result (λ event. (event, generator.new) ≡ spec.drawn_line i made generator.old) }
 {
     let kind = draw(generator, 18);
     line_of(alloc, kind, i, made, generator)
@@ -258,7 +259,7 @@ pub(crate) fn drawn_line(
 
 /// How many datagrams a line makes.
 pub(crate) fn made_by(event: &Event) -> u32
-    ensures { result ≡ made_by event.now }
+    ensures { result ≡ spec.made_by event.now }
 {
     match event {
         Event::Serve { .. } | Event::Send { .. } => 1,

@@ -2,7 +2,8 @@
 
 ghost use Rattle.std.specs.Prelude.{◌≡◌, ℕ, ◌∷◌, ◌+◌, ◌<◌, ◌≤◌, ◌++◌, IfOk};
 ghost use Rattle.q3_script.specs.Grammar.{IsReplayEvent};
-ghost use Rattle.q3_make.specs.Generated.{generator_of, made_by, drawn_line, opening, rest_of, generated};
+ghost use Rattle.q3_make.specs.Generated.{generator_of, opening, rest_of, generated};
+ghost use Rattle.q3_make.specs.Generated as spec;
 
 use crate::draw::{drawn_line, made_by};
 use q3_bits::NoMemory;
@@ -51,10 +52,10 @@ impl Drawn {
     /// Draws the next line. `Err` is want of memory; what is drawn after it is no line of the script.
     pub fn next(&mut self, alloc: Global) -> Result<Event, NoMemory>
         requires few { self.old.drawn < 65000 }
-        ensures line { IfOk result (λ event. (event, self.new.generator) ≡ drawn_line
+        ensures line { IfOk result (λ event. (event, self.new.generator) ≡ spec.drawn_line
             (self.old.drawn + 1) self.old.made self.old.generator) }
         ensures drawn { IfOk result (λ event. self.new.drawn ≡ self.old.drawn + 1) }
-        ensures made { IfOk result (λ event. self.new.made ≡ self.old.made + made_by event) }
+        ensures made { IfOk result (λ event. self.new.made ≡ self.old.made + spec.made_by event) }
         ensures rest { IfOk result (λ event. (left : ℕ) → rest_of
             (left + 1) self.old ≡ event ∷ rest_of left self.new) }
         ensures of_replay { IfOk result IsReplayEvent }

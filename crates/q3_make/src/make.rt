@@ -5,7 +5,8 @@ ghost use Rattle.std.specs.List.{flat_map, range_with_len};
 ghost use Rattle.q3_script.specs.Grammar.{IsReplayEvent};
 ghost use Rattle.q3_script.specs.Script.{longest_script, most_events};
 ghost use Rattle.q3_make.specs.Printed.{script_text};
-ghost use Rattle.q3_make.specs.Generated.{entity_with as state_with, joins as joined, still as standing, first_turns, last_turn, last_turns, opening, closing, rest_of, generated};
+ghost use Rattle.q3_make.specs.Generated.{first_turns, last_turn, last_turns, opening, closing, rest_of, generated};
+ghost use Rattle.q3_make.specs.Generated as spec;
 
 use crate::draw::entity_with;
 use crate::drawn::Drawn;
@@ -82,7 +83,7 @@ fn push_opening(alloc: Global, events: &mut Vec<Event>) -> Result<(), NoMemory>
 
 /// Four clients join.
 fn push_clients(events: &mut Vec<Event>) -> Result<(), NoMemory>
-    ensures { IfOk result (λ _. events.new.items ≡ events.old.items ++ map joined (range_with_len 0 4)) }
+    ensures { IfOk result (λ _. events.new.items ≡ events.old.items ++ map spec.joins (range_with_len 0 4)) }
 {
     for c in 0..4 {
         events.push(joins(c))?;
@@ -93,7 +94,7 @@ fn push_clients(events: &mut Vec<Event>) -> Result<(), NoMemory>
 /// The client of a number joins.
 fn joins(c: u8) -> Event
     requires { c ≤ 3 }
-    ensures { result ≡ joined c }
+    ensures { result ≡ spec.joins c }
 {
     Event::Client {
         c,
@@ -109,7 +110,7 @@ fn joins(c: u8) -> Event
 
 /// Forty baselines.
 fn push_baselines(alloc: Global, events: &mut Vec<Event>) -> Result<(), NoMemory>
-    ensures { IfOk result (λ _. events.new.items ≡ events.old.items ++ map (λ n. Event.Baseline (state_with n 1 n))
+    ensures { IfOk result (λ _. events.new.items ≡ events.old.items ++ map (λ n. Event.Baseline (spec.entity_with n 1 n))
         (range_with_len 1 40)) }
 {
     for k in 0..40 {
@@ -122,7 +123,7 @@ fn push_baselines(alloc: Global, events: &mut Vec<Event>) -> Result<(), NoMemory
 
 /// Forty entities.
 fn push_entities(alloc: Global, events: &mut Vec<Event>) -> Result<(), NoMemory>
-    ensures { IfOk result (λ _. events.new.items ≡ events.old.items ++ map (λ n. Event.Entity (state_with n 1 n))
+    ensures { IfOk result (λ _. events.new.items ≡ events.old.items ++ map (λ n. Event.Entity (spec.entity_with n 1 n))
         (range_with_len 1 40)) }
 {
     for k in 0..40 {
@@ -166,7 +167,7 @@ fn push_first(c: u8, made: u32, events: &mut Vec<Event>) -> Result<(), NoMemory>
 
 /// The move of a player who stands still.
 fn still(time: u32) -> Move
-    ensures { result ≡ standing time }
+    ensures { result ≡ spec.still time }
 {
     let mut one = Move::none();
     one.time = time;

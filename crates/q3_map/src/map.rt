@@ -7,7 +7,8 @@ ghost use Rattle.arrayvec.specs.ArrayVec.{array_vec_len};
 ghost use Rattle.q3_config.specs.Strings.{admit_fault, no_strings, with_string};
 ghost use Rattle.q3_fields.specs.Kinds.{Layout, end_mark};
 ghost use Rattle.q3_entity.specs.Entities.{IsList, RiseFrom, Rises, most_entities};
-ghost use Rattle.q3_map.specs.Map.{no_map, id_text, new_map_at, is_other, set_baseline_at, with_config, begins_game, set_time_at, set_entity_at, remove_entity_at};
+ghost use Rattle.q3_map.specs.Map.{no_map, id_text, new_map_at, set_baseline_at, with_config, begins_game, set_time_at, set_entity_at, remove_entity_at};
+ghost use Rattle.q3_map.specs.Map as spec;
 
 use crate::entities::{drop_entity, front, put_entity};
 use arrayvec::ArrayVec;
@@ -117,7 +118,7 @@ impl Map {
 
     /// Whether an id is another than the map's. Before the first map each is.
     pub fn is_other(&self, id: u32) -> bool
-        ensures { result ≡ is_other self.now id }
+        ensures { result ≡ spec.is_other self.now id }
     {
         self.id == 0 || id != self.id
     }

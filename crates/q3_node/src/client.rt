@@ -3,10 +3,11 @@
 ghost use Rattle.std.specs.Prelude.{◌≡◌, ◌≤◌, IfOk, IsSome};
 ghost use Rattle.q3_profile.specs.Profile.{IsProfile};
 ghost use Rattle.q3_client.specs.Client.{new_client};
-ghost use Rattle.q3_ends.specs.ClientLine.{client_line, client_named};
+ghost use Rattle.q3_ends.specs.ClientLine as lines_spec;
 ghost use Rattle.q3_ends.specs.Recording.{HasFile};
 ghost use Rattle.q3_node.specs.Running.{effects, DoesLine, WireCause, WriteCause, FileCause};
-ghost use Rattle.q3_node.specs.AtClient.{client_rules, client_of, new_end, send, own_done, finish, is_address};
+ghost use Rattle.q3_node.specs.AtClient.{client_rules, client_of, new_end, own_done};
+ghost use Rattle.q3_node.specs.AtClient as spec;
 
 use crate::end::{End, hand_over, tell, tell_line};
 use crate::error::NodeError;
@@ -48,7 +49,7 @@ impl Model for ClientEnd {
 
 /// Whether two addresses are one.
 fn is_address(one: Address, other: Address) -> bool
-    ensures { result ≡ is_address one other }
+    ensures { result ≡ spec.is_address one other }
 {
     one.host == other.host && one.port == other.port
 }
@@ -125,7 +126,7 @@ impl ClientEnd {
         requires bound { W.bound wire.old ≡ true }
         ensures bound { W.bound wire.new ≡ true }
         ensures recording { self.new.recording ≡ self.old.recording }
-        ensures does { (told : Option Told) → DoesLine (send self.old c number) self.new
+        ensures does { (told : Option Told) → DoesLine (spec.send self.old c number) self.new
             (effects (O.written out.old) (W.told wire.old) told)
             (effects (O.written out.new) (W.told wire.new) told) result }
         ensures flushed { OnOk result (NothingWaits (O.written out.new)) }
@@ -152,10 +153,11 @@ impl ClientEnd {
         files: &mut F,
         out: &mut O,
     ) -> Result<bool, NodeError>
-        requires line { IsSome (client_named event.now) }
+        requires line { IsSome (lines_spec.client_named event.now) }
         requires file { HasFile (F.told files.old) (F.given files.old) file.old self.old.recording }
         ensures does { (wire : Option Traffic)
-            → DoesLine (own_done self.old event.now (client_line self.old.client self.old.recording event.now)) self.new
+            → DoesLine (own_done self.old event.now
+            (lines_spec.client_line self.old.client self.old.recording event.now)) self.new
             (effects (O.written out.old) wire (F.told files.old))
             (effects (O.written out.new) wire (F.told files.new)) result }
         ensures file { OnOk result (HasFile (F.told files.new) (F.given files.new) file.new self.new.recording) }
@@ -183,7 +185,7 @@ impl ClientEnd {
     /// Ends the recording, if one goes on, with the node's own end.
     fn finish<F: Files>(&mut self, file: usize, files: &mut F) -> Result<bool, NodeError>
         requires file { HasFile (F.told files.old) (F.given files.old) file self.old.recording }
-        ensures does { (written : Option Written) (wire : Option Traffic) → DoesLine (finish self.old) self.new
+        ensures does { (written : Option Written) (wire : Option Traffic) → DoesLine (spec.finish self.old) self.new
             (effects written wire (F.told files.old)) (effects written wire (F.told files.new)) result }
         ensures none { self.new.recording ≡ None }
         ensures wire_cause { (faults : ℕ) → WireCause faults faults result }

@@ -4,7 +4,8 @@ ghost use Rattle.std.specs.Prelude.{◌≡◌, None, IfOk};
 ghost use Rattle.q3_profile.specs.Profile.{IsProfile};
 ghost use Rattle.q3_server.specs.Server.{places, new_server};
 ghost use Rattle.q3_node.specs.Running.{effects, DoesLine, WireCause, WriteCause, FileCause};
-ghost use Rattle.q3_node.specs.AtServer.{server_rules, serve, game_done};
+ghost use Rattle.q3_node.specs.AtServer.{server_rules, game_done};
+ghost use Rattle.q3_node.specs.AtServer as spec;
 
 use crate::end::{End, hand_over, tell, tell_line};
 use crate::error::NodeError;
@@ -41,7 +42,7 @@ impl ServerEnd {
     ghost use Rattle.q3_io.specs.Traffic.{Traffic};
     ghost use Rattle.q3_io.specs.Written.{NothingWaits};
     ghost use Rattle.q3_script.specs.Grammar.{IsInRange};
-    ghost use Rattle.q3_ends.specs.AtServer.{server_line};
+    ghost use Rattle.q3_ends.specs.AtServer as at_server_spec;
 
     /// A server by this profile, with no client. `Err` is want of memory.
     pub(crate) fn new(alloc: Global, profile: &Profile) -> Result<ServerEnd, NoMemory>
@@ -64,7 +65,7 @@ impl ServerEnd {
     ) -> Result<bool, NodeError>
         requires bound { W.bound wire.old ≡ true }
         ensures bound { W.bound wire.new ≡ true }
-        ensures does { (told : Option Told) → DoesLine (serve self.old c number) self.new
+        ensures does { (told : Option Told) → DoesLine (spec.serve self.old c number) self.new
             (effects (O.written out.old) (W.told wire.old) told)
             (effects (O.written out.new) (W.told wire.new) told) result }
         ensures flushed { OnOk result (NothingWaits (O.written out.new)) }
@@ -87,7 +88,7 @@ impl ServerEnd {
     fn game_line<O: Sink>(&mut self, event: &Event, out: &mut O) -> Result<bool, NodeError>
         requires event { IsInRange event.now }
         ensures does { (wire : Option Traffic) (told : Option Told)
-            → DoesLine (game_done self.old (server_line self.old event.now)) self.new
+            → DoesLine (game_done self.old (at_server_spec.server_line self.old event.now)) self.new
             (effects (O.written out.old) wire told) (effects (O.written out.new) wire told) result }
         ensures flushed { NothingWaits (O.written out.old) → OnOk result (NothingWaits (O.written out.new)) }
         ensures wire_cause { (faults : ℕ) → WireCause faults faults result }

@@ -7,7 +7,8 @@ ghost use Rattle.q3_script.specs.declared.event.Event.{Event as EventValue};
 ghost use Rattle.q3_script.specs.Grammar.{IsInRange};
 ghost use Rattle.q3_script.specs.Script.{most_events};
 ghost use Rattle.q3_node.specs.declared.turns.Course.{Course as CourseValue};
-ghost use Rattle.q3_node.specs.Node.{receive_room, due_at, time_after, is_end, start_at, due, line_turn, receive_turn, new_node};
+ghost use Rattle.q3_node.specs.Node.{receive_room, start_at, due, line_turn, receive_turn, new_node};
+ghost use Rattle.q3_node.specs.Node as spec;
 ghost use Rattle.q3_ends.specs.Recording.{HasFile};
 ghost use Rattle.q3_node.specs.Running.{effects, DoesTurn, TakesTurn, RanNode, StaysFlushed, node_of, IsOn, WireCause, WriteCause, FileCause};
 
@@ -78,7 +79,7 @@ impl Course {
         requires few { (self.old.next < most_events) × (self.old.made < most_events) }
         ensures { self.new ≡ record self.old {
           next = self.old.next + 1;
-          time = time_after self.old.time event.now;
+          time = spec.time_after self.old.time event.now;
           made = if made then self.old.made + 1 else self.old.made;
         } }
     {
@@ -92,7 +93,7 @@ impl Course {
 
 /// When a line is due that comes after this time.
 fn due_at(time: u32, event: &Event) -> u32
-    ensures { result ≡ due_at time event.now }
+    ensures { result ≡ spec.due_at time event.now }
 {
     match event {
         Event::End { ms } => *ms,
@@ -102,7 +103,7 @@ fn due_at(time: u32, event: &Event) -> u32
 
 /// The time after a line.
 fn time_after(time: u32, event: &Event) -> u32
-    ensures { result ≡ time_after time event.now }
+    ensures { result ≡ spec.time_after time event.now }
 {
     match event {
         Event::At { ms } => *ms,
@@ -112,7 +113,7 @@ fn time_after(time: u32, event: &Event) -> u32
 
 /// Whether a line is `end`.
 fn is_end(event: &Event) -> bool
-    ensures { result ≡ is_end event.now }
+    ensures { result ≡ spec.is_end event.now }
 {
     matches!(event, Event::End { .. })
 }

@@ -5,8 +5,10 @@ ghost use Rattle.std.specs.Option.{is_some};
 ghost use Rattle.toml.specs.Data.{as_integer, as_str, get_member};
 ghost use Rattle.toml.specs.View.{table_view};
 ghost use Rattle.q3_profile.specs.declared.error.ProfileError.TheVariants as errors;
-ghost use Rattle.q3_profile.specs.Document.{document_of, key_name, value_at, integer_at, array_at};
-ghost use Rattle.q3_profile.specs.Seen.{seen, seen_items, items_at, Gives};
+ghost use Rattle.q3_profile.specs.Document.{document_of, key_name, array_at};
+ghost use Rattle.q3_profile.specs.Document as spec;
+ghost use Rattle.q3_profile.specs.Seen.{seen, seen_items, Gives};
+ghost use Rattle.q3_profile.specs.Seen as seen_spec;
 ghost use Rattle.q3_bits.specs.CodeWords.{texts_of};
 ghost use Rattle.toml.specs.View.{items_view, array_view};
 
@@ -43,7 +45,7 @@ pub(crate) fn has(document: &Table, key: Key) -> bool
 
 /// What stands under a key.
 fn value_at<'a>(document: &'a Table, key: Key) -> Result<&'a Value, ProfileError>
-    ensures { seen result ≡ value_at key (table_view document.now) }
+    ensures { seen result ≡ spec.value_at key (table_view document.now) }
 {
     match document.get(key.name()) {
         Some(value) => Ok(value),
@@ -54,7 +56,7 @@ fn value_at<'a>(document: &'a Table, key: Key) -> Result<&'a Value, ProfileError
 /// The integer under a key.
 #[tactic(auto, unfolding(crate::specs::Document::integer_at))]
 pub(crate) fn integer_at(document: &Table, key: Key) -> Result<i64, ProfileError>
-    ensures { result ≡ integer_at key (table_view document.now) }
+    ensures { result ≡ spec.integer_at key (table_view document.now) }
 {
     match value_at(document, key)?.as_integer() {
         Some(number) => Ok(number),
@@ -64,7 +66,7 @@ pub(crate) fn integer_at(document: &Table, key: Key) -> Result<i64, ProfileError
 
 /// The items of an array under a key.
 fn items_at<'a>(document: &'a Table, key: Key) -> Result<&'a [Value], ProfileError>
-    ensures { seen_items result ≡ items_at key (table_view document.now) }
+    ensures { seen_items result ≡ seen_spec.items_at key (table_view document.now) }
 {
     match value_at(document, key)?.as_array() {
         Some(items) => Ok(items.as_slice()),

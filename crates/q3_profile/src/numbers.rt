@@ -4,7 +4,8 @@
 ghost use Rattle.std.specs.Prelude.{◌≡◌, ◌&&◌, nat_le, IfOk};
 ghost use Rattle.toml.specs.View.{table_view};
 ghost use Rattle.q3_profile.specs.declared.error.Key.TheVariants as keys;
-ghost use Rattle.q3_profile.specs.Profile.{number_at, number_or, is_protocol, is_server_ring, is_parse_ring, is_entity_bits};
+ghost use Rattle.q3_profile.specs.Profile.{number_or, is_protocol, is_server_ring, is_parse_ring, is_entity_bits};
+ghost use Rattle.q3_profile.specs.Profile as spec;
 ghost use Rattle.q3_fields.specs.Kinds.{HasNumberBits, least_number_bits};
 
 use crate::document::{has, integer_at};
@@ -14,7 +15,7 @@ use toml::Table;
 
 /// The number under a key, which is `least` to `most`.
 fn number_at(document: &Table, key: Key, least: u32, most: u32) -> Result<u32, ProfileError>
-    ensures { result ≡ number_at key (λ n. nat_le least n && nat_le n most) (table_view document.now) }
+    ensures { result ≡ spec.number_at key (λ n. nat_le least n && nat_le n most) (table_view document.now) }
 {
     let number = integer_at(document, key)?;
     match u32::try_from(number) {
@@ -25,7 +26,7 @@ fn number_at(document: &Table, key: Key, least: u32, most: u32) -> Result<u32, P
 
 /// The protocol: 68 or 71.
 pub(crate) fn protocol_at(document: &Table) -> Result<u32, ProfileError>
-    ensures { result ≡ number_at keys.Protocol is_protocol (table_view document.now) }
+    ensures { result ≡ spec.number_at keys.Protocol is_protocol (table_view document.now) }
 {
     let number = number_at(document, Key::Protocol, 68, 71)?;
     if number != 68 && number != 71 {
@@ -36,14 +37,14 @@ pub(crate) fn protocol_at(document: &Table) -> Result<u32, ProfileError>
 
 /// How many entities the server's ring has room for.
 pub(crate) fn server_ring_at(document: &Table) -> Result<u32, ProfileError>
-    ensures { result ≡ number_at keys.ServerRing is_server_ring (table_view document.now) }
+    ensures { result ≡ spec.number_at keys.ServerRing is_server_ring (table_view document.now) }
 {
     number_at(document, Key::ServerRing, 256, 262_144)
 }
 
 /// How many entities a client's ring has room for: a power of two.
 pub(crate) fn parse_ring_at(document: &Table) -> Result<u32, ProfileError>
-    ensures { result ≡ number_at keys.ParseRing is_parse_ring (table_view document.now) }
+    ensures { result ≡ spec.number_at keys.ParseRing is_parse_ring (table_view document.now) }
 {
     let number = number_at(document, Key::ParseRing, 512, 65_536)?;
     if !number.is_power_of_two() {

@@ -8,7 +8,8 @@ ghost use Rattle.q3_profile.specs.declared.error.Key.TheVariants as keys;
 ghost use Rattle.q3_profile.specs.declared.error.ProfileError.TheVariants as errors;
 ghost use Rattle.q3_fields.specs.Kinds.{HasNumberBits};
 ghost use Rattle.q3_profile.specs.Document.{array_at};
-ghost use Rattle.q3_profile.specs.Profile.{checked, profile_at, table_at, code_of, IsProfile};
+ghost use Rattle.q3_profile.specs.Profile.{checked, IsProfile};
+ghost use Rattle.q3_profile.specs.Profile as spec;
 ghost use Rattle.q3_profile.specs.Laws.{NamesRule};
 ghost use Rattle.q3_profile.specs.Seen.{Gives};
 
@@ -46,7 +47,7 @@ pub fn read_profile(alloc: Global, bytes: &[u8]) -> Result<Profile, ProfileError
 /// The profile of a document, whose file has this mark.
 #[tactic(auto, unfolding(crate::specs::Profile::profile_at))]
 fn profile_at(alloc: Global, document: &toml::Table, mark: u64) -> Result<Profile, ProfileError>
-    ensures exact { Gives (λ profile. profile) result (profile_at mark (table_view document.now)) }
+    ensures exact { Gives (λ profile. profile) result (spec.profile_at mark (table_view document.now)) }
     ensures is_profile { IfOk result IsProfile }
 {
     let protocol = protocol_at(document)?;
@@ -76,7 +77,7 @@ fn table_at(
     bits: u8,
 ) -> Result<Table, ProfileError>
     requires bits { HasNumberBits bits }
-    ensures exact { Gives (λ table. table) result (table_at key bits (table_view document.now)) }
+    ensures exact { Gives (λ table. table) result (spec.table_at key bits (table_view document.now)) }
 {
     let widths = integers_at(alloc, document, key)?;
     match Table::numbered(&widths, bits) {
@@ -88,7 +89,7 @@ fn table_at(
 
 /// The code of these texts.
 fn code_of(alloc: Global, texts: &[&str]) -> Result<Code, ProfileError>
-    ensures exact { Gives (λ code. code) result (code_of (texts_of texts.now)) }
+    ensures exact { Gives (λ code. code) result (spec.code_of (texts_of texts.now)) }
 {
     match Code::from_words(alloc, texts) {
         Ok(code) => Ok(code),

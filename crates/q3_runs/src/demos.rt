@@ -6,7 +6,8 @@ ghost use Rattle.q3_io.specs.Told.{Creates};
 ghost use Rattle.q3_profile.specs.Profile.{IsCodec};
 ghost use Rattle.q3_demo.specs.Report.{state_text};
 ghost use Rattle.q3_index.specs.Text.{spacing};
-ghost use Rattle.q3_runs.specs.Faults.{build_fault, ReadCause, WriteCause, FileCause};
+ghost use Rattle.q3_runs.specs.Faults.{ReadCause, WriteCause, FileCause};
+ghost use Rattle.q3_runs.specs.Faults as spec;
 ghost use Rattle.q3_runs.specs.Input.{as_told};
 ghost use Rattle.q3_runs.specs.Verdict.{IsPlayVerdict, IsIndexVerdict, IsSeekVerdict, indexed_text};
 ghost use Rattle.q3_runs.specs.Run.{SeekEndsWithPlayedState, SeekAsksFromCheckpoint, Executes, LeavesFiles, PrintsAll};
@@ -75,7 +76,7 @@ pub fn index<F: Files, O: Sink>(
 
 /// Why no index was made: what can't be written is its file.
 fn build_fault(e: DemoError) -> Fault
-    ensures { result ≡ build_fault e }
+    ensures { result ≡ spec.build_fault e }
 {
     match e {
         DemoError::WriteFault => Fault::FileWrite,

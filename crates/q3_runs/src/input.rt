@@ -8,7 +8,8 @@ ghost use Rattle.q3_profile.specs.Profile.{IsProfile, checked, longest_profile};
 ghost use Rattle.q3_script.specs.Grammar.{IsEventOf, AreOrdered};
 ghost use Rattle.q3_script.specs.Script.{most_events};
 ghost use Rattle.q3_runs.specs.Faults.{ReadCause};
-ghost use Rattle.q3_runs.specs.Input.{ReadsFile, ReadsPieces, Finds, Gives, AsksOfName, as_told, with_items, may_begin_table, document_memory, most_memory};
+ghost use Rattle.q3_runs.specs.Input.{ReadsFile, ReadsPieces, Finds, Gives, AsksOfName, as_told, with_items, document_memory, most_memory};
+ghost use Rattle.q3_runs.specs.Input as spec;
 ghost use Rattle.q3_runs.specs.Verdict.{GetsFrom, profile_in, events_in, with_events};
 
 use crate::fault::Fault;
@@ -58,7 +59,7 @@ fn parse_profile(alloc: Global, bytes: &[u8]) -> Result<Profile, ProfileError>
 
 /// Whether a byte may begin a table.
 fn may_begin_table(byte: u8) -> bool
-    ensures { result ≡ may_begin_table byte }
+    ensures { result ≡ spec.may_begin_table byte }
 {
     byte == b'.' || byte == b'[' || byte == b'{'
 }

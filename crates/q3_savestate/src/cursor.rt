@@ -4,7 +4,8 @@ ghost use Rattle.std.specs.Prelude.{◌≡◌, ◌+◌, ◌<◌, ◌^◌, true, 
 ghost use Rattle.std.specs.List.{list_all};
 ghost use Rattle.std.specs.Result.{result_map_both};
 ghost use Rattle.q3_fields.specs.Kinds.{IsKind};
-ghost use Rattle.q3_savestate.specs.Cursor.{found, field_at, number_at, is_text_byte, text_at, end_at};
+ghost use Rattle.q3_savestate.specs.Cursor.{found, field_at, number_at, text_at, end_at};
+ghost use Rattle.q3_savestate.specs.Cursor as spec;
 ghost use Rattle.q3_savestate.specs.Entities.{word_at};
 
 use byteorder::{ByteOrder, LittleEndian};
@@ -148,14 +149,14 @@ impl<'a> Cursor<'a> {
 
 /// Whether a text may hold these bytes.
 fn are_text_bytes(bytes: &[u8]) -> bool
-    ensures { result ≡ list_all is_text_byte bytes.now }
+    ensures { result ≡ list_all spec.is_text_byte bytes.now }
 {
     bytes.iter().all(|byte| is_text_byte(*byte))
 }
 
 /// Whether a text may hold a byte.
 fn is_text_byte(byte: u8) -> bool
-    ensures { result ≡ is_text_byte byte }
+    ensures { result ≡ spec.is_text_byte byte }
 {
     matches!(byte, 1..=127) && byte != b'%'
 }

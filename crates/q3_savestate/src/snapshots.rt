@@ -14,7 +14,8 @@ ghost use Rattle.q3_savestate.specs.Reading.{as_field, found_with, placed_in, le
 ghost use Rattle.q3_io.specs.Faults.{HasCause};
 ghost use Rattle.q3_io.specs.Written.{Adds};
 ghost use Rattle.q3_savestate.specs.Cursor.{found, found_in};
-ghost use Rattle.q3_savestate.specs.Snapshots.{shorts_bytes, player_bytes, head_bytes, snapshot_bytes, snapshots_bytes, numbers_at, shorts_at, player_at, head_at, slot_at, most_of, snapshot_at, snapshots_at};
+ghost use Rattle.q3_savestate.specs.Snapshots.{shorts_bytes, player_bytes, head_bytes, snapshot_bytes, snapshots_bytes, numbers_at, shorts_at, player_at, head_at, slot_at, snapshot_at, snapshots_at};
+ghost use Rattle.q3_savestate.specs.Snapshots as spec;
 
 use crate::cursor::Cursor;
 use crate::entities::{read_entity, read_words, write_entity, write_words};
@@ -261,7 +262,7 @@ fn read_slot(cursor: &mut Cursor, newest: u32, left: u8, rings: &Rings) -> Resul
 /// How many entities a snapshot of an age may have: none where they are gone.
 fn most_of(profile: &Profile, age: u32) -> u16
     requires { 512 ≤ profile.now.parse_ring }
-    ensures { result ≡ most_of profile.now.parse_ring age }
+    ensures { result ≡ spec.most_of profile.now.parse_ring age }
 {
     if age <= profile.parse_ring - MOST_ENTITIES {
         age.min(MOST_ENTITIES) as u16

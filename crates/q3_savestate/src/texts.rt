@@ -5,7 +5,8 @@ ghost use Rattle.q3_io.specs.Faults.{HasCause};
 ghost use Rattle.q3_io.specs.Written.{Adds};
 ghost use Rattle.q3_config.specs.Strings.{AreStrings, places, longest_string};
 ghost use Rattle.q3_savestate.specs.Cursor.{found_in};
-ghost use Rattle.q3_savestate.specs.Texts.{set_strings, string_bytes, room_in, strings_bytes, strings_after, strings_at, pending_bytes, pending_at};
+ghost use Rattle.q3_savestate.specs.Texts.{set_strings, string_bytes, strings_bytes, strings_after, strings_at, pending_bytes, pending_at};
+ghost use Rattle.q3_savestate.specs.Texts as spec;
 
 use crate::cursor::Cursor;
 use crate::writing::{write_byte, write_long, write_short};
@@ -97,7 +98,7 @@ fn read_string(cursor: &mut Cursor, least: u16, configs: &mut Configs) -> Result
 
 /// How long one more string may be.
 fn room_in(configs: &Configs) -> u16
-    ensures room { result ≡ room_in configs.now.texts }
+    ensures room { result ≡ spec.room_in configs.now.texts }
     ensures strings { AreStrings configs.now }
 {
     let room = MOST_SIZE.saturating_sub(configs.size() + 1);

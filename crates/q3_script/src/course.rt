@@ -2,7 +2,8 @@
 
 ghost use Rattle.std.specs.Prelude.{◌≡◌};
 ghost use Rattle.std.specs.Result.{result_map_both};
-ghost use Rattle.q3_script.specs.Script.{no_course, timed, node_after, is_of, first_after, client_course_after, course_after, is_complete};
+ghost use Rattle.q3_script.specs.Script.{no_course, timed, node_after, first_after, client_course_after, course_after};
+ghost use Rattle.q3_script.specs.Script as spec;
 
 use crate::cause::ScriptKind;
 use crate::event::Event;
@@ -28,7 +29,7 @@ impl Model for Course {
 
 /// Whether a line after `client` is of that client.
 fn is_of(c: u8, event: &Event) -> bool
-    ensures { result ≡ is_of c event.now }
+    ensures { result ≡ spec.is_of c event.now }
 {
     match event {
         Event::Client { .. } => false,
@@ -118,7 +119,7 @@ impl Course {
 
     /// Whether a script of a kind may end here.
     pub(crate) fn is_complete(&self, kind: ScriptKind) -> bool
-        ensures { result ≡ is_complete kind self.now }
+        ensures { result ≡ spec.is_complete kind self.now }
     {
         match kind {
             ScriptKind::Replay => true,

@@ -3,7 +3,8 @@
 ghost use Rattle.std.specs.Prelude.{◌≡◌, ◌≤◌, ◌∷◌, IfOk};
 ghost use Rattle.q3_words.specs.Words.{words_of, words_left};
 ghost use Rattle.q3_words.specs.Numbers.{last_client, last_entity};
-ghost use Rattle.q3_script.specs.Lines.{only_number, client_line, port_line, map_line, entity_line, remove_line, baseline_line, player_line, area_line, time_line, config_at, config_line, command_at, say_line, type_line, serve_line, send_line, deliver_line, record_at, record_line, stop_line, show_line, bytes_line, hand_at, toclient_line, toserver_line, at_line, end_line, turn_lines, line_in, line_at};
+ghost use Rattle.q3_script.specs.Lines.{client_line, port_line, map_line, entity_line, remove_line, baseline_line, player_line, area_line, time_line, config_at, config_line, command_at, say_line, type_line, send_line, deliver_line, record_at, record_line, stop_line, show_line, bytes_line, hand_at, toclient_line, toserver_line, at_line, end_line, turn_lines, line_in, line_at};
+ghost use Rattle.q3_script.specs.Lines as spec;
 
 use crate::cause::ScriptKind;
 use crate::event::Event;
@@ -27,7 +28,7 @@ const LAST_DATAGRAM: u32 = 65_536;
 /// The only word, a number from `low` to `high`.
 #[tactic(auto, using(crate::proofs::Steps::only_steps))]
 fn only_number(left: &[u8], low: u32, high: u32) -> Result<u32, LineCause>
-    ensures value { result ≡ only_number low high (words_left left.now) }
+    ensures value { result ≡ spec.only_number low high (words_left left.now) }
     ensures within { IfOk result (λ n. (low ≤ n) × (n ≤ high)) }
 {
     let word = only_word(left).ok_or(LineCause::Count)?;
@@ -37,7 +38,7 @@ fn only_number(left: &[u8], low: u32, high: u32) -> Result<u32, LineCause>
 /// The only word, the number of a client.
 #[tactic(auto, using(crate::proofs::Steps::only_steps))]
 fn only_client(left: &[u8]) -> Result<u8, LineCause>
-    ensures { result ≡ only_number 0 last_client (words_left left.now) }
+    ensures { result ≡ spec.only_number 0 last_client (words_left left.now) }
 {
     let word = only_word(left).ok_or(LineCause::Count)?;
     client_word(word)
@@ -46,7 +47,7 @@ fn only_client(left: &[u8]) -> Result<u8, LineCause>
 /// The only word, the number of an entity.
 #[tactic(auto, using(crate::proofs::Steps::only_steps))]
 fn only_entity(left: &[u8]) -> Result<u16, LineCause>
-    ensures { result ≡ only_number 0 last_entity (words_left left.now) }
+    ensures { result ≡ spec.only_number 0 last_entity (words_left left.now) }
 {
     let word = only_word(left).ok_or(LineCause::Count)?;
     entity_word(word)
@@ -262,7 +263,7 @@ fn type_text(alloc: Global, left: &[u8]) -> Result<Result<Event, LineCause>, NoM
 
 #[tactic(auto, unfolding(crate::specs::Lines::serve_line))]
 fn serve(left: &[u8]) -> Result<Event, LineCause>
-    ensures { result ≡ serve_line (words_left left.now) }
+    ensures { result ≡ spec.serve_line (words_left left.now) }
 {
     Ok(Event::Serve {
         c: only_client(left)?,

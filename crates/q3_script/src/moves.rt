@@ -2,8 +2,9 @@
 
 ghost use Rattle.std.specs.Prelude.{◌≡◌, ◌≤◌, pos, neg_ℤ};
 ghost use Rattle.q3_words.specs.Words.{words_left};
-ghost use Rattle.q3_words.specs.Numbers.{number_word};
-ghost use Rattle.q3_script.specs.Lines.{signed_byte_word, angles_at, steps_at, move_with, move_line};
+ghost use Rattle.q3_words.specs.Numbers as numbers_spec;
+ghost use Rattle.q3_script.specs.Lines.{signed_byte_word, angles_at, steps_at, move_with};
+ghost use Rattle.q3_script.specs.Lines as spec;
 
 use crate::event::Event;
 use q3_clmsg::Move;
@@ -32,7 +33,7 @@ fn signed_byte(word: &[u8]) -> Result<i8, LineCause>
 
 /// A number of 16 bits: an angle, or the buttons.
 fn short(word: &[u8]) -> Result<u16, LineCause>
-    ensures { result ≡ number_word 0 65535 word.now }
+    ensures { result ≡ numbers_spec.number_word 0 65535 word.now }
 {
     Ok(number_word(word, 0, 65_535)? as u16)
 }
@@ -70,7 +71,7 @@ fn one_move(time: u32, angles: [u16; 3], steps: (i8, i8, i8), buttons: u16, weap
 /// The move that the words that are left spell.
 #[tactic(auto, using(crate::proofs::Steps::move_steps))]
 pub fn move_line(left: &[u8]) -> Result<Event, LineCause>
-    ensures { result ≡ move_line (words_left left.now) }
+    ensures { result ≡ spec.move_line (words_left left.now) }
 {
     let (c, time, pitch, left) = next_three(left).ok_or(LineCause::Count)?;
     let (yaw, roll, forward, left) = next_three(left).ok_or(LineCause::Count)?;

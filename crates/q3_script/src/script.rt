@@ -2,7 +2,8 @@
 
 ghost use Rattle.std.specs.Prelude.{◌≡◌, ◌+◌, ◌≤◌, List, length, All, IfOk};
 ghost use Rattle.q3_script.specs.declared.event.Event.{Event as EventValue};
-ghost use Rattle.q3_script.specs.Script.{longest_script, lines_of, is_passed_over, event_at, no_course, line_after, events_from, script_at, with_items, Reads};
+ghost use Rattle.q3_script.specs.Script.{longest_script, lines_of, is_passed_over, event_at, no_course, events_from, script_at, with_items, Reads};
+ghost use Rattle.q3_script.specs.Script as spec;
 ghost use Rattle.q3_script.specs.Grammar.{IsEventOf, SpellsScript};
 
 use crate::cause::{ScriptError, ScriptKind};
@@ -44,7 +45,7 @@ fn event_of(
 /// The number after that of the last line, of so many pieces between newlines: a last piece that is empty is no line.
 fn line_after(bytes: &[u8], pieces: u32) -> u32
     requires few { pieces ≤ longest_script + 1 }
-    ensures { pieces ≡ length (lines_of bytes.now) → result ≡ line_after bytes.now }
+    ensures { pieces ≡ length (lines_of bytes.now) → result ≡ spec.line_after bytes.now }
 {
     if bytes.is_empty() || bytes.ends_with(b"\n") {
         pieces
@@ -56,7 +57,7 @@ fn line_after(bytes: &[u8], pieces: u32) -> u32
 /// The events of all lines, up to the first bad one.
 fn events(alloc: Global, kind: ScriptKind, bytes: &[u8]) -> Result<Vec<Event>, ScriptError>
     requires { length bytes.now ≤ longest_script }
-    ensures { Reads (with_items result) (events_from kind (line_after bytes.now) 1 0 no_course
+    ensures { Reads (with_items result) (events_from kind (spec.line_after bytes.now) 1 0 no_course
         (lines_of bytes.now)) }
 {
     let mut events = Vec::new(alloc);

@@ -13,7 +13,8 @@ ghost use Rattle.q3_slot.specs.Slot.{is_of};
 ghost use Rattle.q3_slot.specs.Slots.{HoldLists};
 ghost use Rattle.q3_chan.specs.Datagrams.{longest_message};
 ghost use Rattle.q3_server.specs.Standing.{BeginsBuilt, IsServer};
-ghost use Rattle.q3_server.specs.Server.{places, new_server, add_client_at, new_map_at, set_time_at, set_entity_at, remove_entity_at, set_baseline_at, refused_for, set_config_at, set_player_at, set_area_at, set_delayed_at, sending_at, say_at, emit_at, slot_at};
+ghost use Rattle.q3_server.specs.Server.{places, new_server, add_client_at, new_map_at, set_time_at, set_entity_at, remove_entity_at, set_baseline_at, set_config_at, set_player_at, set_area_at, set_delayed_at, sending_at, say_at, emit_at, slot_at};
+ghost use Rattle.q3_server.specs.Server as spec;
 ghost use Rattle.q3_server.specs.Taking.{take_at};
 
 use crate::laws;
@@ -432,7 +433,7 @@ fn of_parts(slots: Vec<Slot>, shared: Shared, said: ClientMessage, whole: Vec<u8
 
 /// Why a config string can't be changed, where a change of it may not go out.
 fn refused_for(error: ConfigError) -> ConfigRefused
-    ensures { result ≡ refused_for error }
+    ensures { result ≡ spec.refused_for error }
 {
     match error {
         ConfigError::Index => ConfigRefused::Index,

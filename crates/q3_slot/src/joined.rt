@@ -18,9 +18,10 @@ ghost use Rattle.q3_window.specs.Incoming.{executes, fresh_of};
 ghost use Rattle.q3_window.specs.Outgoing.{OutgoingState, acknowledge_at, new_outgoing};
 ghost use Rattle.q3_slot.specs.declared.stage.ClientStage.TheVariants.{Connected, Primed, Active};
 ghost use Rattle.q3_slot.specs.Emitting.{next_snapshot, snapshot_flags};
-ghost use Rattle.q3_slot.specs.Slot.{asked};
+ghost use Rattle.q3_slot.specs.Slot as slot_spec;
 ghost use Rattle.q3_slot.specs.Slots.{slot_of, slot_with, came_of, goes_with, played};
-ghost use Rattle.q3_slot.specs.Taking.{asks_game, delta_after, ignores, is_after_game, last_run_of, leading_of, nothing_heard, run_read, runs, said_by};
+ghost use Rattle.q3_slot.specs.Taking.{ignores, last_run_of, leading_of, nothing_heard, run_read, runs, said_by};
+ghost use Rattle.q3_slot.specs.Taking as spec;
 
 use crate::stage::ClientStage;
 use crate::taking::{
@@ -231,21 +232,21 @@ impl Joined {
 
     /// Whether a gamestate is owed after a message of another map.
     fn owes_after(&self, map: &Map, heads: Heads) -> bool
-        ensures { result ≡ (self.now.owed || asks_game map.now (slot_with new_outgoing self.now) (leading_of heads)) }
+        ensures { result ≡ (self.now.owed || spec.asks_game map.now (slot_with new_outgoing self.now) (leading_of heads)) }
     {
         self.owed || self.asks_game(map, heads)
     }
 
     /// Whether a message of another map makes a gamestate owed.
     fn asks_game(&self, map: &Map, heads: Heads) -> bool
-        ensures { result ≡ asks_game map.now (slot_with new_outgoing self.now) (leading_of heads) }
+        ensures { result ≡ spec.asks_game map.now (slot_with new_outgoing self.now) (leading_of heads) }
     {
         map.has_map() && !self.stage.is_active() && self.is_after_game(heads.acknowledged)
     }
 
     /// Whether a message number is above that of the last gamestate of the map, if one was begun.
     fn is_after_game(&self, number: u32) -> bool
-        ensures { result ≡ is_after_game number self.now.game }
+        ensures { result ≡ spec.is_after_game number self.now.game }
     {
         match self.game {
             Some(game) => game < number,
@@ -324,7 +325,7 @@ impl Joined {
     fn go_on(&mut self, message: &ClientMessage, heard: &mut Heard)
         requires no_moves { heard.old.moves.items ≡ [] }
         ensures client { self.new ≡ record self.old {
-          delta = delta_after self.old.delta (said_of message.now);
+          delta = spec.delta_after self.old.delta (said_of message.now);
           last_run = last_run_of self.old.last_run (said_of message.now).moves;
         } }
         ensures moves { heard.new.moves.items ≡ runs self.old.last_run (said_of message.now).moves }
@@ -373,7 +374,7 @@ impl Joined {
     /// The number of the snapshot against which the next one may be written, 0 for none: the one that the client asks for, as
     /// long as it plays.
     pub fn asked(&self) -> u32
-        ensures { result ≡ asked (slot_with new_outgoing self.now) }
+        ensures { result ≡ slot_spec.asked (slot_with new_outgoing self.now) }
     {
         if self.stage.is_active() {
             self.delta

@@ -12,9 +12,11 @@ ghost use Rattle.q3_entity.specs.Entities.{RiseFrom};
 ghost use Rattle.q3_config.specs.Strings.{is_config_byte, places};
 ghost use Rattle.q3_config.specs.Laws.{piece_texts};
 ghost use Rattle.q3_window.specs.Outgoing.{fits, total_of, with_texts};
-ghost use Rattle.q3_slot.specs.Slot.{SlotState, is_of, new_slot, on_new_map, sending_of, with_area, with_delayed, with_player};
+ghost use Rattle.q3_slot.specs.Slot.{SlotState, new_slot, sending_of, with_area, with_delayed, with_player};
+ghost use Rattle.q3_slot.specs.Slot as spec;
 ghost use Rattle.q3_slot.specs.Standing.{IsSlot};
-ghost use Rattle.q3_slot.specs.Slots.{HoldLists, game_for, given, changes_own, slot_saying, said_of_slot, lacks_places, lacks_room, tells, slot_after, map_after, frames_after, answer_of, piece_of, slot_after_datagram, answer_to, heard_of};
+ghost use Rattle.q3_slot.specs.Slots.{HoldLists, game_for, given, slot_saying, said_of_slot, lacks_places, tells, slot_after, map_after, frames_after, answer_of, piece_of, slot_after_datagram, answer_to, heard_of};
+ghost use Rattle.q3_slot.specs.Slots as slots_spec;
 ghost use Rattle.q3_slot.specs.Taking.{nothing_heard};
 
 use crate::answer::{Emitted, NoClient, SayError};
@@ -93,7 +95,7 @@ impl Slot {
 
     /// Whether the client has this host and qport.
     pub fn is_of(&self, host: u32, qport: u16) -> bool
-        ensures { result ≡ is_of host qport self.now }
+        ensures { result ≡ spec.is_of host qport self.now }
     {
         match &self.client {
             Some(client) => client.address.host == host && client.qport == qport,
@@ -182,7 +184,7 @@ impl Slot {
     /// A new map begins: the client is connected to it, and of the last one stays alone the time of the last move run, and
     /// whether snapshots are delayed.
     pub fn on_new_map(&mut self)
-        ensures { self.new ≡ option_map on_new_map self.old }
+        ensures { self.new ≡ option_map spec.on_new_map self.old }
     {
         let Some(client) = &mut self.client else {
             return;
@@ -231,7 +233,7 @@ impl Slot {
     pub fn tell(&mut self, index: u32, text: &[u8])
         requires index { index < places }
         requires chars { All (λ byte. IsTrue (is_config_byte byte)) text.now }
-        requires room { lacks_room (piece_texts index text.now) self.old ≡ false }
+        requires room { slots_spec.lacks_room (piece_texts index text.now) self.old ≡ false }
         ensures { self.new ≡ option_map (tells (piece_texts index text.now)) self.old }
     {
         let Some(client) = &self.client else {
@@ -370,7 +372,7 @@ impl Slot {
 
 /// Whether a command's text would change config string 1, the server's own.
 fn changes_own(text: &Text) -> bool
-    ensures { result ≡ changes_own text.now }
+    ensures { result ≡ slots_spec.changes_own text.now }
 {
     match shape(text) {
         Some(index) => index == SYSTEM_INFO,

@@ -2,7 +2,7 @@
 //! `clientState_t` (server.h).
 
 ghost use Rattle.std.specs.Prelude.{◌≡◌};
-ghost use Rattle.q3_slot.specs.Slot.{is_active, is_connected};
+ghost use Rattle.q3_slot.specs.Slot as spec;
 
 /// How far a client came.
 ///
@@ -28,7 +28,7 @@ pub enum ClientStage {
 impl ClientStage {
     /// Whether the client plays.
     pub fn is_active(self) -> bool
-        ensures { result ≡ is_active self }
+        ensures { result ≡ spec.is_active self }
     {
         match self {
             ClientStage::Active => true,
@@ -38,7 +38,7 @@ impl ClientStage {
 
     /// Whether no gamestate of the map was begun for it.
     pub fn is_connected(self) -> bool
-        ensures { result ≡ is_connected self }
+        ensures { result ≡ spec.is_connected self }
     {
         match self {
             ClientStage::Connected => true,

@@ -11,7 +11,8 @@ ghost use Rattle.q3_clmsg.specs.Values.{said_of};
 ghost use Rattle.q3_window.specs.Incoming.{executes, fresh_of, gap_in};
 ghost use Rattle.q3_window.specs.Outgoing.{acknowledge_at, issued_of};
 ghost use Rattle.q3_slot.specs.Slots.{came_of};
-ghost use Rattle.q3_slot.specs.Taking.{ack_taken, came_under, said_under, with_heads, delta_after, runs, last_run_of, nothing_heard};
+ghost use Rattle.q3_slot.specs.Taking.{ack_taken, came_under, said_under, with_heads, runs, last_run_of, nothing_heard};
+ghost use Rattle.q3_slot.specs.Taking as spec;
 
 use arrayvec::ArrayVec;
 use q3_bits::NoMemory;
@@ -208,7 +209,7 @@ pub(crate) fn run_moves(last: u32, moves: &[Move], into: &mut ArrayVec<Move, MOS
 /// The number of the snapshot that a client asks for after a message: the one that its message acknowledges, or 0; a message
 /// without moves doesn't say.
 pub(crate) fn delta_after(before: u32, message: &ClientMessage) -> u32
-    ensures { result ≡ delta_after before (said_of message.now) }
+    ensures { result ≡ spec.delta_after before (said_of message.now) }
 {
     if message.moves.is_empty() {
         return before;

@@ -1,7 +1,7 @@
 //! Why a message isn't legible, as reports print it: a word, and for some causes a number after it.
 
 ghost use Rattle.std.specs.Prelude.{◌≡◌};
-ghost use Rattle.q3_svmsg.specs.Report.{player_word, entity_word, cause_word, cause_number};
+ghost use Rattle.q3_svmsg.specs.Report as spec;
 
 use crate::error::Illegible;
 use q3_bits::bits_word;
@@ -9,7 +9,7 @@ use q3_entity::EntityError;
 use q3_player::PlayerError;
 
 fn player_word(e: PlayerError) -> &'static [u8]
-    ensures { result.now ≡ player_word e }
+    ensures { result.now ≡ spec.player_word e }
 {
     match e {
         PlayerError::Bits(e) => bits_word(e),
@@ -18,7 +18,7 @@ fn player_word(e: PlayerError) -> &'static [u8]
 }
 
 fn entity_word(e: EntityError) -> &'static [u8]
-    ensures { result.now ≡ entity_word e }
+    ensures { result.now ≡ spec.entity_word e }
 {
     match e {
         EntityError::Bits(e) => bits_word(e),
@@ -31,7 +31,7 @@ fn entity_word(e: EntityError) -> &'static [u8]
 
 /// The word of a cause.
 pub fn cause_word(cause: Illegible) -> &'static [u8]
-    ensures { result.now ≡ cause_word cause }
+    ensures { result.now ≡ spec.cause_word cause }
 {
     match cause {
         Illegible::Bits(e) => bits_word(e),
@@ -49,7 +49,7 @@ pub fn cause_word(cause: Illegible) -> &'static [u8]
 
 /// The number that is printed after the word of a cause.
 pub fn cause_number(cause: Illegible) -> Option<u32>
-    ensures { result ≡ cause_number cause }
+    ensures { result ≡ spec.cause_number cause }
 {
     match cause {
         Illegible::BadOp(byte) => Some(u32::from(byte)),

@@ -1,7 +1,8 @@
 //! The calls of an object, some of which are made to fail.
 
 ghost use Rattle.std.specs.Prelude.{◌≡◌, [], IfOk};
-ghost use Rattle.q3_testio.specs.MemoryCalls.{next_fails, after_call};
+ghost use Rattle.q3_testio.specs.MemoryCalls.{after_call};
+ghost use Rattle.q3_testio.specs.MemoryCalls as spec;
 
 use q3_io::NoMemory;
 use std::alloc::Global;
@@ -35,7 +36,7 @@ impl Calls {
 
     /// Counts the next call, and answers whether it is one of those that fail.
     pub fn next_fails(&mut self) -> bool
-        ensures answer { result ≡ next_fails self.old }
+        ensures answer { result ≡ spec.next_fails self.old }
         ensures whole { self.new ≡ after_call self.old }
     {
         self.made = self.made.saturating_add(1);

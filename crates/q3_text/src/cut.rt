@@ -1,12 +1,12 @@
 //! Texts that are cut at a byte: this project's own.
 
 ghost use Rattle.std.specs.Prelude.{◌≡◌, ◌==◌, ◌≤◌, length, position, option_map, IfSome};
-ghost use Rattle.q3_text.specs.Cuts.{cut_at};
+ghost use Rattle.q3_text.specs.Cuts as spec;
 
 /// What stands before and after the first such byte. `None` where there is none.
 #[tactic(auto, unfolding(crate::specs::Cuts::cut_at))]
 pub fn cut_at(text: &[u8], byte: u8) -> Option<(&[u8], &[u8])>
-    ensures cut { option_map (λ parts. (parts.0.now, parts.1.now)) result ≡ cut_at byte text.now }
+    ensures cut { option_map (λ parts. (parts.0.now, parts.1.now)) result ≡ spec.cut_at byte text.now }
     ensures before { IfSome result (λ parts. length parts.0.now ≤ length text.now) }
     ensures after { IfSome result (λ parts. length parts.1.now ≤ length text.now) }
 {

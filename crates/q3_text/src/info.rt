@@ -2,7 +2,8 @@
 //! Keeps the rule "info strings and the server id", the engine's `Info_ValueForKey` (q_shared.c).
 
 ghost use Rattle.std.specs.Prelude.{◌≡◌, ◌<◌, ◌∷◌, length, option_map, IfSome};
-ghost use Rattle.q3_text.specs.Info.{after_backslash, parts_of, parts_after, info_of};
+ghost use Rattle.q3_text.specs.Info.{parts_of, parts_after, info_of};
+ghost use Rattle.q3_text.specs.Info as spec;
 
 use crate::cut::place_of;
 
@@ -25,7 +26,7 @@ pub fn info_value<'a>(text: &'a [u8], key: &[u8]) -> Option<&'a [u8]>
 
 /// The text without the backslash that it may begin with.
 fn after_backslash(text: &[u8]) -> &[u8]
-    ensures { result.now ≡ after_backslash text.now }
+    ensures { result.now ≡ spec.after_backslash text.now }
 {
     match text {
         [b'\\', rest @ ..] => rest,

@@ -2,7 +2,8 @@
 //! numbers", the engine's `SV_ClientCommand` (sv_client.c) and `CL_ParseCommandString` (cl_parse.c).
 
 ghost use Rattle.std.specs.Prelude.{◌≡◌, [], ◌≤◌, length};
-ghost use Rattle.q3_window.specs.Incoming.{new_incoming, take_at, take_any_at, jump_at, fresh_of, gap_in, executes};
+ghost use Rattle.q3_window.specs.Incoming.{new_incoming, take_at, take_any_at, jump_at, fresh_of, executes};
+ghost use Rattle.q3_window.specs.Incoming as spec;
 
 use q3_text::{Command, Commands, Text};
 use std::marker::Model;
@@ -105,7 +106,7 @@ impl Incoming {
 
     /// The number of the first command that leaves a gap, where these come in their order.
     pub fn gap_in(&self, commands: &[Command]) -> Option<u32>
-        ensures { result ≡ gap_in self.now.executed commands.now }
+        ensures { result ≡ spec.gap_in self.now.executed commands.now }
     {
         first_gap(self.executed, commands)
     }
@@ -132,7 +133,7 @@ impl Incoming {
 }
 
 fn first_gap(executed: u32, commands: &[Command]) -> Option<u32>
-    ensures { result ≡ gap_in executed commands.now }
+    ensures { result ≡ spec.gap_in executed commands.now }
 {
     let mut reached = executed;
     for command in commands {

@@ -5,7 +5,8 @@
 ghost use Rattle.std.specs.Prelude.{◌≡◌, ℕ, ◌+◌, ◌-◌, ◌%◌, ◌^◌, ◌<◌, ◌≤◌, ◌⊎◌, length, nat_le, slice_set, IfOk};
 ghost use Rattle.q3_text.specs.Texts.{IsText};
 ghost use Rattle.q3_text.specs.Commands.{commands_of};
-ghost use Rattle.q3_window.specs.Outgoing.{most_waiting, most_text, last_number, IsOutgoing, new_outgoing, issued_of, fits, issue_at, text_at, acknowledge_at, carried, total_of};
+ghost use Rattle.q3_window.specs.Outgoing.{most_waiting, most_text, last_number, IsOutgoing, new_outgoing, issued_of, issue_at, text_at, acknowledge_at, carried, total_of};
+ghost use Rattle.q3_window.specs.Outgoing as spec;
 ghost use Rattle.q3_window.specs.Cells.{blank, places, texts_from};
 
 use q3_text::{Command, CommandRun, Text};
@@ -121,7 +122,7 @@ impl Outgoing {
 
     /// Whether so many more commands may be issued, whose texts have so many bytes together.
     pub fn fits(&self, count: u32, bytes: u32) -> bool
-        ensures { result ≡ fits self.now count bytes }
+        ensures { result ≡ spec.fits self.now count bytes }
     {
         self.has_places(count) && self.has_bytes(bytes) && self.has_numbers(count)
     }

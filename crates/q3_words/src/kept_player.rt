@@ -5,7 +5,7 @@ ghost use Rattle.std.proofs.Common.{rules};
 ghost use Rattle.std.specs.Cmp.Rules.{comparing};
 ghost use Rattle.q3_fields.specs.Places.{AreRising};
 ghost use Rattle.q3_words.specs.Fields.{values_of};
-ghost use Rattle.q3_words.specs.Kept.{player_of_words};
+ghost use Rattle.q3_words.specs.Kept as spec;
 
 use crate::sparse::{Places, count_words, patterns, push_words, put};
 use q3_bits::NoMemory;
@@ -26,11 +26,11 @@ impl Model for KeptPlayer {
     ghost use Rattle.q3_fields.specs.Places.{AreRising};
     ghost use Rattle.q3_player.specs.declared.state.PlayerState.{PlayerState};
     ghost use Rattle.q3_words.specs.Fields.{values_of};
-    ghost use Rattle.q3_words.specs.Kept.{player_of_words};
+    ghost use Rattle.q3_words.specs.Kept as spec;
 
     ghost Value = { PlayerState };
 
-    ghost view = { λ kept. player_of_words (values_of 128 kept.words.items) };
+    ghost view = { λ kept. spec.player_of_words (values_of 128 kept.words.items) };
 
     ghost invariant = { λ kept. AreRising 128 0 kept.words.items × All (λ change. change.1 ≢ 0) kept.words.items };
 }
@@ -57,7 +57,7 @@ impl Eq for KeptPlayer {
 
 /// The words and values of a player that aren't 0, each after its place. `Err` is want of memory.
 fn places(alloc: Global, player: &PlayerState) -> Result<Places, NoMemory>
-    ensures player { IfOk result (λ kept. player_of_words (values_of 128 kept.items) ≡ player.now) }
+    ensures player { IfOk result (λ kept. spec.player_of_words (values_of 128 kept.items) ≡ player.now) }
     ensures kept { IfOk result (λ kept. AreRising 128 0 kept.items × All (λ change. change.1 ≢ 0) kept.items) }
 {
     q3_player::laws::is_state(player);
@@ -80,7 +80,7 @@ fn places(alloc: Global, player: &PlayerState) -> Result<Places, NoMemory>
 
 /// The player of 128 words: those of its fields, and after them those of its arrays.
 fn player_of_words(words: &[u32; 128]) -> PlayerState
-    ensures { result ≡ player_of_words words.now }
+    ensures { result ≡ spec.player_of_words words.now }
 {
     let mut fields = [0; 64];
     fields.copy_from_slice(&words[..64]);

@@ -3,7 +3,8 @@
 ghost use Rattle.std.specs.Prelude.{◌≡◌, bytes_eq};
 ghost use Rattle.std.specs.Cmp.{partial_equiv_from_equiv};
 ghost use Rattle.std.specs.Cmp.Lexicographic.{nat_list_eq_equiv};
-ghost use Rattle.q3_words.specs.Names.{IsName, is_name, is_name_byte, name_at};
+ghost use Rattle.q3_words.specs.Names.{IsName, name_at};
+ghost use Rattle.q3_words.specs.Names as spec;
 ghost use Rattle.std.specs.List.{list_all};
 
 use arrayvec::ArrayVec;
@@ -45,14 +46,14 @@ impl Eq for Name {
 
 /// Whether a byte may stand in a name: it prints, and is no space.
 fn is_name_byte(byte: u8) -> bool
-    ensures { result ≡ is_name_byte byte }
+    ensures { result ≡ spec.is_name_byte byte }
 {
     byte >= 33 && byte <= 126
 }
 
 /// Whether each byte may stand in a name.
 fn are_name_bytes(word: &[u8]) -> bool
-    ensures { result ≡ list_all is_name_byte word.now }
+    ensures { result ≡ list_all spec.is_name_byte word.now }
 {
     word.iter().all(|byte| is_name_byte(*byte))
 }
@@ -60,7 +61,7 @@ fn are_name_bytes(word: &[u8]) -> bool
 /// Whether a word is a name.
 #[tactic(auto, unfolding(crate::specs::Names::is_name))]
 fn is_name(word: &[u8]) -> bool
-    ensures { result ≡ is_name word.now }
+    ensures { result ≡ spec.is_name word.now }
 {
     !word.is_empty() && word.len() <= LONGEST_NAME && are_name_bytes(word)
 }

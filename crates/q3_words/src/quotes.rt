@@ -1,7 +1,8 @@
 //! Texts and bytes in quotes. Their spelling is this project's own.
 
 ghost use Rattle.std.specs.Prelude.{◌≡◌, ◌<◌, length, option_map, IfOk, IfSome};
-ghost use Rattle.q3_words.specs.Quotes.{hex_byte, coded_byte, coded_at, escaped_at, front_at, few_at, unquoted_at, text_word, most_config};
+ghost use Rattle.q3_words.specs.Quotes.{coded_at, escaped_at, front_at, few_at, unquoted_at, most_config};
+ghost use Rattle.q3_words.specs.Quotes as spec;
 
 use crate::area::has_capital;
 use crate::bytes::Bytes;
@@ -17,7 +18,7 @@ const MOST_CONFIG: usize = 9_000;
 
 /// The byte that two hex digits with small letters spell.
 fn hex_byte(high: u8, low: u8) -> Option<u8>
-    ensures { result ≡ hex_byte high low }
+    ensures { result ≡ spec.hex_byte high low }
 {
     if has_capital(&[high, low]) {
         return None;
@@ -32,7 +33,7 @@ fn hex_byte(high: u8, low: u8) -> Option<u8>
 /// The byte that two digits spell, if it is spelled in hex: it doesn't print, and is neither a newline nor 0.
 #[tactic(auto, unfolding(crate::specs::Quotes::coded_byte))]
 fn coded_byte(high: u8, low: u8) -> Option<u8>
-    ensures { result ≡ coded_byte high low }
+    ensures { result ≡ spec.coded_byte high low }
 {
     match hex_byte(high, low)? {
         0 | b'\n' | 32..=126 => None,
@@ -143,7 +144,7 @@ pub fn config_bytes(alloc: Global, word: &[u8]) -> Result<Option<Bytes>, NoMemor
 /// The text that a word in quotes spells, translated.
 #[tactic(auto, using(crate::proofs::Coming::text_steps))]
 pub fn text_word(word: &[u8]) -> Result<Text, LineCause>
-    ensures { result ≡ text_word word.now }
+    ensures { result ≡ spec.text_word word.now }
 {
     let bytes = unquoted::<LONGEST_TEXT>(word).ok_or(LineCause::Text)?;
     Text::of(&bytes).ok().ok_or(LineCause::Text)

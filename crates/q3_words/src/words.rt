@@ -2,7 +2,8 @@
 
 ghost use Rattle.std.specs.Prelude.{◌≡◌, ◌∷◌, option_map};
 ghost use Rattle.std.specs.Str.{bytes_eq};
-ghost use Rattle.q3_words.specs.Words.{words_of, words_left, next_of, three_of, only_of, text_from, after_prefix};
+ghost use Rattle.q3_words.specs.Words.{words_of, words_left, next_of, three_of, only_of, text_from};
+ghost use Rattle.q3_words.specs.Words as spec;
 
 use q3_text::place_of;
 
@@ -65,7 +66,7 @@ pub fn is(word: &[u8], text: &[u8]) -> bool
 /// What follows a prefix.
 #[tactic(auto, unfolding(crate::specs::Words::after_prefix))]
 pub fn after_prefix<'a>(prefix: &[u8], text: &'a [u8]) -> Option<&'a [u8]>
-    ensures { option_map (λ rest. rest.now) result ≡ after_prefix prefix.now text.now }
+    ensures { option_map (λ rest. rest.now) result ≡ spec.after_prefix prefix.now text.now }
 {
     text.strip_prefix(prefix)
 }

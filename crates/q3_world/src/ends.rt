@@ -5,8 +5,9 @@ ghost use Rattle.q3_profile.specs.Profile.{IsProfile, IsCodec};
 ghost use Rattle.q3_script.specs.Grammar.{IsReplayEvent};
 ghost use Rattle.q3_server.specs.Server.{places, emit_at};
 ghost use Rattle.q3_report.specs.Answers.{Given};
-ghost use Rattle.q3_ends.specs.AtServer.{server_line};
-ghost use Rattle.q3_ends.specs.ClientLine.{client_named, fresh_of};
+ghost use Rattle.q3_ends.specs.AtServer as at_server_spec;
+ghost use Rattle.q3_ends.specs.ClientLine.{fresh_of};
+ghost use Rattle.q3_ends.specs.ClientLine as lines_spec;
 ghost use Rattle.q3_ends.specs.Recording.{HasFile};
 ghost use Rattle.q3_world.specs.Ends.{recording_at};
 
@@ -39,9 +40,9 @@ pub(crate) struct Ends {
 impl Model for Ends {
     ghost use Rattle.std.specs.Prelude.{◌≡◌, length};
     ghost use Rattle.q3_server.specs.Server.{places};
-    ghost use Rattle.q3_world.specs.Ends as both;
+    ghost use Rattle.q3_world.specs.Ends as spec;
 
-    ghost Value = { both.Ends };
+    ghost Value = { spec.Ends };
 
     ghost view = { λ e. record { server = e.server; clients = e.clients.items } };
 
@@ -49,7 +50,8 @@ impl Model for Ends {
 }
 
 impl Ends {
-    ghost use Rattle.q3_world.specs.Ends.{place_at, new_ends, join, join_with, set_port, game_step, client_step, client_or_game_step, client_takes, server_takes, hand_server, step_in, line_of};
+    ghost use Rattle.q3_world.specs.Ends.{place_at, new_ends, game_step, client_step, client_or_game_step, step_in, line_of};
+    ghost use Rattle.q3_world.specs.Ends as spec;
     ghost use Rattle.q3_world.specs.Kept.{Kept, most_datagrams, deliver_at, kept_serve, kept_send};
     ghost use Rattle.q3_world.specs.Doing.{Tells, EndsDo};
     ghost use Rattle.q3_world.specs.Files.{AreNumbered, DoesFiles, without, ended, client_or_game_acts, place_acts, stop_acts, take_acts, deliver_acts, line_acts, ending_acts};
@@ -142,7 +144,7 @@ impl Ends {
     ) -> Result<HandedIn, NoMemory>
         requires profile { IsProfile profile.now }
         requires place { c < places }
-        ensures ok { IfOk result (λ handed. join profile.now self.old c challenge qport dup address
+        ensures ok { IfOk result (λ handed. spec.join profile.now self.old c challenge qport dup address
             ≡ record { ends = self.new; answer = Given handed }) }
         ensures err { OnErr result (self.new ≡ self.old) }
     {
@@ -153,7 +155,7 @@ impl Ends {
     /// A client that was made joins, at both ends.
     fn join_with(&mut self, c: u8, challenge: u32, qport: u16, place: Place) -> HandedIn
         requires place { c < places }
-        ensures { join_with self.old c challenge qport place ≡ record { ends = self.new; answer = Given result } }
+        ensures { spec.join_with self.old c challenge qport place ≡ record { ends = self.new; answer = Given result } }
     {
         if let Err(error) = self.server.add_client(c, challenge, qport, place.address) {
             return HandedIn::Client {
@@ -168,7 +170,7 @@ impl Ends {
     /// A client's later datagrams come from another port.
     fn set_port(&mut self, c: u8, port: u16) -> HandedIn
         requires { c < places }
-        ensures { set_port self.old c port ≡ record { ends = self.new; answer = Given result } }
+        ensures { spec.set_port self.old c port ≡ record { ends = self.new; answer = Given result } }
     {
         let Some(place) = &mut self.clients[c as usize] else {
             return HandedIn::Port {
@@ -189,11 +191,11 @@ impl Ends {
         out: &mut O,
     ) -> Result<(), StepError>
         requires event { IsReplayEvent event.now }
-        requires line { IsSome (server_line self.old.server event.now) }
-        ensures ends { self.new ≡ (game_step self.old (server_line self.old.server event.now)).ends }
+        requires line { IsSome (at_server_spec.server_line self.old.server event.now) }
+        ensures ends { self.new ≡ (game_step self.old (at_server_spec.server_line self.old.server event.now)).ends }
         ensures told { Tells counts.old counts.new (O.written out.old) (O.written out.new) (O.faults out.old)
             (O.faults out.new)
-            (game_step self.old (server_line self.old.server event.now)).answer result }
+            (game_step self.old (at_server_spec.server_line self.old.server event.now)).answer result }
     {
         let handed = server_line(&mut self.server, event).unwrap();
         tell(&Answer::HandedIn(handed), counts, out)
@@ -210,15 +212,17 @@ impl Ends {
         out: &mut O,
     ) -> Result<(), StepError>
         requires event { IsReplayEvent event.now }
-        requires line { client_named event.now ≡ None → IsSome (server_line self.old.server event.now) }
+        requires line { lines_spec.client_named event.now ≡ None
+            → IsSome (at_server_spec.server_line self.old.server event.now) }
         requires numbered { AreNumbered (F.told files.old) (F.given files.old) numbers.old self.old }
         ensures does { EndsDo self.old self.new counts.old counts.new (O.written out.old) (O.written out.new)
-            (O.faults out.old) (O.faults out.new) (client_or_game_step self.old event.now (client_named event.now)) result }
+            (O.faults out.old) (O.faults out.new)
+            (client_or_game_step self.old event.now (lines_spec.client_named event.now)) result }
         ensures memory { IsErrOf result StepError.NoMemory → TakesMemory event.now }
         ensures files { DoesFiles (F.told files.old) (F.told files.new) (F.given files.old) (F.given files.new)
             (F.faults files.old) (F.faults files.new)
             (F.write_faults files.old) (F.write_faults files.new)
-            (client_or_game_acts self.old event.now (client_named event.now)) result }
+            (client_or_game_acts self.old event.now (lines_spec.client_named event.now)) result }
         ensures numbered { AreNumbered (F.told files.new) (F.given files.new) numbers.new self.new }
         ensures same { IsErrOf result StepError.NoMemory → numbers.new ≡ numbers.old }
     {
@@ -243,7 +247,7 @@ impl Ends {
         out: &mut O,
     ) -> Result<(), StepError>
         requires place { c < places }
-        requires line { IsSome (client_named event.now) }
+        requires line { IsSome (lines_spec.client_named event.now) }
         requires fresh { fresh ≡ fresh_of event.now }
         requires numbered { AreNumbered (F.told files.old) (F.given files.old) numbers.old self.old }
         ensures does { EndsDo self.old self.new counts.old counts.new (O.written out.old) (O.written out.new)
@@ -322,7 +326,7 @@ impl Ends {
         requires numbered { AreNumbered (F.told files.old) (F.given files.old) numbers.now self.old }
         ensures does { EndsDo self.old self.new counts.old counts.new (O.written out.old) (O.written out.new)
             (O.faults out.old) (O.faults out.new)
-            (client_takes self.old c front bytes.now (place_at self.old c)) result }
+            (spec.client_takes self.old c front bytes.now (place_at self.old c)) result }
         ensures memory { IsErrOf result StepError.NoMemory → ⊥ }
         ensures files { DoesFiles (F.told files.old) (F.told files.new) (F.given files.old) (F.given files.new)
             (F.faults files.old) (F.faults files.new)
@@ -355,10 +359,10 @@ impl Ends {
         out: &mut O,
     ) -> Result<(), StepError>
         requires { c < places }
-        ensures ends { self.new ≡ (hand_server self.old c bytes.now).ends }
+        ensures ends { self.new ≡ (spec.hand_server self.old c bytes.now).ends }
         ensures told { Tells counts.old counts.new (O.written out.old) (O.written out.new) (O.faults out.old)
             (O.faults out.new)
-            (hand_server self.old c bytes.now).answer result }
+            (spec.hand_server self.old c bytes.now).answer result }
     {
         let front = Front::Toserver { c };
         let Some(place) = &self.clients[c as usize] else {
@@ -379,10 +383,10 @@ impl Ends {
         counts: &mut Counts,
         out: &mut O,
     ) -> Result<(), StepError>
-        ensures ends { self.new ≡ (server_takes self.old front from bytes.now).ends }
+        ensures ends { self.new ≡ (spec.server_takes self.old front from bytes.now).ends }
         ensures told { Tells counts.old counts.new (O.written out.old) (O.written out.new) (O.faults out.old)
             (O.faults out.new)
-            (server_takes self.old front from bytes.now).answer result }
+            (spec.server_takes self.old front from bytes.now).answer result }
     {
         tell(
             &server_takes(&mut self.server, front, from, bytes, heard),

@@ -13,7 +13,8 @@ ghost use Rattle.q3_world.specs.Forgetting.{TellsLast, AreSilentOf, AreWanted, A
 ghost use Rattle.q3_script.specs.declared.event.Event.{Event as EventValue};
 ghost use Rattle.q3_world.specs.Ends.{place_at, step_in, line_of};
 ghost use Rattle.q3_world.specs.Kept.{most_datagrams, opening_kept, deliver_at, kept_bytes, kept_ends, kept_serve, kept_send, kept_step};
-ghost use Rattle.q3_world.specs.World.{Whole, opening, step as step_of};
+ghost use Rattle.q3_world.specs.World.{Whole, opening};
+ghost use Rattle.q3_world.specs.World as spec;
 ghost use Rattle.q3_world.specs.StandsFor.{StandsFor};
 ghost use Rattle.q3_world.specs.Outcome.{TakesMemory, Prints, HasStepCause};
 
@@ -126,18 +127,18 @@ impl World {
         requires few { length self.old.kept.datagrams < most_datagrams }
         requires numbered { AreNumbered (F.told files.old) (F.given files.old) self.old.numbers self.old.kept.ends }
         ensures stands { OnOk result ((profile : ProfileValue) (whole : Whole) → StandsFor profile self.old.kept whole
-            → StandsFor profile self.new.kept (step_of profile whole event.now).whole) }
+            → StandsFor profile self.new.kept (spec.step profile whole event.now).whole) }
         ensures kept { OnOk result (self.new.kept ≡ (kept_step self.old.kept event.now).kept) }
         ensures counts { OnOk result (self.new.counts ≡ counted self.old.counts
             (kept_step self.old.kept event.now).answer) }
         ensures counts_whole { OnOk result ((profile : ProfileValue) (whole : Whole)
             → StandsFor profile self.old.kept whole
-            → self.new.counts ≡ counted self.old.counts (step_of profile whole event.now).answer) }
+            → self.new.counts ≡ counted self.old.counts (spec.step profile whole event.now).answer) }
         ensures printed { Prints (O.written out.old) (O.written out.new)
             (lines_of (kept_step self.old.kept event.now).answer) result }
         ensures lines { (profile : ProfileValue) (whole : Whole) → StandsFor profile self.old.kept whole
             → Prints (O.written out.old) (O.written out.new)
-            (lines_of (step_of profile whole event.now).answer) result }
+            (lines_of (spec.step profile whole event.now).answer) result }
         ensures flushed { OnOk result (NothingWaits (O.written out.new)) }
         ensures cause { HasStepCause (O.faults out.old) (O.faults out.new) result }
         ensures no_memory { IsErrOf result StepError.NoMemory

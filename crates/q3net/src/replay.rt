@@ -12,7 +12,7 @@ ghost use Rattle.q3_world.specs.World.{Whole, answers};
 ghost use Rattle.q3_world.specs.StandsFor.{StandsFor};
 ghost use Rattle.q3_runs.specs.Faults.{ReadCause, WriteCause, FileCause};
 ghost use Rattle.q3_runs.specs.Run.{Executes, LeavesFiles};
-ghost use Rattle.q3net.specs.Faults.{step_fault};
+ghost use Rattle.q3net.specs.Faults as spec;
 ghost use Rattle.q3net.specs.Verdict.{IsReplayVerdict};
 ghost use Rattle.q3net.specs.Run.{AddsLines, DoesFirst};
 
@@ -53,7 +53,7 @@ pub fn replay<F: Files, O: Sink>(
 
 /// Why a step ended the run.
 fn step_fault(e: StepError) -> Fault
-    ensures { result ≡ step_fault e }
+    ensures { result ≡ spec.step_fault e }
 {
     match e {
         StepError::NoMemory => Fault::NoMemory,
