@@ -42,7 +42,7 @@ use Rattle.q3_server.specs.declared.server.SlotError.{SlotError}
 use Rattle.q3_server.specs.declared.server.SlotError.TheVariants.{Range}
 use Rattle.q3_built.specs.Built.{Built, is_unclear, number_of, built_bits, built_bytes, plain_bytes}
 use Rattle.q3_slot.specs.Emitting.{SlotEmission, begin, begun_next, emit_bits, emit_game, emit_game_bits, emit_built, emit_new, emit_next, emit_slot, is_overlong, most_placed, next_frames, next_game_built, nothing}
-use Rattle.q3_slot.specs.Slot.{SlotState, is_connected, is_of, new_slot, on_new_map, primed, with_area, with_player}
+use Rattle.q3_slot.specs.Slot.{SlotState, is_active, is_connected, is_of, new_slot, on_new_map, primed, with_area, with_player}
 use Rattle.q3_slot.specs.Slots.{SlotSaying, changes_own, issues, lacks_room, say_slot, tells}
 use Rattle.q3_slot.specs.Taking as by_slot
 use Rattle.q3_slot.specs.Taking.{Came, OfMap, OfOther, Playing, came_as, goes_on, heads_of, last_run_of, last_time, moves_on, runs}
@@ -131,9 +131,9 @@ runs_later before time moves le =
       each = All-weaker (λ (one : Move). before < one.time) (λ (one : Move). time < one.time) (λ one lt. omega (arith, le, lt)) (runs before moves) (later before (runs before moves) rise);
     }
 
--- a client that is primed enters the map after the last move run
+-- a client that doesn't play enters the map after the last move run
 abbrev EntersLate : SlotState → Message → Type 0
-EntersLate slot message = (one : Move) (others : List Move) → message.moves ≡ one ∷ others → slot.stage ≡ Primed → slot.last_run < one.time
+EntersLate slot message = (one : Move) (others : List Move) → message.moves ≡ one ∷ others → is_active slot.stage ≡ false → slot.last_run < one.time
 
 -- the moves of a message
 goes_playing : (slot : SlotState) (message : Message) → EntersLate slot message → GoesPlaying slot.last_run (goes_on slot message message.moves)
@@ -142,14 +142,14 @@ goes_playing slot message enters = with_moves message.moves refl
     at_stage : (one : Move) (others : List Move) (stage : ClientStage) → message.moves ≡ one ∷ others → slot.stage ≡ stage
         → GoesPlaying slot.last_run (moves_on slot message one others stage)
     at_stage one others Connected is at = goes_nothing slot.last_run
-    at_stage one others Primed is at =
-        let late = enters one others is at in
+    at_stage one others (Primed game) is at =
+        let late = enters one others is (ap is_active at) in
         record {
           keeps = λ time le. runs_later one.time time others (omega (arith, le, late));
           above = λ time e. let same = some_same one.time time e in omega (arith, same, late);
           enters = λ time e. let same = some_same one.time time e in runs_later one.time time others (omega (arith, same));
         }
-    at_stage one others Active is at =
+    at_stage one others (Active game) is at =
         record {
           keeps = λ time le. runs_later slot.last_run time message.moves le;
           above = λ time e. absurd (none_some time e);

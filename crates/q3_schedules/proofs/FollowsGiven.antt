@@ -27,7 +27,7 @@ use Rattle.q3_server.specs.declared.server.ConfigRefused.TheVariants.{Own}
 use Rattle.q3_server.specs.declared.server.SlotError.{SlotError}
 use Rattle.q3_server.specs.declared.server.SlotError.TheVariants.{Range}
 use Rattle.q3_built.specs.Built.{Built}
-use Rattle.q3_slot.specs.Slot.{SlotState, is_connected, is_of, new_slot}
+use Rattle.q3_slot.specs.Slot.{SlotState, game_of, is_connected, is_of, new_slot}
 use Rattle.q3_slot.specs.Slots.{lacks_room, say_slot}
 use Rattle.q3_slot.specs.declared.answer.SayError.{SayError}
 use Rattle.q3_slot.specs.declared.stage.ClientStage.{ClientStage}
@@ -138,10 +138,10 @@ below_new profile whole c lt holds n id game is tells =
       | inr found ↦ ((has_slot profile whole c found.0 lt found.1 holds).1.joined.mapped.of_maps.ids n id game is tells).1
     ]
 
-connected_is : (stage : ClientStage) → is_connected stage ≡ true → stage ≡ Connected
+connected_is : (stage : ClientStage) → is_connected stage ≡ true → game_of stage ≡ None
 connected_is Connected e = refl
-connected_is Primed e = absurd cc
-connected_is Active e = absurd cc
+connected_is (Primed game) e = absurd cc
+connected_is (Active game) e = absurd cc
 
 -- for one that is connected no gamestate of the map was built
 connected_none : (map : MapState) (built : List Built) (game : Option ℕ) → game ≡ None → HasLast map built game → HasLast map built None
@@ -152,7 +152,7 @@ untold : (profile : Profile) (whole : Whole) (c : ℕ) (slot : SlotState) → c 
     → (n : ℕ) (game : Gamestate) → Carries (history_at whole.histories c).built n game → Tells game whole.ends.server.map.id → ⊥
 untold profile whole c slot lt holds found connected =
     let stands = (has_slot profile whole c slot lt found holds).1.joined.mapped.stands in
-    connected_none whole.ends.server.map (history_at whole.histories c).built slot.game (stands.none.1 (connected_is slot.stage connected)) stands.last
+    connected_none whole.ends.server.map (history_at whole.histories c).built (game_of slot.stage) (connected_is slot.stage connected) stands.last
 
 -- ---- what the game hands in
 

@@ -30,11 +30,10 @@ use Rattle.q3_report.specs.declared.answer.TakeRefused.TheVariants as refused
 use Rattle.q3_report.specs.Answers.{Answered, ByClient, ByServer, SentOut, Took, Untaken, heard_in, snapshot_in}
 use Rattle.q3_world.specs.declared.made.Direction.TheVariants as direction
 use Rattle.q3_built.specs.Built.{Built, number_of, IsNear, is_unclear, built_bytes}
-use Rattle.q3_slot.specs.Slot.{SlotState}
+use Rattle.q3_slot.specs.Slot.{SlotState, is_active}
 use Rattle.q3_slot.specs.Emitting.{next_snapshot, begun_next, most_placed}
 use Rattle.q3_map.specs.Map.{MapState, is_other}
 use Rattle.q3_client.specs.Sending.{Said, wants_delta}
-use Rattle.q3_slot.specs.declared.stage.ClientStage.TheVariants.{Active}
 use Rattle.q3_slot.specs.Taking.{Playing, asks_game, goes_on, heads_of, nothing_heard}
 use Rattle.q3_server.specs.Server.{ServerState, places, slot_at}
 use Rattle.q3_client.specs.Client.{ClientState}
@@ -209,7 +208,7 @@ SaidUnderItsMap history = All (λ (said : Said). said.message.delta ≡ true →
 -- so was the snapshot accepted against which a slot writes, under the gamestate of the present map; where its client doesn't play, there
 -- is none
 abbrev pub SlotUnderMap : MapState → History → SlotState → Type 0
-SlotUnderMap map history slot = (slot.delta ≡ 0) ⊎ ((slot.stage ≡ Active) × AcceptedUnderMap history map.id slot.delta)
+SlotUnderMap map history slot = (slot.delta ≡ 0) ⊎ ((is_active slot.stage ≡ true) × AcceptedUnderMap history map.id slot.delta)
 
 -- and each base against which a message was built, under the gamestate under which its client played then
 abbrev pub BuiltUnderItsGame : History → Type 0

@@ -12,6 +12,8 @@ use Rattle.q3_entity_ring.specs.Snapshot.{Snapshot}
 use Rattle.q3_frames.specs.Frames.{FramesState, base_of}
 use Rattle.q3_map.specs.Map.{MapState}
 use Rattle.q3_built.specs.Built.{Built, IsHeld, IsSnapshot, IsNear, IsTelling, IsBuilt, is_unclear, built_bits}
+use Rattle.q3_slot.specs.declared.stage.ClientStage.{ClientStage}
+use Rattle.q3_slot.specs.declared.stage.ClientStage.TheVariants.{Connected, Primed, Active}
 use Rattle.q3_slot.specs.Slot.{SlotState, is_active, plays_under, asked}
 use Rattle.q3_slot.specs.Emitting.{SlotEmission, played_snapshot, waiting_snapshot, next_snapshot, next_frames, telling_of, begun_next, next_game, next_game_built, is_overlong, most_placed, emit_built, emit_game, emit_new, emit_slot}
 use Rattle.q3_slot.specs.Standing.{IsSlot}
@@ -19,6 +21,12 @@ use Rattle.q3_server.specs.Server.{ServerState, slot_at, emit_from, emit_at}
 use Rattle.q3_server.specs.Standing.{IsMap, IsJoined, HoldSnapshots, IsServer, BeginsBuilt, Below}
 use Rattle.q3_server.proofs.KeepsFrames.{held_is, next_is_snapshot, snapshots_next}
 use Rattle.q3_server.proofs.KeepsClients.{zero_held, at_place}
+
+-- a client that plays under no gamestate doesn't play
+waits_then : (stage : ClientStage) → plays_under stage ≡ None → is_active stage ≡ false
+waits_then Connected under = refl
+waits_then (Primed game) under = refl
+waits_then (Active game) under = absurd cc
 
 -- ---- the next message
 
@@ -47,18 +55,15 @@ module _ (below : Below) (profile : Profile) (map : MapState) (slot : SlotState)
       of_active false = refl
 
   -- a client that doesn't play gets a snapshot of nothing, against none
-  waits_empty : (frames : FramesState) (c : ℕ) → plays_under slot.stage slot.game ≡ None → ((next_snapshot map slot).entities ≡ []) × ((begun_next profile map frames c slot).base ≡ None)
-  waits_empty frames c under = of_stage (is_active slot.stage) refl
+  waits_empty : (frames : FramesState) (c : ℕ) → plays_under slot.stage ≡ None → ((next_snapshot map slot).entities ≡ []) × ((begun_next profile map frames c slot).base ≡ None)
+  waits_empty frames c under = of_active (is_active slot.stage) refl
     where
-      of_stage : (active : Bool) → is_active slot.stage ≡ active → ((next_snapshot map slot).entities ≡ []) × ((begun_next profile map frames c slot).base ≡ None)
-      of_stage false still = (
+      of_active : (active : Bool) → is_active slot.stage ≡ active → ((next_snapshot map slot).entities ≡ []) × ((begun_next profile map frames c slot).base ≡ None)
+      of_active false still = (
         ap (λ (a : Bool). (if a then played_snapshot map slot else waiting_snapshot map slot).entities) still,
         ap (λ (a : Bool). base_of (next_frames map frames c slot) c (slot.sending.number + 1) (if a then slot.delta else 0)) still,
       )
-      of_stage true yes_it_is =
-          let none : slot.game ≡ None = ap (λ (a : Bool). if a then slot.game else None) (sym yes_it_is) ∙ under in
-          let connected : is_active slot.stage ≡ false = ap is_active (joined.begun none) in
-          absurd (both_ways (is_active slot.stage) connected yes_it_is)
+      of_active true plays = absurd (both_ways (is_active slot.stage) (waits_then slot.stage under) plays)
 
   -- a base is near, and a snapshot as it is built
   base_is : (frames : FramesState) (c n delta : ℕ) → HoldSnapshots profile frames → IfSome (base_of frames c n delta) (λ base. IsNear n base × IsSnapshot profile base)

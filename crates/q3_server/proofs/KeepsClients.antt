@@ -21,13 +21,11 @@ use Rattle.q3_window.specs.Incoming.{gap_in}
 use Rattle.q3_window.specs.Outgoing.{with_texts}
 use Rattle.q3_frames.specs.Frames.{FramesState}
 use Rattle.q3_map.specs.Map.{MapState}
-use Rattle.q3_slot.specs.declared.stage.ClientStage.{ClientStage}
-use Rattle.q3_slot.specs.declared.stage.ClientStage.TheVariants.{Connected, Primed, Active}
 use Rattle.q3_built.specs.Built.{Built, IsHeld, IsArea, is_unclear, built_bits, built_bytes}
-use Rattle.q3_slot.specs.Slot.{SlotState, new_slot, is_active, is_connected, on_new_map, with_player, with_area, with_delayed}
+use Rattle.q3_slot.specs.Slot.{SlotState, new_slot, game_of, is_active, is_connected, on_new_map, with_player, with_area, with_delayed}
 use Rattle.q3_slot.specs.Slots.{changes_own, say_slot, slot_saying, tells, slot_after_datagram, slot_after, map_after, frames_after, emission_of}
 use Rattle.q3_slot.specs.Taking as took
-use Rattle.q3_slot.specs.Taking.{Came, OfMap, OfOther, Leading, asks_game, is_after_game, moves_on, goes_on, run_unless, run_read, said_by, take_slot}
+use Rattle.q3_slot.specs.Taking.{Came, OfMap, OfOther, Leading, asks_game, is_after_game, run_unless, run_read, said_by, take_slot}
 use Rattle.q3_slot.specs.Emitting.{SlotEmission, is_overlong, most_placed, next_frames, begun_next, next_game_built, emit_built, emit_game, emit_new, emit_slot}
 use Rattle.q3_chan.specs.Datagrams.{server_header, sequence_end}
 use Rattle.q3_server.specs.Standing.{IsMap, IsJoined, AreJoined, HoldSnapshots, IsServer, Below}
@@ -43,25 +41,25 @@ zero_held below profile codec = let first = below.zero profile.player.kinds code
 -- that just joined
 pub joined_new : Below → (profile : Profile) (id challenge qport : ℕ) (address : Address) → IsCodec profile → IsJoined profile id (new_slot profile.protocol challenge qport address)
 joined_new below profile id challenge qport address codec =
-    record { player = zero_held below profile codec; area = no_area; begun = λ none. refl; owed = λ owes. absurd cc; sends = refl; hears = refl }
+    record { player = zero_held below profile codec; area = no_area; owed = λ owes. absurd cc; sends = refl; hears = refl }
 
 -- on a new map
 joined_on_map : Below → (profile : Profile) (id next : ℕ) (slot : SlotState) → IsCodec profile → IsJoined profile id slot → IsJoined profile next (on_new_map slot)
 joined_on_map below profile id next slot codec is =
-    record { player = zero_held below profile codec; area = no_area; begun = λ none. refl; owed = λ owes. absurd cc; sends = is.sends; hears = is.hears }
+    record { player = zero_held below profile codec; area = no_area; owed = λ owes. absurd cc; sends = is.sends; hears = is.hears }
 
 pub joined_player : Below → (profile : Profile) (id : ℕ) (player : PlayerState) (slot : SlotState) → IsCodec profile → IsState player → IsJoined profile id slot
     → IsJoined profile id (with_player profile slot player)
 joined_player below profile id player slot codec state is =
     let made = below.player profile.player.kinds player codec.player.kinds state in
-    record { player = record { state = made.0; normal = made.1 }; area = is.area; begun = is.begun; owed = is.owed; sends = is.sends; hears = is.hears }
+    record { player = record { state = made.0; normal = made.1 }; area = is.area; owed = is.owed; sends = is.sends; hears = is.hears }
 
 pub joined_area : (profile : Profile) (id : ℕ) (area : List ℕ) (slot : SlotState) → IsArea area → IsJoined profile id slot → IsJoined profile id (with_area slot area)
-joined_area profile id area slot few is = record { player = is.player; area = few; begun = is.begun; owed = is.owed; sends = is.sends; hears = is.hears }
+joined_area profile id area slot few is = record { player = is.player; area = few; owed = is.owed; sends = is.sends; hears = is.hears }
 
 -- which is delayed, or isn't
 pub joined_delayed : (profile : Profile) (id : ℕ) (on : Bool) (slot : SlotState) → IsJoined profile id slot → IsJoined profile id (with_delayed slot on)
-joined_delayed profile id on slot is = record { player = is.player; area = is.area; begun = is.begun; owed = is.owed; sends = is.sends; hears = is.hears }
+joined_delayed profile id on slot is = record { player = is.player; area = is.area; owed = is.owed; sends = is.sends; hears = is.hears }
 
 -- to which a command is issued
 pub joined_issued : (profile : Profile) (id : ℕ) (text : List ℕ) (slot : SlotState) → IsJoined profile id slot → IsJoined profile id (say_slot slot text).slot
@@ -70,37 +68,27 @@ joined_issued profile id text slot is =
       | inl own ↦ rw own is
       | inr other ↦ elim (cases_Bool (is_connected slot.stage)) [
         | inl waits ↦ rw (other, waits) is
-        | inr begun ↦ rw (other, begun) (record { player = is.player; area = is.area; begun = is.begun; owed = is.owed; sends = is.sends; hears = is.hears })
+        | inr begun ↦ rw (other, begun) (record { player = is.player; area = is.area; owed = is.owed; sends = is.sends; hears = is.hears })
       ]
     ]
 
 joined_told : (profile : Profile) (id : ℕ) (texts : List (List ℕ)) (slot : SlotState) → IsJoined profile id slot → IsJoined profile id (tells texts slot)
 joined_told profile id texts slot is =
     cond_both (is_connected slot.stage) slot (record slot { issued = with_texts slot.issued texts }) (IsJoined profile id)
-    (λ waits. is) (λ begun. record { player = is.player; area = is.area; begun = is.begun; owed = is.owed; sends = is.sends; hears = is.hears })
+    (λ waits. is) (λ begun. record { player = is.player; area = is.area; owed = is.owed; sends = is.sends; hears = is.hears })
 
 -- ---- a datagram
 
 module _ (below : Below) (profile : Profile) (map : MapState) (c : ℕ) where
-  -- how far a client comes
-  comes : (slot : SlotState) (message : Message) → IsJoined profile map.id slot → slot.game ≡ None → (moves : List Move) → (goes_on slot message moves).stage ≡ Connected
-  comes slot message is none [] = is.begun none
-  comes slot message is none (one ∷ moves) = of_stage slot.stage (is.begun none)
-    where
-      of_stage : (stage : ClientStage) → stage ≡ Connected → (moves_on slot message one moves stage).stage ≡ Connected
-      of_stage Connected at = refl
-      of_stage Primed at = absurd cc
-      of_stage Active at = absurd cc
-
   joined_ran : (slot : SlotState) (number : ℕ) (message : Message) (gap : Option ℕ) → IsJoined profile map.id slot → IsJoined profile map.id (run_unless slot c number message gap).slot
   joined_ran slot number message (Some gap) is = is
   joined_ran slot number message None is =
-      record { player = is.player; area = is.area; begun = λ none. comes slot message is none message.moves; owed = is.owed; sends = is.sends; hears = is.hears }
+      record { player = is.player; area = is.area; owed = is.owed; sends = is.sends; hears = is.hears }
 
   -- a gamestate is owed on a map alone
   asks_on_map : (slot : SlotState) (heads : Leading) → asks_game map slot heads ≡ true → map.id ≡ 0 → ⊥
   asks_on_map slot heads asks =
-      let two = and_parts (not (map.id == 0) && not (is_active slot.stage)) (is_after_game heads.acknowledged slot.game) asks in
+      let two = and_parts (not (map.id == 0) && not (is_active slot.stage)) (is_after_game heads.acknowledged (game_of slot.stage)) asks in
       eqb-false map.id 0 (not-true (map.id == 0) (and_parts (not (map.id == 0)) (not (is_active slot.stage)) two.0).0)
 
   owes_on_map : (slot : SlotState) (heads : Leading) (owed : Bool) → (owed ≡ true → map.id ≡ 0 → ⊥) → (owed || asks_game map slot heads) ≡ true → map.id ≡ 0 → ⊥
@@ -110,7 +98,7 @@ module _ (below : Below) (profile : Profile) (map : MapState) (c : ℕ) where
   joined_read : (slot : SlotState) (number : ℕ) (read : Result Came ClientIllegible) → IsJoined profile map.id slot → IsJoined profile map.id (run_read map slot c number read).slot
   joined_read slot number (Ok (OfMap message)) is = joined_ran slot number message (gap_in slot.executed.executed message.commands) is
   joined_read slot number (Ok (OfOther heads)) is =
-      record { player = is.player; area = is.area; begun = is.begun; owed = owes_on_map slot heads slot.owed is.owed; sends = is.sends; hears = is.hears }
+      record { player = is.player; area = is.area; owed = owes_on_map slot heads slot.owed is.owed; sends = is.sends; hears = is.hears }
   joined_read slot number (Err cause) is = is
 
   joined_answered : (slot : SlotState) (answer : Gathered) (read : ℕ → Result Came ClientIllegible) → IsJoined profile map.id slot → IsJoined profile map.id (took.take_answer map slot c answer read).slot
@@ -127,7 +115,7 @@ module _ (below : Below) (profile : Profile) (map : MapState) (c : ℕ) where
   joined_took from datagram slot is =
       let gathering = gathered_of slot.gathering datagram in
       joined_answered (record slot { address = from; gathering = gathering.gathering }) gathering.answer (λ number. said_by profile map slot gathering.message)
-      (record { player = is.player; area = is.area; begun = is.begun; owed = is.owed; sends = is.sends; hears = below.gathers.stays slot.gathering datagram ∙ is.hears })
+      (record { player = is.player; area = is.area; owed = is.owed; sends = is.sends; hears = below.gathers.stays slot.gathering datagram ∙ is.hears })
 
 -- ---- an emission
 
@@ -149,7 +137,7 @@ module _ (below : Below) (profile : Profile) (map : MapState) (frames : FramesSt
       elim (cases_Bool (is_overlong (built_bits profile built))) [
         | inl long ↦ rw long (record { client = is; is_map = is_map; id = refl; snapshots = made_is })
         | inr short ↦ rw short (record {
-          client = record { player = is.player; area = is.area; begun = is.begun; owed = is.owed; sends = begun_header (built_bytes profile built); hears = is.hears };
+          client = record { player = is.player; area = is.area; owed = is.owed; sends = begun_header (built_bytes profile built); hears = is.hears };
           is_map = is_map;
           id = refl;
           snapshots = made_is;
@@ -186,7 +174,7 @@ module _ (below : Below) (profile : Profile) (map : MapState) (frames : FramesSt
   emits_slot : (left : Option UnderWay) → Emits profile map (emit_slot profile map frames c slot left)
   emits_slot None = emits_new
   emits_slot (Some left) = record {
-    client = record { player = is.player; area = is.area; begun = is.begun; owed = is.owed; sends = (below.sends.stays slot.sending).0 ∙ is.sends; hears = is.hears };
+    client = record { player = is.player; area = is.area; owed = is.owed; sends = (below.sends.stays slot.sending).0 ∙ is.sends; hears = is.hears };
     is_map = is_map;
     id = refl;
     snapshots = holds;

@@ -38,14 +38,14 @@ flags_fit false false Connected = lit< tt
 flags_fit true false Connected = lit< tt
 flags_fit false true Connected = lit< tt
 flags_fit true true Connected = lit< tt
-flags_fit false false Primed = lit< tt
-flags_fit true false Primed = lit< tt
-flags_fit false true Primed = lit< tt
-flags_fit true true Primed = lit< tt
-flags_fit false false Active = lit< tt
-flags_fit true false Active = lit< tt
-flags_fit false true Active = lit< tt
-flags_fit true true Active = lit< tt
+flags_fit false false (Primed game) = lit< tt
+flags_fit true false (Primed game) = lit< tt
+flags_fit false true (Primed game) = lit< tt
+flags_fit true true (Primed game) = lit< tt
+flags_fit false false (Active game) = lit< tt
+flags_fit true false (Active game) = lit< tt
+flags_fit false true (Active game) = lit< tt
+flags_fit true true (Active game) = lit< tt
 
 module _ (below : Below) (profile : Profile) (map : MapState) (slot : SlotState) (is_map : IsMap profile map) (zero_is : IsHeld profile zero_player) (joined : IsJoined profile map.id slot) where
   pub next_is_snapshot : slot.sending.number + 1 < sequence_end → IsSnapshot profile (next_snapshot map slot)

@@ -16,7 +16,6 @@ use Rattle.q3_frames.specs.Frames.{FramesState, held_frame}
 use Rattle.q3_frames.specs.Laws.{NothingIsHeld, HeldWasBuilt, BaseIsNear}
 use Rattle.q3_map.specs.Laws.{ListsStayHeld, NewMapsTell}
 use Rattle.q3_map.specs.Map.{MapState, AreHeld}
-use Rattle.q3_slot.specs.declared.stage.ClientStage.TheVariants.{Connected}
 use Rattle.q3_built.specs.Built.{IsHeld, IsArea, IsSnapshot, IsBuilt}
 use Rattle.q3_slot.specs.Slot.{SlotState}
 use Rattle.q3_server.specs.Server.{ServerState, slot_at, emit_at}
@@ -34,13 +33,11 @@ pub record IsMap (profile : Profile) (map : MapState) : Type 0 where
   pub baselines : AreBaselines profile.entity map.baselines
   pub entities : AreHeld profile.entity map.entities
 
--- a client on a map of this id: its player is in normal form, its area bytes are bytes and few, one for which no gamestate was begun is
--- connected, and one is owed on a map alone; what goes to it has the header of a server, and what its slot hears the form of a client, by
--- its challenge and the protocol
+-- a client on a map of this id: its player is in normal form, its area bytes are bytes and few, and a gamestate is owed on a map alone;
+-- what goes to it has the header of a server, and what its slot hears the form of a client, by its challenge and the protocol
 pub record IsJoined (profile : Profile) (id : ℕ) (slot : SlotState) : Type 0 where
   pub player : IsHeld profile slot.player
   pub area : IsArea slot.area.items
-  pub begun : slot.game ≡ None → slot.stage ≡ Connected
   pub owed : slot.owed ≡ true → id ≢ 0
   pub sends : slot.sending.header ≡ server_header (check_for profile.protocol slot.challenge)
   pub hears : slot.gathering.form ≡ client_form (check_for profile.protocol slot.challenge)

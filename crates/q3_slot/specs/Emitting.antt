@@ -51,7 +51,7 @@ telling_under profile slot number = record {
   ack = slot.executed.executed;
   commands = carried slot.issued;
   last = issued_of slot.issued;
-  under = plays_under slot.stage slot.game;
+  under = plays_under slot.stage;
   key = server_key profile.protocol slot.challenge number slot.executed.last;
 }
 

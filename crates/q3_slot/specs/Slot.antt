@@ -16,7 +16,7 @@ use Rattle.q3_slot.specs.declared.stage.ClientStage.TheVariants.{Connected, Prim
 
 -- whether a client plays
 abbrev pub is_active : ClientStage → Bool
-is_active Active = true
+is_active (Active game) = true
 is_active other = false
 
 -- whether no gamestate of the map was begun for it
@@ -24,17 +24,21 @@ abbrev pub is_connected : ClientStage → Bool
 is_connected Connected = true
 is_connected other = false
 
--- a client at the server: how it joined and from where, how far it came on the map, the number of the last gamestate of the map
--- that was begun for it, if one was, and whether one is owed; what is being sent to it, what was gathered of what it sends, the
--- commands that were issued to it, and those of its own that were executed; the number of the snapshot that it asks to write the
--- next one against, 0 for none, the time of its last move that was run, 0 for none, its player in normal form, its area bytes, and whether
--- its snapshots are delayed by rate control
+-- the message number of the last gamestate of the map that was begun for it, if one was
+abbrev pub game_of : ClientStage → Option ℕ
+game_of Connected = None
+game_of (Primed game) = Some game
+game_of (Active game) = Some game
+
+-- a client at the server: how it joined and from where, how far it came on the map, and whether a gamestate is owed to it; what is
+-- being sent to it, what was gathered of what it sends, the commands that were issued to it, and those of its own that were executed;
+-- the number of the snapshot that it asks to write the next one against, 0 for none, the time of its last move that was run, 0 for
+-- none, its player in normal form, its area bytes, and whether its snapshots are delayed by rate control
 pub record SlotState : Type 0 where
   pub challenge : ℕ
   pub address : Address
   pub qport : ℕ
   pub stage : ClientStage
-  pub game : Option ℕ
   pub owed : Bool
   pub sending : Sending
   pub gathering : Gathering
@@ -53,7 +57,6 @@ new_slot protocol challenge qport address = record {
   address = address;
   qport = qport;
   stage = Connected;
-  game = None;
   owed = false;
   sending = new_sending (server_form (check_for protocol challenge)) 0;
   gathering = new_gathering (client_form (check_for protocol challenge));
@@ -93,7 +96,6 @@ sending_of (Some slot) = option_map (λ left. slot.sending.number) slot.sending.
 abbrev pub on_new_map : SlotState → SlotState
 on_new_map slot = record slot {
   stage = Connected;
-  game = None;
   owed = false;
   delta = 0;
   player = zero_player;
@@ -105,9 +107,10 @@ abbrev pub asked : SlotState → ℕ
 asked slot = if is_active slot.stage then slot.delta else 0
 
 -- the gamestate under which its client plays, if it does
-abbrev pub plays_under : ClientStage → Option ℕ → Option ℕ
-plays_under stage game = if is_active stage then game else None
+abbrev pub plays_under : ClientStage → Option ℕ
+plays_under (Active game) = Some game
+plays_under other = None
 
 -- the slot where the gamestate of a number is begun
 abbrev pub primed : SlotState → ℕ → SlotState
-primed slot number = record slot { stage = Primed; game = Some number; owed = false }
+primed slot number = record slot { stage = Primed number; owed = false }

@@ -41,7 +41,6 @@ slot_of sending gathering issued client = record {
   address = client.address;
   qport = client.qport;
   stage = client.stage;
-  game = client.game;
   owed = client.owed;
   sending = sending;
   gathering = gathering;

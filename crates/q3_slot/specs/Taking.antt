@@ -24,7 +24,7 @@ use Rattle.q3_slot.specs.declared.taking.ServerTook.TheVariants.{Runt, Connectio
 use Rattle.q3_map.specs.Map.{MapState, is_other}
 use Rattle.q3_slot.specs.declared.stage.ClientStage.{ClientStage}
 use Rattle.q3_slot.specs.declared.stage.ClientStage.TheVariants.{Connected, Primed, Active}
-use Rattle.q3_slot.specs.Slot.{SlotState, is_active}
+use Rattle.q3_slot.specs.Slot.{SlotState, game_of, is_active}
 
 -- the moves of a message that are run: each whose time is above that of the last one run
 unfoldable pub runs : ℕ → List Move → List Move
@@ -61,7 +61,7 @@ pub record Playing : Type 0 where
 -- those of a client that plays are run
 abbrev pub plays : SlotState → Message → Playing
 plays slot message = record {
-  stage = Active;
+  stage = slot.stage;
   delta = delta_after slot.delta message;
   last_run = last_run_of slot.last_run message.moves;
   entered = None;
@@ -69,9 +69,9 @@ plays slot message = record {
 }
 
 -- with the first of one that is primed it enters the map: that move isn't run, and its time counts as that of the last one
-abbrev pub enters : Move → List Move → Playing
-enters one moves = record {
-  stage = Active;
+abbrev pub enters : ℕ → Move → List Move → Playing
+enters game one moves = record {
+  stage = Active game;
   delta = 0;
   last_run = last_run_of one.time moves;
   entered = Some one.time;
@@ -89,8 +89,8 @@ stands slot = record { stage = slot.stage; delta = slot.delta; last_run = slot.l
 -- how a client with moves goes on, by how far it came
 abbrev pub moves_on : SlotState → Message → Move → List Move → ClientStage → Playing
 moves_on slot message one moves Connected = waits slot
-moves_on slot message one moves Primed = enters one moves
-moves_on slot message one moves Active = plays slot message
+moves_on slot message one moves (Primed game) = enters game one moves
+moves_on slot message one moves (Active game) = plays slot message
 
 abbrev pub goes_on : SlotState → Message → List Move → Playing
 goes_on slot message [] = stands slot
@@ -143,7 +143,7 @@ is_after_game number (Some game) = nat_lt game number
 -- whether a message of another map makes a gamestate owed: where there is a map that its client doesn't play, and it came after
 -- the last gamestate
 abbrev pub asks_game : MapState → SlotState → Leading → Bool
-asks_game map slot heads = not (map.id == 0) && not (is_active slot.stage) && is_after_game heads.acknowledged slot.game
+asks_game map slot heads = not (map.id == 0) && not (is_active slot.stage) && is_after_game heads.acknowledged (game_of slot.stage)
 
 -- a message of another map runs nothing, but its acknowledgement is taken, and a gamestate may be owed from then on
 abbrev pub ignores : MapState → SlotState → ℕ → Leading → SlotTaken

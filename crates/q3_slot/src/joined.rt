@@ -18,6 +18,7 @@ ghost use Rattle.q3_window.specs.Incoming.{executes, fresh_of};
 ghost use Rattle.q3_window.specs.Outgoing.{OutgoingState, acknowledge_at, new_outgoing};
 ghost use Rattle.q3_slot.specs.declared.stage.ClientStage.TheVariants.{Connected, Primed, Active};
 ghost use Rattle.q3_slot.specs.Emitting.{next_snapshot, snapshot_flags};
+ghost use Rattle.q3_slot.specs.Slot.{game_of};
 ghost use Rattle.q3_slot.specs.Slot as slot_spec;
 ghost use Rattle.q3_slot.specs.Slots.{slot_of, slot_with, came_of, goes_with, played};
 ghost use Rattle.q3_slot.specs.Taking.{ignores, last_run_of, leading_of, nothing_heard, run_read, runs, said_by};
@@ -58,8 +59,6 @@ pub(crate) struct Joined {
 
     // how far it came on the map
     pub stage: ClientStage,
-    /// The message number of the last gamestate of the map that was begun for it, if one was.
-    pub game: Option<u32>,
     /// Whether a gamestate is owed to it: its message goes before any other.
     pub owed: bool,
 
@@ -108,7 +107,6 @@ impl Joined {
     pub fn begin_map(&mut self)
         ensures { self.new ≡ record self.old {
           stage = Connected;
-          game = None;
           owed = false;
           delta = 0;
           player = zero_player;
@@ -116,7 +114,6 @@ impl Joined {
         } }
     {
         self.stage = ClientStage::Connected;
-        self.game = None;
         self.owed = false;
         self.delta = 0;
         self.player = PlayerState::zero();
@@ -125,10 +122,9 @@ impl Joined {
 
     /// The gamestate that was owed is begun, under a number: the client is primed.
     pub fn prime(&mut self, number: u32)
-        ensures { self.new ≡ record self.old { stage = Primed; game = Some number; owed = false } }
+        ensures { self.new ≡ record self.old { stage = Primed number; owed = false } }
     {
-        self.stage = ClientStage::Primed;
-        self.game = Some(number);
+        self.stage = ClientStage::Primed { game: number };
         self.owed = false;
     }
 
@@ -246,9 +242,9 @@ impl Joined {
 
     /// Whether a message number is above that of the last gamestate of the map, if one was begun.
     fn is_after_game(&self, number: u32) -> bool
-        ensures { result ≡ spec.is_after_game number self.now.game }
+        ensures { result ≡ spec.is_after_game number (game_of self.now.stage) }
     {
-        match self.game {
+        match self.stage.game() {
             Some(game) => game < number,
             None => true,
         }
@@ -296,17 +292,17 @@ impl Joined {
         };
         match self.stage {
             ClientStage::Connected => self.delta = 0,
-            ClientStage::Primed => self.enter(first.time, rest, heard),
-            ClientStage::Active => self.go_on(message, heard),
+            ClientStage::Primed { game } => self.enter(game, first.time, rest, heard),
+            ClientStage::Active { .. } => self.go_on(message, heard),
         }
     }
 
-    /// Enters the map with a move of this time, which isn't run, and runs those after it.
-    fn enter(&mut self, time: u32, rest: &[Move], heard: &mut Heard)
+    /// Enters the map under a gamestate, with a move of this time, which isn't run, and runs those after it.
+    fn enter(&mut self, game: u32, time: u32, rest: &[Move], heard: &mut Heard)
         requires few { length rest.now ≤ 32 }
         requires no_moves { heard.old.moves.items ≡ [] }
         ensures client { self.new ≡ record self.old {
-          stage = Active;
+          stage = Active game;
           delta = 0;
           last_run = last_run_of time rest.now;
         } }
@@ -315,7 +311,7 @@ impl Joined {
         ensures commands { heard.new.commands ≡ heard.old.commands }
         ensures owed { heard.new.owed ≡ heard.old.owed }
     {
-        self.stage = ClientStage::Active;
+        self.stage = ClientStage::Active { game };
         self.delta = 0;
         self.last_run = run_moves(time, rest, &mut heard.moves);
         heard.entered = Some(time);

@@ -116,7 +116,6 @@ impl Slot {
             address,
             qport,
             stage: ClientStage::Connected,
-            game: None,
             owed: false,
             executed: Incoming::new(),
             delta: 0,

@@ -2,6 +2,7 @@
 //! `clientState_t` (server.h).
 
 ghost use Rattle.std.specs.Prelude.{◌≡◌};
+ghost use Rattle.q3_slot.specs.Slot.{game_of};
 ghost use Rattle.q3_slot.specs.Slot as spec;
 
 /// How far a client came.
@@ -19,10 +20,10 @@ ghost use Rattle.q3_slot.specs.Slot as spec;
 pub enum ClientStage {
     /// No gamestate of the map was begun for it.
     Connected,
-    /// One was begun.
-    Primed,
-    /// It plays.
-    Active,
+    /// One was begun, the last of them as the message of this number.
+    Primed { game: u32 },
+    /// It plays under it.
+    Active { game: u32 },
 }
 
 impl ClientStage {
@@ -31,7 +32,7 @@ impl ClientStage {
         ensures { result ≡ spec.is_active self }
     {
         match self {
-            ClientStage::Active => true,
+            ClientStage::Active { .. } => true,
             _ => false,
         }
     }
@@ -43,6 +44,16 @@ impl ClientStage {
         match self {
             ClientStage::Connected => true,
             _ => false,
+        }
+    }
+
+    /// The message number of the last gamestate of the map that was begun for it, if one was.
+    pub fn game(self) -> Option<u32>
+        ensures { result ≡ game_of self }
+    {
+        match self {
+            ClientStage::Connected => None,
+            ClientStage::Primed { game } | ClientStage::Active { game } => Some(game),
         }
     }
 }

@@ -488,8 +488,8 @@ asked_playing accepted slot message was asks = with_moves message.moves
   where
     at_stage : (one : Move) (others : List Move) (stage : ClientStage) → ((moves_on slot message one others stage).delta ≡ 0) ⊎ WasAccepted accepted (moves_on slot message one others stage).delta
     at_stage one others Connected = inl refl
-    at_stage one others Primed = inl refl
-    at_stage one others Active = asked_after accepted slot.delta message was asks
+    at_stage one others (Primed game) = inl refl
+    at_stage one others (Active game) = asked_after accepted slot.delta message was asks
 
     with_moves : (moves : List Move) → ((goes_on slot message moves).delta ≡ 0) ⊎ WasAccepted accepted (goes_on slot message moves).delta
     with_moves [] = was

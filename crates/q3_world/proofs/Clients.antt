@@ -138,9 +138,9 @@ module _ (profile : Profile) (slot : SlotState) (qport host : ℕ) (built : List
       }
 
   -- how far its client came, what is owed to it, and what it asks for
-  pub KeepsSlot-stands : (stage : ClientStage) (game : Option ℕ) (owed : Bool) (delta : ℕ) → KeepsSlot profile slot qport host built run commands
-      → KeepsSlot profile (record slot { stage = stage; game = game; owed = owed; delta = delta }) qport host built run commands
-  KeepsSlot-stands stage game owed delta keeps =
+  pub KeepsSlot-stands : (stage : ClientStage) (owed : Bool) (delta : ℕ) → KeepsSlot profile slot qport host built run commands
+      → KeepsSlot profile (record slot { stage = stage; owed = owed; delta = delta }) qport host built run commands
+  KeepsSlot-stands stage owed delta keeps =
       record {
         qport = keeps.qport;
         host = keeps.host;

@@ -3,7 +3,7 @@
 use Rattle.q3_text.specs.Info as info
 use Rattle.q3_svmsg.specs.Values as told
 use Rattle.std.proofs.Common.{[], List, None, Option, Some, ap, arith, false, inl, inr, length, refl, subst, sym, true, ℕ, ◌++◌, ◌+◌, ◌<◌, ◌∙◌, ◌∷◌, ◌≡◌, ◌≤◌}
-use Rattle.std.specs.Prelude.{All, IfSome, if◌then◌else◌}
+use Rattle.std.specs.Prelude.{All, Bool, IfSome, if◌then◌else◌}
 use Rattle.std.proofs.lemmas.Bool.{cases_lt}
 use Rattle.std.proofs.lemmas.List.{length_push}
 use Rattle.std.proofs.lemmas.List.Elements.{All-contains, All-nil, All-weaker}
@@ -17,7 +17,7 @@ use Rattle.q3_profile.specs.declared.profile.Profile.{Profile}
 use Rattle.q3_entity_ring.specs.Snapshot.{Snapshot}
 use Rattle.q3_built.specs.Built.{Built}
 use Rattle.q3_slot.specs.Emitting.{nothing}
-use Rattle.q3_slot.specs.Slot.{is_active, new_slot, plays_under}
+use Rattle.q3_slot.specs.Slot.{game_of, is_active, new_slot, plays_under}
 use Rattle.q3_slot.specs.declared.stage.ClientStage.{ClientStage}
 use Rattle.q3_slot.specs.declared.stage.ClientStage.TheVariants.{Active, Connected, Primed}
 use Rattle.q3_world.specs.Games.{AreBuiltUnder, AreMapped, BuiltUnder, Carries, HasGames, HasLast, Standing, Tells, WasApplied, WasPlayed, standing_of}
@@ -27,23 +27,23 @@ use Rattle.q3_world.proofs.GamesParts.{HasNone, built_end, built_front, carries_
 
 -- ---- stages
 
-not_active : Connected ≡ Active → ⊥
-not_active e = absurd (cc)
-
-primed_active : Primed ≡ Active → ⊥
-primed_active e = absurd (cc)
-
-primed_connected : Primed ≡ Connected → ⊥
-primed_connected e = absurd (cc)
-
 untrue : false ≡ true → ⊥
 untrue e = absurd (cc)
 
--- a client plays under a gamestate
-plays : (stage : ClientStage) (game : Option ℕ) (g : ℕ) → plays_under stage game ≡ Some g → (stage ≡ Active) × (game ≡ Some g)
-plays Connected game g e = absurd (none_some g e)
-plays Primed game g e = absurd (none_some g e)
-plays Active game g e = (refl, e)
+-- the gamestate under which a client plays
+abbrev pub under_of : Bool → Option ℕ → Option ℕ
+under_of true game = game
+under_of false game = None
+
+pub under_stage : (stage : ClientStage) → plays_under stage ≡ under_of (is_active stage) (game_of stage)
+under_stage Connected = refl
+under_stage (Primed game) = refl
+under_stage (Active game) = refl
+
+-- a client plays under it
+plays_so : (plays : Bool) (game : Option ℕ) (g : ℕ) → under_of plays game ≡ Some g → (plays ≡ true) × (game ≡ Some g)
+plays_so true game g e = (refl, e)
+plays_so false game g e = absurd (none_some g e)
 
 -- ---- a client joins
 
@@ -65,9 +65,8 @@ AreMapped-new profile challenge qport address map =
       };
       stands = record {
         last = λ n game is tells. no_carries n game is;
-        none = (λ e. refl, λ e. refl);
         earlier = λ m n id first second is other lt told same. absurd (no_carries m first is);
-        active = λ e. absurd (not_active e);
+        active = λ e. absurd (untrue e);
         owed = λ e. absurd (untrue e);
         other = All-nil _;
         older = λ e. tt;
@@ -172,12 +171,12 @@ module _ (map : MapState) (slot : Standing) (state : AppliedState) (taken last_t
   }
 
   -- what a snapshot is built under
-  snapshot_under : (next : Built) (n g : ℕ) → HasNone next → next.under ≡ plays_under slot.stage slot.game → next.baselines ≡ map.baselines
-      → IfSome next.base (λ base. (0 < base.head.number) × (base.head.number ≡ (if is_active slot.stage then slot.delta else 0)))
+  snapshot_under : (next : Built) (n g : ℕ) → HasNone next → next.under ≡ under_of slot.plays slot.game → next.baselines ≡ map.baselines
+      → IfSome next.base (λ base. (0 < base.head.number) × (base.head.number ≡ (if slot.plays then slot.delta else 0)))
       → AreMapped map slot state taken last_time built games began accepted executed → n ≡ length built + 1 → next.under ≡ Some g
       → BuiltUnder (built ++ next ∷ []) games n g
   snapshot_under next n g none under baselines base are number is =
-      let of = plays slot.stage slot.game g (sym under ∙ is) in
+      let of = plays_so slot.plays slot.game g (sym under ∙ is) in
       let last : HasLast map built (Some g) = subst (HasLast map built) of.1 are.stands.last in
       let begun = last.0.1.begun in
       let active = are.stands.active of.0 in
@@ -192,10 +191,10 @@ module _ (map : MapState) (slot : Standing) (state : AppliedState) (taken last_t
             ∙ (sym (are.of_maps.same g last.0.0 last.0.1 last.0.2).1
             ∙ ap (λ (x : Gamestate). x.baselines) (carries_one built g last.0.0 game last.0.1 (carries_before built next g game none carries))));
         base = subst (λ (b : Built). IfSome b.base (λ (base : Snapshot). g < base.head.number)) (sym at)
-            (some_then next.base (λ (base : Snapshot). (0 < base.head.number) × (base.head.number ≡ (if is_active slot.stage then slot.delta else 0))) (λ (base : Snapshot). g < base.head.number)
+            (some_then next.base (λ (base : Snapshot). (0 < base.head.number) × (base.head.number ≡ (if slot.plays then slot.delta else 0))) (λ (base : Snapshot). g < base.head.number)
             (λ base e from.
             let some = from.0 in
-            let asks : base.head.number ≡ slot.delta = from.1 ∙ ap (λ (s : ClientStage). if is_active s then slot.delta else 0) of.0 in
+            let asks : base.head.number ≡ slot.delta = from.1 ∙ ap (λ (plays : Bool). if plays then slot.delta else 0) of.0 in
             elim are.delta [
               | inl nothing ↦ absurd (omega (arith, some, asks, nothing))
               | inr under ↦
@@ -209,8 +208,8 @@ module _ (map : MapState) (slot : Standing) (state : AppliedState) (taken last_t
       }
 
   -- a snapshot is begun, against the one that the slot asks for where its client plays, or whole
-  pub AreMapped-snapshot : (next : Built) → HasNone next → next.under ≡ plays_under slot.stage slot.game → next.baselines ≡ map.baselines
-      → IfSome next.base (λ base. (0 < base.head.number) × (base.head.number ≡ (if is_active slot.stage then slot.delta else 0)))
+  pub AreMapped-snapshot : (next : Built) → HasNone next → next.under ≡ under_of slot.plays slot.game → next.baselines ≡ map.baselines
+      → IfSome next.base (λ base. (0 < base.head.number) × (base.head.number ≡ (if slot.plays then slot.delta else 0)))
       → AreMapped map slot state taken last_time built games began accepted executed
       → AreMapped map slot state taken last_time (built ++ next ∷ []) games began accepted executed
   AreMapped-snapshot next none under baselines base are =
@@ -223,7 +222,6 @@ module _ (map : MapState) (slot : Standing) (state : AppliedState) (taken last_t
         };
         stands = record {
           last = last_stays map built next slot.game none stands.last;
-          none = stands.none;
           earlier = λ m n id first second is other. stands.earlier m n id first second (carries_before built next m first none is) (carries_before built next n second none other);
           active = stands.active;
           owed = stands.owed;
@@ -240,10 +238,10 @@ module _ (map : MapState) (slot : Standing) (state : AppliedState) (taken last_t
 
   -- a gamestate of the map is begun, where one is owed
   pub AreMapped-game : (next : Built) (game : Gamestate) (n : ℕ) → n ≡ length built + 1 → slot.owed ≡ true → next.message.section ≡ told.Game game
-      → next.under ≡ plays_under slot.stage slot.game → Tells game map.id → game.baselines ≡ map.baselines → game.feed ≡ map.feed
+      → next.under ≡ under_of slot.plays slot.game → Tells game map.id → game.baselines ≡ map.baselines → game.feed ≡ map.feed
       → taken ≤ length built → All (λ (s : Said). s.message.acknowledged ≤ length built) began
       → AreMapped map slot state taken last_time built games began accepted executed
-      → AreMapped (begins_game map) (record slot { stage = Primed; game = Some n; owed = false }) state taken last_time (built ++ next ∷ []) games began accepted executed
+      → AreMapped (begins_game map) (record slot { plays = false; game = Some n; owed = false }) state taken last_time (built ++ next ∷ []) games began accepted executed
   AreMapped-game next game n number owed section under tells baselines feed few acks are =
       let stands = are.stands in
       let owes = stands.owed owed in
@@ -286,7 +284,6 @@ module _ (map : MapState) (slot : Standing) (state : AppliedState) (taken last_t
         };
         stands = record {
           last = ((game, begun, tells), λ k x is. let within = is.begun in omega (arith, within, number, length_push built next));
-          none = (λ e. absurd (none_some n (sym e)), λ e. absurd (primed_connected e));
           earlier = λ m k id first second is other lt told same. elim (carries_cases built next k second other) [
             | inl before ↦
                 let within = before.begun in
@@ -299,7 +296,7 @@ module _ (map : MapState) (slot : Standing) (state : AppliedState) (taken last_t
                   | inr apart ↦ is_past map slot taken built games began stands m first (carries_front built (next ∷ []) m first (omega (arith, lt, place)) is) (told ∙ ap Some one) apart
                 ]
           ];
-          active = λ e. absurd (primed_active e);
+          active = λ e. absurd (untrue e);
           owed = λ e. absurd (untrue e);
           other = All-weaker (λ (s : Said). s.message.acknowledged ≤ length built)
               (λ (s : Said). (s.message.id ≡ map.id → ⊥) → n < s.message.acknowledged → (WasPlayed games n → ⊥) × (n < taken))
@@ -308,7 +305,7 @@ module _ (map : MapState) (slot : Standing) (state : AppliedState) (taken last_t
         };
         has = has_more state taken last_time built games accepted executed next are.has;
         said = are.said;
-        under = under_more built games next are.under (λ k g last is. absurd (owes.0 (plays slot.stage slot.game g (sym under ∙ is)).0));
+        under = under_more built games next are.under (λ k g last is. absurd (owes.0 (plays_so slot.plays slot.game g (sym under ∙ is)).0));
         delta = elim are.delta [
           | inl nothing ↦ inl nothing
           | inr under ↦ absurd (owes.0 under.2)

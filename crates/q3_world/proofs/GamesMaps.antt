@@ -14,12 +14,8 @@ use Rattle.q3_map.specs.Map.{Handed, MapState, set_baseline_at, after_new_map, b
 use Rattle.q3_map.specs.declared.map.Late.{Late}
 use Rattle.q3_entity_ring.specs.Snapshot.{Snapshot}
 use Rattle.q3_built.specs.Built.{Built}
-use Rattle.q3_slot.specs.declared.stage.ClientStage.TheVariants.{Active, Connected}
 use Rattle.q3_world.specs.Games.{AreMapped, Carries, HasLast, Standing, Tells}
 use Rattle.q3_world.specs.World.{Played}
-
-not_active : Connected ≡ Active → ⊥
-not_active e = absurd (cc)
 
 untrue : false ≡ true → ⊥
 untrue e = absurd (cc)
@@ -33,7 +29,7 @@ module _ (map : MapState) (slot : Standing) (state : AppliedState) (taken last_t
     (accepted : List Snapshot) (executed : List (List ℕ)) where
   -- a new map: its id is above that of the last, and its clients are connected
   pub AreMapped-map : (id feed : ℕ) → map.id < id → AreMapped map slot state taken last_time built games began accepted executed
-      → AreMapped (after_new_map map id feed) (record slot { stage = Connected; game = None; owed = false; delta = 0 }) state taken last_time built games began accepted executed
+      → AreMapped (after_new_map map id feed) (record slot { plays = false; game = None; owed = false; delta = 0 }) state taken last_time built games began accepted executed
   AreMapped-map id feed above are =
       let before : (n : ℕ) (game : Gamestate) → Carries built n game → Tells game id → ⊥ =
       λ n game is tells. let most = (are.of_maps.ids n id game is tells).1 in omega (arith, most, above) in
@@ -45,9 +41,8 @@ module _ (map : MapState) (slot : Standing) (state : AppliedState) (taken last_t
         };
         stands = record {
           last = before;
-          none = (λ e. refl, λ e. refl);
           earlier = are.stands.earlier;
-          active = λ e. absurd (not_active e);
+          active = λ e. absurd (untrue e);
           owed = λ e. absurd (untrue e);
           other = λ k d within apart. tt;
           older = λ e. tt;
@@ -78,7 +73,6 @@ module _ (map : MapState) (slot : Standing) (state : AppliedState) (taken last_t
         };
         stands = record {
           last = last_of map new built slot.game id stands.last;
-          none = stands.none;
           earlier = stands.earlier;
           active = stands.active;
           owed = λ e. let was = stands.owed e in (was.0, λ zero. was.1 (sym id ∙ zero), was.2);

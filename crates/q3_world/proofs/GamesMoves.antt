@@ -101,8 +101,8 @@ goes_most slot message most le all = with_moves message.moves all
   where
     at_stage : (one : Move) (moves : List Move) (stage : ClientStage) → All (λ (one : Move). one.time ≤ most) (one ∷ moves) → (moves_on slot message one moves stage).last_run ≤ most
     at_stage one moves Connected each = le
-    at_stage one moves Primed each = runs_most one.time most moves (All-head (λ (one : Move). one.time ≤ most) one moves each) (All-tail (λ (one : Move). one.time ≤ most) one moves each)
-    at_stage one moves Active each = runs_most slot.last_run most message.moves le all
+    at_stage one moves (Primed game) each = runs_most one.time most moves (All-head (λ (one : Move). one.time ≤ most) one moves each) (All-tail (λ (one : Move). one.time ≤ most) one moves each)
+    at_stage one moves (Active game) each = runs_most slot.last_run most message.moves le all
 
     with_moves : (moves : List Move) → All (λ (one : Move). one.time ≤ most) moves → (goes_on slot message moves).last_run ≤ most
     with_moves [] each = le

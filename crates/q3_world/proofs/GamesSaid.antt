@@ -11,7 +11,7 @@ use Rattle.q3_gamestate.specs.Values.{Gamestate}
 use Rattle.q3_map.specs.Map.{MapState, is_other}
 use Rattle.q3_entity_ring.specs.Snapshot.{Snapshot}
 use Rattle.q3_built.specs.Built.{Built}
-use Rattle.q3_slot.specs.Slot.{SlotState, is_active}
+use Rattle.q3_slot.specs.Slot.{SlotState, game_of, is_active}
 use Rattle.q3_slot.specs.Taking.{Playing, asked_with, goes_on, is_after_game, moves_on}
 use Rattle.q3_slot.specs.declared.stage.ClientStage.{ClientStage}
 use Rattle.q3_slot.specs.declared.stage.ClientStage.TheVariants.{Active, Connected, Primed}
@@ -91,7 +91,6 @@ module _ (map : MapState) (slot : Standing) (state : AppliedState) (taken last_t
         of_maps = are.of_maps;
         stands = record {
           last = stands.last;
-          none = stands.none;
           earlier = stands.earlier;
           active = stands.active;
           owed = stands.owed;
@@ -145,17 +144,17 @@ module _ (map : MapState) (slot : Standing) (state : AppliedState) (taken last_t
     (accepted : List Snapshot) (executed : List (List ℕ)) where
   -- the server hears a message of another map
   pub AreMapped-ignores : (one : Said) → Contains began one → is_other map one.message.id ≡ true → AreMapped map slot state taken last_time built games began accepted executed
-      → AreMapped map (record slot { owed = slot.owed || (not (map.id == 0) && not (is_active slot.stage) && is_after_game one.message.acknowledged slot.game) })
+      → AreMapped map (record slot { owed = slot.owed || (not (map.id == 0) && not slot.plays && is_after_game one.message.acknowledged slot.game) })
       state taken last_time built games began accepted executed
   AreMapped-ignores one there apart are =
       let stands = are.stands in
-      let asks : Bool = not (map.id == 0) && not (is_active slot.stage) && is_after_game one.message.acknowledged slot.game in
-      let owes : asks ≡ true → (slot.stage ≡ Active → ⊥) × (map.id ≡ 0 → ⊥) × IfSome slot.game (λ n. (WasPlayed games n → ⊥) × (n < taken)) =
+      let asks : Bool = not (map.id == 0) && not slot.plays && is_after_game one.message.acknowledged slot.game in
+      let owes : asks ≡ true → (slot.plays ≡ true → ⊥) × (map.id ≡ 0 → ⊥) × IfSome slot.game (λ n. (WasPlayed games n → ⊥) × (n < taken)) =
       λ e.
-      let parts = asks_parts (not (map.id == 0)) (not (is_active slot.stage)) (is_after_game one.message.acknowledged slot.game) e in
+      let parts = asks_parts (not (map.id == 0)) (not slot.plays) (is_after_game one.message.acknowledged slot.game) e in
       let some = eqb-false map.id 0 (not-true (map.id == 0) parts.0) in
-      let waits = not-true (is_active slot.stage) parts.1 in (
-        λ active. both_ways (is_active slot.stage) waits (ap is_active active),
+      let waits = not-true slot.plays parts.1 in (
+        λ active. both_ways slot.plays waits active,
         some,
         some_then slot.game (λ (n : ℕ). n < one.message.acknowledged) (λ (n : ℕ). (WasPlayed games n → ⊥) × (n < taken))
             (λ n is lt. some_at slot.game (λ (n : ℕ). n < one.message.acknowledged → (WasPlayed games n → ⊥) × (n < taken)) n is
@@ -167,7 +166,6 @@ module _ (map : MapState) (slot : Standing) (state : AppliedState) (taken last_t
         of_maps = are.of_maps;
         stands = record {
           last = stands.last;
-          none = stands.none;
           earlier = stands.earlier;
           active = λ e. (
             or_from slot.owed asks (stands.active e).0 (false_from_ne_true asks (λ asked. (owes asked).0 e)),
@@ -195,17 +193,17 @@ pub record IsOfMap (map : MapState) (slot : Standing) (games : List Played) (acc
   pub played : Played
   pub there : Contains games played
   pub last : slot.game ≡ Some played.number
-  pub begun : slot.stage ≡ Connected → ⊥
+  pub begun : slot.game ≡ None → ⊥
   pub unowed : slot.owed ≡ false
   pub feed : said.feed ≡ map.feed
   pub after : played.number ≤ said.message.acknowledged
   pub asks : said.message.delta ≡ true → AcceptedUnder games accepted played said.message.acknowledged
-  pub older : (slot.stage ≡ Active → ⊥) → slot.last_run ≤ played.time
+  pub older : (slot.plays ≡ true → ⊥) → slot.last_run ≤ played.time
   pub later : All (λ (one : Move). played.time < one.time) said.message.moves
 
 -- the slot's part of it, after what the moves of a message do
 abbrev pub with_playing : Standing → Playing → Standing
-with_playing slot playing = record slot { stage = playing.stage; delta = playing.delta; last_run = playing.last_run }
+with_playing slot playing = record slot { plays = is_active playing.stage; game = game_of playing.stage; delta = playing.delta; last_run = playing.last_run }
 
 -- what holds of a number that a message asks for holds of the one that is asked for then
 asked_then : (P : ℕ → Type 0) (before : ℕ) (message : Message) (moves : List Move) → (before ≡ 0) ⊎ P before → (message.delta ≡ true → P message.acknowledged)
@@ -245,7 +243,7 @@ module _ (map : MapState) (slot : Standing) (state : AppliedState) (taken last_t
               played = played;
               there = said.there;
               last = last;
-              begun = λ e. none_some played.number (sym (stands.none.1 e) ∙ last);
+              begun = λ e. none_some played.number (sym e ∙ last);
               unowed = false_from_ne_true slot.owed (λ owed. (some_at slot.game (λ (n : ℕ). (WasPlayed games n → ⊥) × (n < taken)) played.number last (stands.owed owed).2).0 was);
               feed = said.feed ∙ (are.of_maps.same played.number played.game applied.carries tells).2;
               after = said.after;
@@ -258,14 +256,13 @@ module _ (map : MapState) (slot : Standing) (state : AppliedState) (taken last_t
   -- a client plays on, or enters the map
   plays_on : (one : Said) (delta last_run : ℕ) → IsOfMap map slot games accepted one → (delta ≡ 0) ⊎ IsUnder slot.game games accepted delta → last_run ≤ last_time
       → AreMapped map slot state taken last_time built games began accepted executed
-      → AreMapped map (record slot { stage = Active; delta = delta; last_run = last_run }) state taken last_time built games began accepted executed
+      → AreMapped map (record slot { plays = true; delta = delta; last_run = last_run }) state taken last_time built games began accepted executed
   plays_on one delta last_run of asks ran are =
       let stands = are.stands in
       record {
         of_maps = are.of_maps;
         stands = record {
           last = stands.last;
-          none = (λ e. absurd (none_some of.played.number (sym e ∙ of.last)), λ e. absurd (active_connected e));
           earlier = stands.earlier;
           active = λ e. (of.unowed, (of.played.number, of.last, (of.played, of.there, refl)));
           owed = λ e. absurd (both_ways slot.owed of.unowed e);
@@ -282,12 +279,9 @@ module _ (map : MapState) (slot : Standing) (state : AppliedState) (taken last_t
         ran = ran;
         acks = are.acks;
       }
-    where
-      active_connected : Active ≡ Connected → ⊥
-      active_connected e = absurd (cc)
 
   -- the moves of a client that isn't playing came after the last that was run
-  pub enters_later : (one : Said) → IsOfMap map slot games accepted one → (slot.stage ≡ Active → ⊥) → All (λ (move : Move). slot.last_run < move.time) one.message.moves
+  pub enters_later : (one : Said) → IsOfMap map slot games accepted one → (slot.plays ≡ true → ⊥) → All (λ (move : Move). slot.last_run < move.time) one.message.moves
   enters_later one of waits =
       let older = of.older waits in
       All-weaker (λ (move : Move). of.played.time < move.time) (λ (move : Move). slot.last_run < move.time) (λ move later. omega (arith, later, older)) one.message.moves of.later
@@ -298,18 +292,22 @@ module _ (map : MapState) (slot : SlotState) (state : AppliedState) (taken last_
   stage_runs : (move : Move) (moves : List Move) (stage : ClientStage) → slot.stage ≡ stage → IsOfMap map (standing_of slot) games accepted one
       → (moves_on slot one.message move moves stage).last_run ≤ last_time → AreMapped map (standing_of slot) state taken last_time built games began accepted executed
       → AreMapped map (with_playing (standing_of slot) (moves_on slot one.message move moves stage)) state taken last_time built games began accepted executed
-  stage_runs move moves Connected is of ran are = absurd (of.begun is)
-  stage_runs move moves Primed is of ran are =
-      plays_on map (standing_of slot) state taken last_time built games began accepted executed one 0 (moves_on slot one.message move moves Primed).last_run of (inl refl) ran are
-  stage_runs move moves Active is of ran are =
-      let old : (slot.delta ≡ 0) ⊎ IsUnder slot.game games accepted slot.delta =
+  stage_runs move moves Connected is of ran are = absurd (of.begun (ap game_of is))
+  stage_runs move moves (Primed game) is of ran are =
+      let last_run = (moves_on slot one.message move moves (Primed game)).last_run in
+      subst (λ (found : Option ℕ). AreMapped map (record (standing_of slot) { plays = true; game = found; delta = 0; last_run = last_run }) state taken last_time built games began accepted executed) (ap game_of is)
+      (plays_on map (standing_of slot) state taken last_time built games began accepted executed one 0 last_run of (inl refl) ran are)
+  stage_runs move moves (Active game) is of ran are =
+      let last_run = (moves_on slot one.message move moves (Active game)).last_run in
+      let delta = asked_with slot.delta one.message one.message.moves in
+      let old : (slot.delta ≡ 0) ⊎ IsUnder (game_of slot.stage) games accepted slot.delta =
       elim are.delta [
         | inl none ↦ inl none
         | inr under ↦ inr (under.0, under.1, under.3)
       ] in
-      let asks = asked_then (IsUnder slot.game games accepted) slot.delta one.message one.message.moves old (λ e. (of.played, of.last, of.asks e)) in
-      plays_on map (standing_of slot) state taken last_time built games began accepted executed one (asked_with slot.delta one.message one.message.moves)
-      (moves_on slot one.message move moves Active).last_run of asks ran are
+      let asks = asked_then (IsUnder (game_of slot.stage) games accepted) slot.delta one.message one.message.moves old (λ e. (of.played, of.last, of.asks e)) in
+      subst (λ (plays : Bool). AreMapped map (record (standing_of slot) { plays = plays; delta = delta; last_run = last_run }) state taken last_time built games began accepted executed) (sym (ap is_active is))
+      (plays_on map (standing_of slot) state taken last_time built games began accepted executed one delta last_run of asks ran are)
 
   moves_run : (moves : List Move) → IsOfMap map (standing_of slot) games accepted one → (goes_on slot one.message moves).last_run ≤ last_time
       → AreMapped map (standing_of slot) state taken last_time built games began accepted executed

@@ -182,7 +182,6 @@ module _ (map : MapState) (slot : Standing) (state : AppliedState) (taken last_t
         of_maps = are.of_maps;
         stands = record {
           last = stands.last;
-          none = stands.none;
           earlier = λ m k id x y is other lt told same.
               let old = stands.earlier m k id x y is other lt told same in
               let late = old.1 in

@@ -157,8 +157,8 @@ holds_removed profile whole number cited holds =
 slot_on_map : (profile : Profile) (slot : SlotState) (qport host : ℕ) (built : List Built) (run : List Move) (commands : List (List ℕ)) → IsHeld profile zero_player
     → KeepsSlot profile slot qport host built run commands → KeepsSlot profile (on_new_map slot) qport host built run commands
 slot_on_map profile slot qport host built run commands first keeps =
-    KeepsSlot-given profile (record slot { stage = Connected; game = None; owed = false; delta = 0 }) qport host built run commands zero_player (record { items = [] }) first no_area
-    (KeepsSlot-stands profile slot qport host built run commands Connected None false 0 keeps)
+    KeepsSlot-given profile (record slot { stage = Connected; owed = false; delta = 0 }) qport host built run commands zero_player (record { items = [] }) first no_area
+    (KeepsSlot-stands profile slot qport host built run commands Connected false 0 keeps)
 
 -- what joins its ends
 joined_on_map : (profile : Profile) (map : MapState) (slot : SlotState) (client : ClientState) (history : History) (id feed : ℕ) → map.id < id → AreJoined profile map slot client history

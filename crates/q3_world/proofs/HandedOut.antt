@@ -85,22 +85,22 @@ executed_by_slot profile slot client history keeps commanded =
     commanded.to_server
 
 -- a message is begun, and its first piece is handed out; with a gamestate its client's stage changes, and the map notes it
-pub Holds-begun : WindowLaws → (profile : Profile) (whole : Whole) (c : ℕ) (slot : SlotState) (place : Place) (stage : ClientStage) (game : Option ℕ) (owed : Bool) (next : Built) (map : MapState) (frames : FramesState) (left : UnderWay)
+pub Holds-begun : WindowLaws → (profile : Profile) (whole : Whole) (c : ℕ) (slot : SlotState) (place : Place) (stage : ClientStage) (owed : Bool) (next : Built) (map : MapState) (frames : FramesState) (left : UnderWay)
     → EndsSend → EndsGather → c < places → Has profile whole c slot place → slot.sending.number + 1 < sequence_end
     → IsBuilt profile slot.challenge (slot.sending.number + 1) next → IsSendable (built_bytes profile next)
     → carriage_built next ≡ carriage_of slot.issued → ack_built next ≡ acknowledgement_of slot.executed
     → IfSome next.base (BaseIs (slot.sending.number + 1) (asked slot) (history_at whole.histories c).built)
-    → (slot_begun profile (record slot { stage = stage; game = game; owed = owed }) next).sending.under_way ≡ Some left
+    → (slot_begun profile (record slot { stage = stage; owed = owed }) next).sending.under_way ≡ Some left
     → IsMap profile map → ((s : Option SlotState) (e : Option Place) (h : History) → IsJoined profile whole.ends.server.map s e h → IsJoined profile map s e h)
     → KeepsFrames profile frames (with_history whole.histories c (with_built (history_at whole.histories c) (Some next)))
-    → AreMapped map (standing_of (record slot { stage = stage; game = game; owed = owed })) place.client.state place.client.gathering.taken place.client.last_time
+    → AreMapped map (standing_of (record slot { stage = stage; owed = owed })) place.client.state place.client.gathering.taken place.client.last_time
     ((history_at whole.histories c).built ++ next ∷ []) (history_at whole.histories c).games (history_at whole.histories c).said (history_at whole.histories c).accepted (history_at whole.histories c).client_executed
     → Holds profile whole
-    → Holds profile (with_server_of whole c (slot_handed (slot_begun profile (record slot { stage = stage; game = game; owed = owed }) next)) map frames
-    (with_built (history_at whole.histories c) (Some next)) (whole.sent ++ handed_tag c (slot_begun profile (record slot { stage = stage; game = game; owed = owed }) next) left ∷ []))
-Holds-begun windows profile whole c slot place stage game owed built map frames left sends gathers lt had fits is sendable carries acks base way map_is stays kept mapped holds =
+    → Holds profile (with_server_of whole c (slot_handed (slot_begun profile (record slot { stage = stage; owed = owed }) next)) map frames
+    (with_built (history_at whole.histories c) (Some next)) (whole.sent ++ handed_tag c (slot_begun profile (record slot { stage = stage; owed = owed }) next) left ∷ []))
+Holds-begun windows profile whole c slot place stage owed built map frames left sends gathers lt had fits is sendable carries acks base way map_is stays kept mapped holds =
     let history = history_at whole.histories c in
-    let stands = record slot { stage = stage; game = game; owed = owed } in
+    let stands = record slot { stage = stage; owed = owed } in
     let starts = slot_begun profile stands built in
     let more = history.built ++ built ∷ [] in
     let noted = record history { built = more } in
@@ -109,7 +109,7 @@ Holds-begun windows profile whole c slot place stage game owed built map frames 
     let joined = had.joined in
     let was = if_some_then built.base (BaseIs (slot.sending.number + 1) (asked slot) history.built) (WasBuilt history.built) (λ b known. known.1) base in
     let begun = KeepsSlot-begun profile stands history.qport history.host history.built history.run history.server_commands built sends fits is sendable was
-    (KeepsSlot-stands profile slot history.qport history.host history.built history.run history.server_commands stage game owed slot.delta keeps.of_slot) in
+    (KeepsSlot-stands profile slot history.qport history.host history.built history.run history.server_commands stage owed slot.delta keeps.of_slot) in
     let commanded = AreCommanded-built windows.flow slot place.client history built carries acks joined.commanded in
     let grows = HistoryGrows-built history built in
     Holds-slot profile whole c slot next place map frames noted (whole.sent ++ handed_tag c starts left ∷ []) lt had

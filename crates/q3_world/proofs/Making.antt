@@ -86,12 +86,11 @@ low_byte : (protocol number : ℕ) → IfSome (start_by protocol (number % 256))
 low_byte protocol number =
     cond_both (is_checked protocol) None (Some (number % 256)) (λ (o : Option ℕ). IfSome o (λ start. start < 2 ^ 8)) (λ e. tt) (λ e. omega arith)
 
--- a client as the server keeps it: one for which no gamestate was begun is connected, and one is owed on a map alone
+-- a client as the server keeps it: a gamestate is owed on a map alone
 is_joined : (profile : Profile) (whole : Whole) (c : ℕ) (slot : SlotState) (place : Place) → Has profile whole c slot place → server_has.IsJoined profile whole.ends.server.map.id slot
 is_joined profile whole c slot place had = record {
   player = had.keeps.of_slot.player;
   area = had.keeps.of_slot.area;
-  begun = λ none. had.joined.mapped.stands.none.0 none;
   owed = λ owed. (had.joined.mapped.stands.owed owed).1;
   sends = had.keeps.of_slot.sending.header_is;
   hears = had.keeps.of_slot.from;
@@ -151,7 +150,7 @@ served_built profile whole c slot cited lt is fits clear holds =
           let mapped = mapped_snapshot map slot client history next (has_snapshot next refl) refl refl (asked_base slot next history.built (slot.sending.number + 1) base) joined.mapped in
           rw short (record {
             same = rw (count, pushed) refl;
-            holds = Holds-begun cited.below.windows profile whole c slot place slot.stage slot.game slot.owed next map (next_frames map frames c slot) first cited.below.sends cited.below.gathers lt had.1 fits built (may short) refl refl base refl
+            holds = Holds-begun cited.below.windows profile whole c slot place slot.stage slot.owed next map (next_frames map frames c slot) first cited.below.sends cited.below.gathers lt had.1 fits built (may short) refl refl base refl
                 holds.facts.map (λ s e h joined. joined) kept mapped holds;
           })
     ]
@@ -192,7 +191,7 @@ served_game profile whole c slot cited lt is owed fits clear holds =
           joined.mapped in
           rw short (record {
             same = rw (count, pushed) refl;
-            holds = Holds-begun cited.below.windows profile whole c slot place Primed (Some n) false next (begins_game map) frames first cited.below.sends cited.below.gathers lt had.1 fits built (may short) refl refl tt refl
+            holds = Holds-begun cited.below.windows profile whole c slot place (Primed n) false next (begins_game map) frames first cited.below.sends cited.below.gathers lt had.1 fits built (may short) refl refl tt refl
                 (cited.below.maps.begun profile map holds.facts.map) (joined_stays profile map (begins_game map) (AreMapped-begun map)) kept mapped holds;
           })
     ]

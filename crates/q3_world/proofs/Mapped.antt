@@ -3,7 +3,7 @@ use Rattle.q3_svmsg.specs.Values as told
 use Rattle.std.proofs.Common.{[], List, None, Option, Some, ap, arith, false, inl, inr, length, refl, subst, sym, true, ℕ, ◌++◌, ◌+◌, ◌<◌, ◌∙◌, ◌∷◌, ◌≡◌, ◌≤◌}
 use Rattle.std.specs.Prelude.{All, Bool, Contains, IfSome, if◌then◌else◌, not, ◌&&◌, ◌==◌, ◌||◌}
 use Rattle.std.proofs.Math.Seq.{take-append_seam, drop-append_seam}
-use Rattle.std.proofs.lemmas.Bool.{cases_Bool, eqb-false}
+use Rattle.std.proofs.lemmas.Bool.{both_ways, cases_Bool, eqb-false}
 use Rattle.std.proofs.lemmas.List.Elements.{All-drop, All-head, All-take}
 use Rattle.q3_client.specs.Client.{ClientState}
 use Rattle.q3_client.specs.Moves.{asks_delta}
@@ -23,7 +23,6 @@ use Rattle.q3_built.specs.Built.{Built}
 use Rattle.q3_slot.specs.Slot.{SlotState, asked, is_active, plays_under, primed}
 use Rattle.q3_slot.specs.Slots.{tells}
 use Rattle.q3_slot.specs.Taking.{asks_game, goes_on, heads_of, waits}
-use Rattle.q3_slot.specs.declared.stage.ClientStage.TheVariants.{Active, Primed}
 use Rattle.q3_text.specs.declared.text.Command.{Command}
 use Rattle.q3_window.specs.Incoming.{IncomingState, fresh_of, jump_at}
 use Rattle.q3_world.specs.Games.{AreMapped, AreSince, Carries, Tells, accepted_since, standing_of}
@@ -33,7 +32,7 @@ use Rattle.q3_world.proofs.Bases.{if_some}
 use Rattle.q3_messages.proofs.Options.{if_some_then}
 use Rattle.q3_world.proofs.Clients.{BaseIs}
 use Rattle.q3_world.proofs.Commanded.{ClientHears}
-use Rattle.q3_world.proofs.GamesBuilt.{AreMapped-game, AreMapped-issued, AreMapped-snapshot}
+use Rattle.q3_world.proofs.GamesBuilt.{AreMapped-game, AreMapped-issued, AreMapped-snapshot, under_stage}
 use Rattle.q3_world.proofs.GamesHeard.{AreMapped-accepts, AreMapped-passes}
 use Rattle.q3_world.proofs.GamesMoves.{acks_built, AreSince-carried, goes_most}
 use Rattle.q3_world.proofs.GamesParts.{HasNone, cases_option}
@@ -63,21 +62,21 @@ has_snapshot {base = base} {head = head} {entities = entities} next is game e = 
     apart : told.Snap base head entities ≡ told.Game game → ⊥
     apart same = absurd cc
 
-pub mapped_snapshot : (map : MapState) (slot : SlotState) (client : ClientState) (history : History) (next : Built) → HasNone next → next.under ≡ plays_under slot.stage slot.game
+pub mapped_snapshot : (map : MapState) (slot : SlotState) (client : ClientState) (history : History) (next : Built) → HasNone next → next.under ≡ plays_under slot.stage
     → next.baselines ≡ map.baselines → IfSome next.base (λ base. (0 < base.head.number) × (base.head.number ≡ (if is_active slot.stage then slot.delta else 0))) → Mapped map slot client history
     → AreMapped map (standing_of slot) client.state client.gathering.taken client.last_time (history.built ++ next ∷ []) history.games history.said history.accepted history.client_executed
 mapped_snapshot map slot client history next none under baselines base mapped =
-    AreMapped-snapshot map (standing_of slot) client.state client.gathering.taken client.last_time history.built history.games history.said history.accepted history.client_executed next none under
-    baselines base mapped
+    AreMapped-snapshot map (standing_of slot) client.state client.gathering.taken client.last_time history.built history.games history.said history.accepted history.client_executed next none
+    (under ∙ under_stage slot.stage) baselines base mapped
 
 pub mapped_game : (map : MapState) (slot : SlotState) (client : ClientState) (history : History) (next : Built) (game : Gamestate) → slot.owed ≡ true → next.message.section ≡ told.Game game
-    → next.under ≡ plays_under slot.stage slot.game → Tells game map.id → game.baselines ≡ map.baselines → game.feed ≡ map.feed → slot.sending.number ≡ length history.built
+    → next.under ≡ plays_under slot.stage → Tells game map.id → game.baselines ≡ map.baselines → game.feed ≡ map.feed → slot.sending.number ≡ length history.built
     → client.gathering.taken ≤ length history.built → Mapped map slot client history
     → AreMapped (begins_game map) (standing_of (primed slot (slot.sending.number + 1))) client.state client.gathering.taken client.last_time (history.built ++ next ∷ []) history.games history.said
     history.accepted history.client_executed
 mapped_game map slot client history next game owed is under tells baselines feed begun taken mapped =
     AreMapped-game map (standing_of slot) client.state client.gathering.taken client.last_time history.built history.games history.said history.accepted history.client_executed next game
-    (slot.sending.number + 1) (omega (arith, begun)) owed is under tells baselines feed taken
+    (slot.sending.number + 1) (omega (arith, begun)) owed is (under ∙ under_stage slot.stage) tells baselines feed taken
     (acks_built map (standing_of slot) client.state client.gathering.taken client.last_time history.built history.games history.said history.accepted history.client_executed taken mapped) mapped
 
 -- ---- a client begins a message
@@ -203,21 +202,18 @@ pub mapped_other : (map : MapState) (slot : SlotState) (client : ClientState) (h
 mapped_other map slot client history said there other mapped =
     AreMapped-ignores map (standing_of slot) client.state client.gathering.taken client.last_time history.built history.games history.said history.accepted history.client_executed said there other mapped
 
--- with one of the map a client that is primed enters it later than the last move run
+-- with one of the map a client that doesn't play enters it later than the last move run
 pub enters_late : (map : MapState) (slot : SlotState) (client : ClientState) (history : History) (said : Said) → Contains history.said said → is_other map said.message.id ≡ false
-    → Mapped map slot client history → (one : Move) (others : List Move) → said.message.moves ≡ one ∷ others → slot.stage ≡ Primed → slot.last_run < one.time
-enters_late map slot client history said there same mapped one others is primed =
+    → Mapped map slot client history → (one : Move) (others : List Move) → said.message.moves ≡ one ∷ others → is_active slot.stage ≡ false → slot.last_run < one.time
+enters_late map slot client history said there same mapped one others is waits =
     let of = said_of_map map (standing_of slot) client.state client.gathering.taken client.last_time history.built history.games history.said history.accepted history.client_executed said there same mapped in
     let each = enters_later map (standing_of slot) client.state client.gathering.taken client.last_time history.built history.games history.said history.accepted history.client_executed said of
-    (λ active. not_both (sym primed ∙ active)) in
+    (both_ways (is_active slot.stage) waits) in
     All-head (λ (move : Move). slot.last_run < move.time) one others (subst (All (λ (move : Move). slot.last_run < move.time)) is each)
-  where
-    not_both : Primed ≡ Active → ⊥
-    not_both e = absurd cc
 
 -- one of the map
 pub record MappedRuns (map : MapState) (slot : SlotState) (client : ClientState) (history : History) (said : Said) : Type 0 where
-  pub late : (one : Move) (others : List Move) → said.message.moves ≡ one ∷ others → slot.stage ≡ Primed → slot.last_run ≤ one.time
+  pub late : (one : Move) (others : List Move) → said.message.moves ≡ one ∷ others → is_active slot.stage ≡ false → slot.last_run ≤ one.time
   pub feed : said.feed ≡ map.feed
   pub mapped : AreMapped map (with_playing (standing_of slot) (goes_on slot said.message said.message.moves)) client.state client.gathering.taken client.last_time history.built history.games history.said
       history.accepted history.client_executed
@@ -227,7 +223,7 @@ pub mapped_runs : (map : MapState) (slot : SlotState) (client : ClientState) (hi
 mapped_runs map slot client history said there same most mapped =
     let of = said_of_map map (standing_of slot) client.state client.gathering.taken client.last_time history.built history.games history.said history.accepted history.client_executed said there same mapped in
     record {
-      late = λ one others is primed. let later = enters_late map slot client history said there same mapped one others is primed in omega (arith, later);
+      late = λ one others is waits. let later = enters_late map slot client history said there same mapped one others is waits in omega (arith, later);
       feed = of.feed;
       mapped = AreMapped-runs map slot client.state client.gathering.taken client.last_time history.built history.games history.said history.accepted history.client_executed said there same
           (goes_most slot said.message client.last_time mapped.ran most) mapped;

@@ -1,10 +1,10 @@
 -- The moves of a message run at a slot after those that it ran before.
-use Rattle.std.proofs.Common.{[], List, arith, refl, subst, sym, ℕ, ◌++◌, ◌∷◌, ◌≡◌, ◌≤◌}
+use Rattle.std.proofs.Common.{[], List, ap, arith, false, refl, subst, sym, ℕ, ◌++◌, ◌∷◌, ◌≡◌, ◌≤◌}
 use Rattle.std.specs.Prelude.{All}
 use Rattle.std.proofs.lemmas.List.{append-nil}
 use Rattle.std.proofs.lemmas.List.Elements.{All-nil, All-tail}
 use Rattle.q3_clmsg.specs.declared.moves.Move.{Move}
-use Rattle.q3_slot.specs.Slot.{SlotState}
+use Rattle.q3_slot.specs.Slot.{SlotState, is_active}
 use Rattle.q3_slot.specs.Taking.{goes_on, last_run_of, last_time, moves_on, runs}
 use Rattle.q3_slot.specs.declared.stage.ClientStage.{ClientStage}
 use Rattle.q3_slot.specs.declared.stage.ClientStage.TheVariants.{Active, Connected, Primed}
@@ -38,15 +38,15 @@ runs_none run last le rise = subst (λ (all : List Move). RisesTo all last) (sym
 
 -- the moves of a message: with the first of one that is primed, which is later than all that were run, its client enters the map
 pub plays_on : (slot : SlotState) (message : Message) (run : List Move) → last_time 0 run ≤ slot.last_run → TimesRise 0 run
-    → ((one : Move) (others : List Move) → message.moves ≡ one ∷ others → slot.stage ≡ Primed → slot.last_run ≤ one.time)
+    → ((one : Move) (others : List Move) → message.moves ≡ one ∷ others → is_active slot.stage ≡ false → slot.last_run ≤ one.time)
     → RisesTo (run ++ (goes_on slot message message.moves).moves) (goes_on slot message message.moves).last_run
 plays_on slot message run le rise enters_late = with_moves message.moves refl
   where
     at_stage : (one : Move) (others : List Move) (stage : ClientStage) → message.moves ≡ one ∷ others → slot.stage ≡ stage
         → RisesTo (run ++ (moves_on slot message one others stage).moves) (moves_on slot message one others stage).last_run
     at_stage one others Connected is at = runs_none run slot.last_run le rise
-    at_stage one others Primed is at = let late = enters_late one others is at in runs_on run others one.time (omega (arith, le, late)) rise
-    at_stage one others Active is at = runs_on run message.moves slot.last_run le rise
+    at_stage one others (Primed game) is at = let late = enters_late one others is (ap is_active at) in runs_on run others one.time (omega (arith, le, late)) rise
+    at_stage one others (Active game) is at = runs_on run message.moves slot.last_run le rise
 
     with_moves : (moves : List Move) → message.moves ≡ moves → RisesTo (run ++ (goes_on slot message moves).moves) (goes_on slot message moves).last_run
     with_moves [] is = runs_none run slot.last_run le rise
@@ -58,8 +58,8 @@ plays_are P slot message all = with_moves message.moves all
   where
     at_stage : (one : Move) (others : List Move) (stage : ClientStage) → All P (one ∷ others) → All P (moves_on slot message one others stage).moves
     at_stage one others Connected each = All-nil P
-    at_stage one others Primed each = runs_are P one.time others (All-tail P one others each)
-    at_stage one others Active each = runs_are P slot.last_run message.moves all
+    at_stage one others (Primed game) each = runs_are P one.time others (All-tail P one others each)
+    at_stage one others (Active game) each = runs_are P slot.last_run message.moves all
 
     with_moves : (moves : List Move) → All P moves → All P (goes_on slot message moves).moves
     with_moves [] each = All-nil P

@@ -1,6 +1,6 @@
 -- The maps of a server at both ends of a client: the gamestates that were built for it, those that it applied, and what its own
 -- messages say of them.
-use Rattle.std.specs.Prelude.{◌≡◌, ◌≢◌, ℕ, ◌<◌, ◌≤◌, ◌⊎◌, ◌↔◌, Bool, true, false, List, [], length, drop, All, Contains, Option, Some, None, IfSome, MatchOption, slice_index_or, IsSome}
+use Rattle.std.specs.Prelude.{◌≡◌, ◌≢◌, ℕ, ◌<◌, ◌≤◌, ◌⊎◌, Bool, true, false, List, [], length, drop, All, Contains, Option, Some, None, IfSome, MatchOption, slice_index_or, IsSome}
 use Rattle.std.specs.List.{last_or}
 use Rattle.q3_config.specs.Strings.{server_id}
 use Rattle.q3_config.specs.Changes.{after_commands}
@@ -11,10 +11,8 @@ use Rattle.q3_svmsg.specs.Values as told
 use Rattle.q3_entity_ring.specs.Snapshot.{Snapshot}
 use Rattle.q3_clstate.specs.State.{AppliedState}
 use Rattle.q3_map.specs.Map.{MapState}
-use Rattle.q3_slot.specs.declared.stage.ClientStage.{ClientStage}
-use Rattle.q3_slot.specs.declared.stage.ClientStage.TheVariants.{Connected, Active}
 use Rattle.q3_built.specs.Built.{Built}
-use Rattle.q3_slot.specs.Slot.{SlotState}
+use Rattle.q3_slot.specs.Slot.{SlotState, game_of, is_active}
 use Rattle.q3_client.specs.declared.moves.Issued.{Issued}
 use Rattle.q3_client.specs.Sending.{Said}
 use Rattle.q3_world.specs.World.{Played, built_at}
@@ -37,17 +35,17 @@ WasPlayed games n = (played : Played) × Contains games played × (played.number
 
 -- ---- the server's map and a slot
 
--- what a slot has of the map: how far its client came, the last gamestate of the map, whether one is owed, the snapshot that it asks
+-- what a slot has of the map: whether its client plays, the last gamestate of the map, whether one is owed, the snapshot that it asks
 -- to write against, and the time of the last move run
 pub record Standing : Type 0 where
-  pub stage : ClientStage
+  pub plays : Bool
   pub game : Option ℕ
   pub owed : Bool
   pub delta : ℕ
   pub last_run : ℕ
 
 abbrev pub standing_of : SlotState → Standing
-standing_of slot = record { stage = slot.stage; game = slot.game; owed = slot.owed; delta = slot.delta; last_run = slot.last_run }
+standing_of slot = record { plays = is_active slot.stage; game = game_of slot.stage; owed = slot.owed; delta = slot.delta; last_run = slot.last_run }
 
 -- the gamestates that were built are of maps up to the present one, and later ones of no earlier map; those of the present one have
 -- its baselines and its feed
@@ -67,19 +65,17 @@ HasLast map built (Some last) =
 -- and the messages that it said
 pub record StandsAt (map : MapState) (slot : Standing) (taken : ℕ) (built : List Built) (games : List Played) (said : List Said) : Type 0 where
   pub last : HasLast map built slot.game
-  -- a client is connected exactly where none was begun for it
-  pub none : (slot.game ≡ None) ↔ (slot.stage ≡ Connected)
   -- of two of one map, the present or a past one, the earlier was never applied, and comes too late: the client has taken a number above it
   pub earlier : (m n id : ℕ) (first second : Gamestate) → Carries built m first → Carries built n second → m < n → Tells first id → Tells second id
       → (WasPlayed games m → ⊥) × (m < taken)
   -- one that plays applied the last, and is owed none
-  pub active : slot.stage ≡ Active → (slot.owed ≡ false) × ((n : ℕ) × (slot.game ≡ Some n) × WasPlayed games n)
+  pub active : slot.plays ≡ true → (slot.owed ≡ false) × ((n : ℕ) × (slot.game ≡ Some n) × WasPlayed games n)
   -- one that is owed a gamestate doesn't play, applied none of the map, and took a later number than the last
-  pub owed : slot.owed ≡ true → (slot.stage ≢ Active) × (map.id ≢ 0) × IfSome slot.game (λ n. (WasPlayed games n → ⊥) × (n < taken))
+  pub owed : slot.owed ≡ true → (slot.plays ≢ true) × (map.id ≢ 0) × IfSome slot.game (λ n. (WasPlayed games n → ⊥) × (n < taken))
   -- so is one that said under another map that it took a later number than the last
   pub other : All (λ (message : Said). message.message.id ≢ map.id → IfSome slot.game (λ n. n < message.message.acknowledged → (WasPlayed games n → ⊥) × (n < taken))) said
   -- until it plays, each move that was run is older than the gamestate that it applied
-  pub older : slot.stage ≢ Active → IfSome slot.game (λ n. (played : Played) → Contains games played → played.number ≡ n → slot.last_run ≤ played.time)
+  pub older : slot.plays ≢ true → IfSome slot.game (λ n. (played : Played) → Contains games played → played.number ≡ n → slot.last_run ≤ played.time)
 
 -- ---- a client
 
@@ -186,7 +182,7 @@ AreBuiltUnder built games = (n g : ℕ) → 1 ≤ n → n ≤ length built → (
 -- the snapshot that a slot asks to write against was accepted under the gamestate under which its client plays, if it asks for one
 abbrev pub AsksUnder : Standing → List Played → List Snapshot → Type 0
 AsksUnder slot games accepted =
-    (slot.delta ≡ 0) ⊎ ((played : Played) × (slot.game ≡ Some played.number) × (slot.stage ≡ Active) × AcceptedUnder games accepted played slot.delta)
+    (slot.delta ≡ 0) ⊎ ((played : Played) × (slot.game ≡ Some played.number) × (slot.plays ≡ true) × AcceptedUnder games accepted played slot.delta)
 
 -- what joins both ends of a client on the server's maps: the map, what its slot has of it, what the client applied, the newest number
 -- that it took and the time of the last move that it issued, and all that nothing wipes
