@@ -1,5 +1,5 @@
 -- How a slot is kept, and what each call does to it, with a client or with none.
-use Rattle.std.specs.Prelude.{◌≡◌, ℕ, ◌==◌, ◌&&◌, not, if◌then◌else◌, Bool, false, List, [], length, Option, Some, None, option_map, Result, Ok, Err}
+use Rattle.std.specs.Prelude.{◌≡◌, ℕ, ◌==◌, ◌&&◌, not, if◌then◌else◌, Bool, false, List, length, Option, Some, None, option_map, Result, Ok, Err}
 use Rattle.q3_io.specs.declared.address.Address.{Address}
 use Rattle.q3_chan.specs.Datagrams.{server_form, client_form}
 use Rattle.q3_chan.specs.Sending.{Sending, Piece, new_sending}

@@ -1,4 +1,4 @@
-use Rattle.std.proofs.Common.{◌≡◌, None, List, subst, rules}
+use Rattle.std.proofs.Common.{None, List, subst, rules}
 use Rattle.q3_chan.specs.Datagrams.{client_form, server_form}
 use Rattle.q3_chan.specs.Gathering.{new_gathering}
 use Rattle.q3_chan.specs.Sending.{new_sending}
