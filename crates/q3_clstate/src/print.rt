@@ -73,7 +73,8 @@ fn print_outcome<O: Sink>(applied: &Applied, out: &mut O) -> Result<(), Failed>
 }
 
 fn print_stale<O: Sink>(number: u32, out: &mut O) -> Result<(), Failed>
-    ensures adds { Adds (O.written out.old) (O.written out.new) (concat (codes "+ stale " ∷ decimal number ∷ codes "\n" ∷ [])) result }
+    ensures adds { Adds (O.written out.old) (O.written out.new)
+        (concat (codes "+ stale " ∷ decimal number ∷ codes "\n" ∷ [])) result }
     ensures cause { HasCause (O.faults out.old) (O.faults out.new) result }
 {
     print_all(
@@ -89,8 +90,8 @@ fn print_stale<O: Sink>(number: u32, out: &mut O) -> Result<(), Failed>
 /// Prints the line of a snapshot whose base isn't held.
 fn print_skipped<O: Sink>(number: u32, base: u32, cause: NoBase, out: &mut O) -> Result<(), Failed>
     ensures adds { Adds (O.written out.old) (O.written out.new)
-        (concat (codes "+ skipped " ∷ decimal number ∷ codes " base " ∷ decimal base ∷ codes " " ∷ cause_text cause ∷ codes "\n"
-        ∷ [])) result }
+        (concat (codes "+ skipped " ∷ decimal number ∷ codes " base " ∷ decimal base
+        ∷ codes " " ∷ cause_text cause ∷ codes "\n" ∷ [])) result }
     ensures cause { HasCause (O.faults out.old) (O.faults out.new) result }
 {
     laws::texts_follow();

@@ -167,7 +167,8 @@ fn print_line<O: Sink>(state: &EntityState, out: &mut O) -> Result<(), Failed>
 
 /// Prints what stands in front of a baseline's words.
 fn print_number<O: Sink>(number: u16, out: &mut O) -> Result<(), Failed>
-    ensures adds { Adds (O.written out.old) (O.written out.new) (concat (codes "+ baseline " ∷ decimal number ∷ [])) result }
+    ensures adds { Adds (O.written out.old) (O.written out.new)
+        (concat (codes "+ baseline " ∷ decimal number ∷ [])) result }
     ensures cause { HasCause (O.faults out.old) (O.faults out.new) result }
 {
     print_all(
@@ -245,7 +246,8 @@ fn view_of<'a>(held: Held<'a>, entities: Run<'a>) -> SnapView<'a>
 
 /// Prints a snapshot after the mark of its line.
 fn print_view<O: Sink>(view: SnapView, out: &mut O) -> Result<(), Failed>
-    ensures adds { Adds (O.written out.old) (O.written out.new) (codes "+" ++ snapshot_text (snapshot_of view.entry)) result }
+    ensures adds { Adds (O.written out.old) (O.written out.new)
+        (codes "+" ++ snapshot_text (snapshot_of view.entry)) result }
     ensures cause { HasCause (O.faults out.old) (O.faults out.new) result }
 {
     laws::texts_follow();

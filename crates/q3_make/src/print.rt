@@ -177,7 +177,8 @@ fn print_quoted<'a, O: Sink>(
 
 /// Prints the line of a client whose messages are recorded.
 fn print_recording<O: Sink>(c: u8, name: &[u8], out: &mut O) -> Result<(), Failed>
-    ensures adds { Adds (O.written out.old) (O.written out.new) (concat (codes "record " ∷ decimal c ∷ codes " " ∷ name.now ∷ [])) result }
+    ensures adds { Adds (O.written out.old) (O.written out.new)
+        (concat (codes "record " ∷ decimal c ∷ codes " " ∷ name.now ∷ [])) result }
     ensures cause { HasCause (O.faults out.old) (O.faults out.new) result }
 {
     print_all(
@@ -229,7 +230,8 @@ fn print_state<O: Sink>(word: &[u8], state: &EntityState, out: &mut O) -> Result
 
 /// Prints the line of a client's player.
 fn print_player<O: Sink>(c: u8, player: &PlayerState, out: &mut O) -> Result<(), Failed>
-    ensures adds { Adds (O.written out.old) (O.written out.new) (number_text (codes "player ") c ++ player_text player.now) result }
+    ensures adds { Adds (O.written out.old) (O.written out.new)
+        (number_text (codes "player ") c ++ player_text player.now) result }
     ensures cause { HasCause (O.faults out.old) (O.faults out.new) result }
 {
     laws::texts_follow();
@@ -239,7 +241,8 @@ fn print_player<O: Sink>(c: u8, player: &PlayerState, out: &mut O) -> Result<(),
 
 /// Prints the line of a client's move.
 fn print_move<O: Sink>(c: u8, one: Move, out: &mut O) -> Result<(), Failed>
-    ensures adds { Adds (O.written out.old) (O.written out.new) (number_text (codes "move ") c ++ spaced (move_words one)) result }
+    ensures adds { Adds (O.written out.old) (O.written out.new)
+        (number_text (codes "move ") c ++ spaced (move_words one)) result }
     ensures cause { HasCause (O.faults out.old) (O.faults out.new) result }
 {
     laws::texts_follow();

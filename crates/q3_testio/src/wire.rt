@@ -37,7 +37,11 @@ impl Model for MemWire {
     ghost Value = { WireState };
 
     ghost view = { λ w. record {
-      traffic = record { at = w.at; arrivals = drop w.next (arrivals_of w.ready.items w.arrivals.parcels); sent = w.sent.parcels };
+      traffic = record {
+        at = w.at;
+        arrivals = drop w.next (arrivals_of w.ready.items w.arrivals.parcels);
+        sent = w.sent.parcels;
+      };
       arrivals = w.arrivals.spare;
       sends = w.sent.spare;
       room = w.room;
@@ -117,7 +121,9 @@ impl MemWire {
         requires spare { 0 < self.old.arrivals }
         requires room { length bytes.now ≤ self.old.room }
         ensures { self.new ≡ record self.old {
-          traffic = record self.old.traffic { arrivals = self.old.traffic.arrivals ++ found_of ready (record { address = from; bytes = bytes.now }) ∷ [] };
+          traffic = record self.old.traffic {
+            arrivals = self.old.traffic.arrivals ++ found_of ready (record { address = from; bytes = bytes.now }) ∷ [];
+          };
           arrivals = self.old.arrivals - 1;
           room = self.old.room - length bytes.now;
         } }
