@@ -1,5 +1,5 @@
 -- What a server begins is a message as a server builds it.
-use Rattle.std.proofs.Common.{◌≡◌, ℕ, ◌+◌, ◌^◌, ◌<◌, ◌≤◌, Bool, true, false, [], length, Option, Some, None, refl, sym, ap, subst, ◌∙◌, inl, inr, arith, is_some}
+use Rattle.std.proofs.Common.{◌≡◌, ℕ, ◌+◌, ◌^◌, ◌<◌, ◌≤◌, Bool, true, false, [], length, Option, Some, None, refl, sym, ap, subst, inl, inr, arith, is_some}
 use Rattle.std.specs.Prelude.{nat_le, nat_lt, if◌then◌else◌, IfSome, ◌-◌}
 use Rattle.std.proofs.lemmas.Bool.{cases_Bool, cond_both, leb-false, both_ways}
 use Rattle.std.proofs.lemmas.List.{get_or_past}

@@ -14,7 +14,6 @@ use Rattle.q3_chan.specs.declared.gatherer.Gathered.TheVariants as gathered
 use Rattle.q3_chan.specs.Gathering.{gathered as gathered_of}
 use Rattle.q3_chan.specs.Checks.{check_for}
 use Rattle.q3_chan.specs.Sending.{UnderWay, started, next_of}
-use Rattle.q3_clmsg.specs.declared.moves.Move.{Move}
 use Rattle.q3_clmsg.specs.declared.error.ClientIllegible.{ClientIllegible}
 use Rattle.q3_clmsg.specs.Values.{Message}
 use Rattle.q3_window.specs.Incoming.{gap_in}
@@ -149,7 +148,7 @@ module _ (below : Below) (profile : Profile) (map : MapState) (frames : FramesSt
       elim (cases_Bool (is_overlong (built_bits profile built))) [
         | inl long ↦ rw long (record { client = is; is_map = is_map; id = refl; snapshots = holds })
         | inr short ↦ rw short (record {
-          client = record { player = is.player; area = is.area; begun = λ none. absurd cc; owed = λ owes. absurd cc; sends = begun_header (built_bytes profile built); hears = is.hears };
+          client = record { player = is.player; area = is.area; owed = λ owes. absurd cc; sends = begun_header (built_bytes profile built); hears = is.hears };
           is_map = map_begun profile map is_map;
           id = refl;
           snapshots = holds;
@@ -336,13 +335,3 @@ all_written len now old slots change after same count =
     ∙ take_all len now (omega (arith, many, count))
     ∙ after
     ∙ ap (map_list change) same
-
--- where a whole buffer was written
-pub long_written : (len most : ℕ) (now old bytes : List ℕ) → length now ≡ most → old ≡ bytes → length old ≡ len → length bytes ≡ most → length (take len (now ++ drop (length now) bytes)) ≡ most
-long_written len most now old bytes long same count before =
-    let as_many : length old ≡ length bytes = ap (λ (l : List ℕ). length l) same in
-    let whole : take len (now ++ drop (length now) bytes) ≡ now =
-    ap (λ (l : List ℕ). take len (now ++ l)) (drop_all (length now) bytes (omega (arith, long, before)))
-    ∙ ap (take len) (append-nil now)
-    ∙ take_all len now (omega (arith, long, count, as_many, before)) in
-    ap (λ (l : List ℕ). length l) whole ∙ long

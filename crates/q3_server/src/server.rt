@@ -11,7 +11,6 @@ ghost use Rattle.q3_frames.specs.Frames.{no_frames};
 ghost use Rattle.q3_fields.specs.Kinds.{Layout, end_mark, least_end};
 ghost use Rattle.q3_slot.specs.Slot.{is_of};
 ghost use Rattle.q3_slot.specs.Slots.{HoldLists};
-ghost use Rattle.q3_chan.specs.Datagrams.{longest_message};
 ghost use Rattle.q3_server.specs.Standing.{BeginsBuilt, IsServer};
 ghost use Rattle.q3_server.specs.Server.{places, new_server, add_client_at, new_map_at, set_time_at, set_entity_at, remove_entity_at, set_baseline_at, set_config_at, set_player_at, set_area_at, set_delayed_at, sending_at, say_at, emit_at, slot_at};
 ghost use Rattle.q3_server.specs.Server as spec;
@@ -80,13 +79,12 @@ pub struct Server {
     // places that hold nothing from one call to another
     /// For what is read of a client's message.
     said: ClientMessage,
-    /// For the bytes of one that came whole, where they are cleared: 16,384 too.
-    whole: Vec<u8>,
+    /// For the bytes of one that came whole, where they are cleared.
+    whole: Box<[u8; LONGEST_MESSAGE]>,
 }
 
 impl Model for Server {
     ghost use Rattle.std.specs.Prelude.{◌≡◌, ◌≤◌, length};
-    ghost use Rattle.q3_chan.specs.Datagrams.{longest_message};
     ghost use Rattle.q3_server.specs.Server.{ServerState, places};
     ghost use Rattle.q3_server.specs.Standing.{IsServer};
     ghost use Rattle.q3_slot.specs.Slots.{HoldLists};
@@ -102,7 +100,6 @@ impl Model for Server {
 
     ghost invariant = { λ s. (length s.slots.items ≤ places) × (length s.shared.frames.slots ≡ length s.slots.items)
         × HoldLists s.shared.profile.entity s.shared.frames
-        × (length s.whole.items ≡ longest_message)
         × IsServer s.shared.profile s.shared.map s.slots.items s.shared.frames };
 }
 
@@ -129,7 +126,7 @@ impl Server {
             head: SnapHead::new(),
             buffer,
         };
-        let whole = vec![in alloc; 0; LONGEST_MESSAGE]?;
+        let whole = Box::new(alloc, [0; LONGEST_MESSAGE])?;
         let said = ClientMessage::new(alloc)?;
         Ok(of_parts(empty, shared, said, whole))
     }
@@ -378,7 +375,7 @@ impl Server {
             slot,
             from,
             datagram,
-            &mut self.whole,
+            &mut *self.whole,
             &mut self.said,
             heard,
         )
@@ -410,11 +407,15 @@ impl Server {
 }
 
 /// A server of these parts.
-fn of_parts(slots: Vec<Slot>, shared: Shared, said: ClientMessage, whole: Vec<u8>) -> Server
+fn of_parts(
+    slots: Vec<Slot>,
+    shared: Shared,
+    said: ClientMessage,
+    whole: Box<[u8; LONGEST_MESSAGE]>,
+) -> Server
     requires slots { length slots.items ≤ places }
     requires frames { length shared.frames.slots ≡ length slots.items }
     requires lists { HoldLists shared.profile.entity shared.frames }
-    requires whole { length whole.items ≡ longest_message }
     requires stands { IsServer shared.profile shared.map slots.items shared.frames }
     ensures { result ≡ record {
       profile = shared.profile;

@@ -16,7 +16,6 @@ invariant_of-self-2 c =
       search rules,
       search rules,
       search rules,
-      search rules,
       subst (IsServer c.self.inside.shared.profile c.new_map.new.self slots) (sym c.note_change.ensures)
-          (server_begun c.self.inside.shared.profile c.self.inside.shared.map c.new_map.new.self c.self.inside.slots.items c.self.inside.shared.frames c.below.ensures c.args.id c.args.feed slots c.requires (omega arith) (search rules) are was.4),
+          (server_begun c.self.inside.shared.profile c.self.inside.shared.map c.new_map.new.self c.self.inside.slots.items c.self.inside.shared.frames c.below.ensures c.args.id c.args.feed slots c.requires (omega arith) (search rules) are was.3),
     )

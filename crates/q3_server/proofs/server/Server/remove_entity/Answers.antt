@@ -9,7 +9,6 @@ invariant_of-self c =
       search rules,
       search rules,
       search rules,
-      search rules,
       subst (IsServer c.self.inside.shared.profile c.remove_entity.new.self c.self.inside.slots.items) (sym c.note_change.ensures)
-          (server_removed c.self.inside.shared.profile c.self.inside.shared.map c.remove_entity.new.self c.self.inside.slots.items c.self.inside.shared.frames c.below.ensures c.args.number c.remove_entity.ensures was.4),
+          (server_removed c.self.inside.shared.profile c.self.inside.shared.map c.remove_entity.new.self c.self.inside.slots.items c.self.inside.shared.frames c.below.ensures c.args.number c.remove_entity.ensures was.3),
     )

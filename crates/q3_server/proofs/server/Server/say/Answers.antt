@@ -8,6 +8,5 @@ invariant_of-self c =
       search rules,
       search rules,
       search rules,
-      search rules,
-      server_said c.self.inside.shared.profile c.self.inside.shared.map c.self.inside.slots.items c.self.inside.shared.frames c.args.slot c.index_mut.result.now c.say.new.self (search rules) (search rules) was.4 c.args.text.now c.say.ensures.slot,
+      server_said c.self.inside.shared.profile c.self.inside.shared.map c.self.inside.slots.items c.self.inside.shared.frames c.args.slot c.index_mut.result.now c.say.new.self (search rules) (search rules) was.3 c.args.text.now c.say.ensures.slot,
     )

@@ -12,6 +12,5 @@ invariant_of-self c =
       search rules,
       search rules,
       search rules,
-      search rules,
-      server_baselined c.self.inside.shared.profile c.self.inside.shared.map c.set_baseline.new.self c.self.inside.slots.items c.self.inside.shared.frames c.below.ensures c.args.state.now c.set_baseline.result below c.are_words.ensures c.set_baseline.ensures was.4,
+      server_baselined c.self.inside.shared.profile c.self.inside.shared.map c.set_baseline.new.self c.self.inside.slots.items c.self.inside.shared.frames c.below.ensures c.args.state.now c.set_baseline.result below c.are_words.ensures c.set_baseline.ensures was.3,
     )

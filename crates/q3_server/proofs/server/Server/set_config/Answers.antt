@@ -20,8 +20,7 @@ invariant_of-self c =
       search rules,
       search rules,
       search rules,
-      search rules,
-      server_configured c.self.inside.shared.profile c.self.inside.shared.map c.set_config.new.self c.self.inside.slots.items c.self.inside.shared.frames c.below.ensures c.args.index c.args.text.now slots c.if-index-eq-SYSTEM_INFO.false none c.set_config.ensures are was.4,
+      server_configured c.self.inside.shared.profile c.self.inside.shared.map c.set_config.new.self c.self.inside.slots.items c.self.inside.shared.frames c.below.ensures c.args.index c.args.text.now slots c.if-index-eq-SYSTEM_INFO.false none c.set_config.ensures are was.3,
     )
 
 pub first_without_room-requires-clause-short : goal.first_without_room-requires-clause-short

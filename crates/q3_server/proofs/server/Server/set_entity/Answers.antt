@@ -13,7 +13,6 @@ invariant_of-self c =
       search rules,
       search rules,
       search rules,
-      search rules,
       subst (IsServer c.self.inside.shared.profile c.set_entity.new.self c.self.inside.slots.items) (sym c.note_change.ensures)
-          (server_entered c.self.inside.shared.profile c.self.inside.shared.map c.set_entity.new.self c.self.inside.slots.items c.self.inside.shared.frames c.below.ensures c.args.state.now below c.are_words.ensures c.set_entity.ensures was.4),
+          (server_entered c.self.inside.shared.profile c.self.inside.shared.map c.set_entity.new.self c.self.inside.slots.items c.self.inside.shared.frames c.below.ensures c.args.state.now below c.are_words.ensures c.set_entity.ensures was.3),
     )

@@ -8,6 +8,5 @@ invariant_of-self c =
       search rules,
       search rules,
       search rules,
-      search rules,
-      server_player c.self.inside.shared.profile c.self.inside.shared.map c.self.inside.slots.items c.self.inside.shared.frames c.args.slot c.index_mut.result.now c.set_player.new.self (search rules) (search rules) was.4 c.below.ensures c.args.player.now c.is_state.ensures c.set_player.ensures.slot,
+      server_player c.self.inside.shared.profile c.self.inside.shared.map c.self.inside.slots.items c.self.inside.shared.frames c.args.slot c.index_mut.result.now c.set_player.new.self (search rules) (search rules) was.3 c.below.ensures c.args.player.now c.is_state.ensures c.set_player.ensures.slot,
     )
