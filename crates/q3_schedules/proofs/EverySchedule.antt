@@ -46,7 +46,7 @@ use Rattle.q3_slot.specs.declared.taking.Heard.{Heard}
 use Rattle.q3_world.specs.declared.places.Place.{Place}
 use Rattle.q3_world.specs.Ends.{Ends, client_at, client_of, client_step_of, line_of, newest, place_at, with_client}
 use Rattle.q3_world.specs.Kept.{SentBytes, Kept, KeptStep, kept_step}
-use Rattle.q3_world.specs.World.{Tag, Step, Whole, History, history_at, built_at, step, after, deliver, arrive, to_client, to_server, named, Played, bytes_of}
+use Rattle.q3_world.specs.World.{Tag, Step, Whole, History, history_at, built_at, step, deliver, arrive, to_client, to_server, named, Played, bytes_of}
 use Rattle.q3_world.specs.StandsFor.{IsSent, WasBuilt, WasAccepted, Rise}
 use Rattle.q3_world.specs.ByTags.{kept_then, whole_then, BytesFollowTags}
 use Rattle.q3_world.specs.Answering.{outcome_of, applied_of, is_game, outcome_in}

@@ -139,7 +139,7 @@ runs_by_tag profile whole number tag from slot place count cited at way sent_is 
       λ same.
           let runs : heard ≡ by_slot.run_with now c n message playing = doing.of_map same in (
             given ∙ (ap (λ (t : by_slot.SlotTaken). ran_so number t) runs
-                ∙ ap (λ (k : ℕ). ran_message number c n (record { commands = fresh_of k message.commands; entered = playing.entered; moves = playing.moves; owed = slot.owed })) counted),
+                ∙ ap (λ (k : ℕ). ran_message number c n (record { commands = fresh_of k message.commands; entered = playing.entered; moves = record { items = playing.moves }; owed = slot.owed })) counted),
             subst (λ (o : Option SlotState). GoesOnPlaying o playing) (sym behind) (
               ap (λ (t : by_slot.SlotTaken). t.slot.stage) runs,
               ap (λ (t : by_slot.SlotTaken). t.slot.delta) runs,

@@ -1,5 +1,5 @@
 -- The config strings of a client tell the id of its map.
-use Rattle.std.proofs.Common.{List, None, Option, Some, ap, false, length, subst, sym, take, true, ℕ, ◌∙◌, ◌≡◌}
+use Rattle.std.proofs.Common.{List, None, Option, Some, ap, length, subst, sym, take, true, ℕ, ◌∙◌, ◌≡◌}
 use Rattle.std.specs.Prelude.{All, MatchOption, drop}
 use Rattle.std.proofs.lemmas.Bool.{true≢false}
 use Rattle.std.proofs.lemmas.List.Elements.{All-drop, All-take}
