@@ -1,12 +1,12 @@
 -- What a client begins is a message that it may begin.
-use Rattle.std.proofs.Common.{◌≡◌, ℕ, suc, ◌+◌, ◌-◌, ◌^◌, ◌<◌, ◌≤◌, true, false, List, [], ◌∷◌, ◌++◌, length, drop, Option, Some, None, ℤ, refl, sym, ap, subst, inl, inr, arith}
-use Rattle.std.specs.Prelude.{Bool, All, IfSome, filter, nat_lt, nat_le}
+use Rattle.std.proofs.Common.{◌≡◌, ℕ, ◌+◌, ◌-◌, ◌^◌, ◌<◌, ◌≤◌, true, false, List, [], ◌∷◌, ◌++◌, length, Option, Some, None, refl, sym, ap, subst, inl, inr, arith}
+use Rattle.std.specs.Prelude.{Bool, IfSome, filter, nat_lt, nat_le}
 use Rattle.std.proofs.lemmas.List.{length-map}
-use Rattle.std.proofs.lemmas.List.Elements.{All-nil, All-cons, All-head, All-tail, All-push, All-drop, All-map, All-filter}
+use Rattle.std.proofs.lemmas.List.Elements.{All-nil, All-push, All-drop, All-map, All-filter}
 use Rattle.std.proofs.lemmas.Bool.{cases_Bool}
 use Rattle.circular_buffer.specs.Buffer.{keep_last}
 use Rattle.q3_strings.specs.Laws.{NumberedAreCommands}
-use Rattle.q3_window.specs.Outgoing.{OutgoingState, IsOutgoing, carried as waiting_of}
+use Rattle.q3_window.specs.Outgoing.{IsOutgoing}
 use Rattle.q3_chan.specs.Datagrams.{sequence_end, longest_message}
 use Rattle.q3_chan.specs.Sending.{UnderWay}
 use Rattle.q3_bits.specs.Bits.{message_length}
@@ -18,7 +18,7 @@ use Rattle.q3_clstate.specs.Standing.{IsApplied}
 use Rattle.q3_client.specs.declared.moves.Issued.{Issued}
 use Rattle.q3_client.specs.Client.{ClientState, moves_after}
 use Rattle.q3_client.specs.Moves.{most_moves, is_carried, carried, asks_delta}
-use Rattle.q3_client.specs.Sending.{Said, IsSaid, Emission, next_message, next_said, said_bits, is_unclear, emit_bits, emit_new, emit_left, emit_unless, emit_at, wants_delta}
+use Rattle.q3_client.specs.Sending.{IsSaid, Emission, next_message, next_said, said_bits, is_unclear, emit_new, emit_left, emit_unless, emit_at, wants_delta}
 use Rattle.q3_client.specs.Standing.{AreMoves, IsClient}
 
 -- ---- moves

@@ -1,5 +1,5 @@
 -- What every client is, whatever was handed in and whatever came.
-use Rattle.std.specs.Prelude.{◌≡◌, ℕ, ◌^◌, ◌<◌, ◌≤◌, List, length, All}
+use Rattle.std.specs.Prelude.{◌≡◌, ◌^◌, ◌<◌, ◌≤◌, List, length, All}
 use Rattle.q3_chan.specs.Checks.{check_for}
 use Rattle.q3_chan.specs.Datagrams.{server_form, client_header}
 use Rattle.q3_window.specs.Outgoing.{IsOutgoing}

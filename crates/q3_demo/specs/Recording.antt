@@ -1,5 +1,5 @@
 -- A recording: from the first whole snapshot on, the messages that a client applied.
-use Rattle.std.specs.Prelude.{◌≡◌, ℕ, ◌+◌, ◌-◌, ◌<◌, ◌&&◌, nat_lt, if◌then◌else◌, Bool, true, false, List, [], ◌∷◌, ◌++◌, length, replicate, Option, Some, None, option_and_then, Result, Ok, Err}
+use Rattle.std.specs.Prelude.{ℕ, ◌-◌, ◌&&◌, nat_lt, if◌then◌else◌, Bool, false, List, [], ◌∷◌, ◌++◌, length, replicate, Option, Some, None, Result, Ok, Err}
 use Rattle.std.specs.Result.{result_ok}
 use Rattle.byteorder.specs.Endian.{little_bytes}
 use Rattle.q3_bits.specs.Bits.{bits_of, message_bytes, message_length}
@@ -11,7 +11,6 @@ use Rattle.q3_strings.specs.declared.error.OperationError.TheVariants.{Bits}
 use Rattle.q3_strings.specs.Operations.{row_at}
 use Rattle.q3_entity.specs.Baselines.{no_baselines}
 use Rattle.q3_gamestate.specs.Values.{Gamestate}
-use Rattle.q3_profile.specs.declared.profile.Profile.{Profile}
 use Rattle.q3_svmsg.specs.Values.{Message, Game, Snap}
 use Rattle.q3_svmsg.specs.Texts.{server_message_bits}
 use Rattle.q3_entity_ring.specs.Snapshot.{Snapshot}

@@ -29,7 +29,7 @@ use Rattle.q3_chan.specs.Gathering.{Gathering, Took, gathered as gathered_of}
 use Rattle.q3_chan.specs.Tags.{tagged, IsQuiet, PieceDoes}
 use Rattle.q3_chan.specs.Senders.{qport_of}
 use Rattle.q3_chan.specs.Laws.{HoldsFront, SentIsTagged, Gathers}
-use Rattle.q3_client.specs.Client.{ClientState, Taken, Reception, receive_message, receive_bytes, applies, applies_read, take_answer, take_gathered, take_at}
+use Rattle.q3_client.specs.Client.{ClientState, Taken, Reception, receive_message, receive_bytes, applies, applies_read, take_answer, take_gathered}
 use Rattle.q3_client.specs.Sending.{said_bytes, Said, IsSaid}
 use Rattle.q3_built.specs.Built.{Built, IsNear, IsBuilt, BuildsGame, BuildsSnapshot, Telling, number_of, built_bytes, plain_bytes}
 use Rattle.q3_slot.specs.Slot.{SlotState}
@@ -46,7 +46,7 @@ use Rattle.q3_world.specs.declared.places.Place.{Place}
 use Rattle.q3_world.specs.Ends as by_ends
 use Rattle.q3_world.specs.Ends.{place_at, client_takes, server_takes}
 use Rattle.q3_world.specs.Kept.{kept_ends, arrive_at, deliver_at}
-use Rattle.q3_world.specs.World.{Tag, Whole, History, no_said, history_at, named, client_took, to_client, said_under, server_took, to_server, arrive, deliver, Played, game_in, texts_of, with_game, with_taken, with_heard, deliver_as, bytes_of}
+use Rattle.q3_world.specs.World.{Tag, Whole, History, no_said, history_at, named, to_client, said_under, server_took, to_server, arrive, deliver, Played, game_in, texts_of, with_game, with_taken, with_heard, deliver_as, bytes_of}
 use Rattle.q3_world.specs.StandsFor.{BeginsMessages, KeepsSlot, IsPiece, IsSent, IsClient, IsWay, WasBuilt, WasAccepted, carried_built, acks_built, carried_said, acks_said, AreCommanded, messages_of, messages_said, KeepsClient, TakesBuilt}
 use Rattle.q3_world.proofs.Recorded.{with_recording}
 use Rattle.q3_world.proofs.MoveLists.{consecutive_issued}

@@ -1,4 +1,4 @@
-use Rattle.std.proofs.Common.{List, ℕ, ◌++◌, codes, refl}
+use Rattle.std.proofs.Common.{◌++◌, codes, refl}
 use Rattle.std.proofs.lemmas.Result.{err_from_is_err_and}
 use Rattle.q3_report.proofs.Printing.{refused_in_parts}
 use Rattle.q3_report.proofs.report.print_refused.Goals as goal

@@ -1,5 +1,4 @@
-use Rattle.std.proofs.Common.{List, ap, rules}
-use Rattle.circular_buffer.specs.Buffer.{Buffer}
+use Rattle.std.proofs.Common.{rules}
 use Rattle.q3_client.specs.declared.moves.Issued.{Issued}
 use Rattle.q3_client.proofs.Begins.{moves_pushed}
 use Rattle.q3_client.proofs.client.Client.add_move.Goals as goal

@@ -1,4 +1,4 @@
-use Rattle.std.proofs.Common.{◌≤◌, ◌<◌, ◌^◌, length, rules, arith}
+use Rattle.std.proofs.Common.{◌≤◌, length, rules, arith}
 use Rattle.q3_client.specs.contracts.client.Client.{the_view}
 use Rattle.q3_client.proofs.Begins.{begins_new}
 use Rattle.q3_client.proofs.client.Client.emit_new.Goals as goal
