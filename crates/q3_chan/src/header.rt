@@ -5,7 +5,7 @@ ghost use Rattle.std.specs.Prelude.{◌≡◌, ◌<◌, ◌+◌, ◌≤◌, ◌+
 ghost use Rattle.byteorder.specs.Endian.{little_bytes};
 ghost use Rattle.q3_chan.specs.Datagrams.{sequence_end, header_bytes, check_bytes, length_of};
 ghost use Rattle.q3_chan.specs.Datagrams as spec;
-ghost use Rattle.q3_chan.specs.Gathering as gathering;
+ghost use Rattle.q3_chan.specs.Gathering as gathering_spec;
 
 use crate::form::{Form, check_of};
 use crate::limits::DATAGRAM_ROOM;
@@ -104,7 +104,7 @@ fn put_check(out: &mut Datagram, check: Option<u32>, number: u32)
 /// Whether a datagram begins with four bytes of 255.
 pub(crate) fn is_connectionless(datagram: &[u8]) -> bool
     requires { 4 ≤ length datagram.now }
-    ensures { result ≡ gathering.is_connectionless datagram.now }
+    ensures { result ≡ gathering_spec.is_connectionless datagram.now }
 {
     &datagram[..4] == [255; 4].as_slice()
 }

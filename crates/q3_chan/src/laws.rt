@@ -66,16 +66,16 @@ pub fn qport_is_told()
     ensures { QportIsTold }
 {}
 
-/// What an end scrambles twice is as it was; the length and the bytes that stay clear stay, and bytes stay bytes, where the key
-/// has a byte and a command's text.
+/// What an end scrambles twice is as it was; the length and the bytes that stay clear stay. Bytes stay bytes, where the key's start,
+/// if it has one, is a byte, and its text is a command's.
 pub fn ends_scramble()
     ensures twice { SideTwiceIsNone }
     ensures front { SideFrontStays }
     ensures bytes { SideBytesStay }
 {}
 
-/// What is scrambled twice is as it was; the length and what stands before the place stay, and bytes stay bytes, where the start is
-/// one and the text is a command's.
+/// What is scrambled twice is as it was; the length and what stands before the place stay. Bytes stay bytes, where the start is one
+/// and the text is a command's.
 pub fn scrambled_twice()
     ensures twice { TwiceIsNone }
     ensures front { FrontStays }

@@ -12,8 +12,8 @@
 //!    one (`Fragment`) until none is left.
 //!
 //! It sends before it has a gamestate, too: by such a message the server learns that it needs one. With `Illegible` it is
-//! dropped: from then on it takes and sends nothing. After `new` no call takes memory. `turns.rt` of q3_tests drives a
-//! client and its server so. The rules are in docs/protocol.md, by the names that the modules call.
+//! dropped: from then on it takes and sends nothing. `turns.rt` of q3_tests drives a client and its server in such turns.
+//! After `new` no call takes memory. The rules are in docs/protocol.md, by the names that the modules call.
 #![tactic(auto)]
 
 pub mod client;

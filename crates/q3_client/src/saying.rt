@@ -7,7 +7,7 @@ ghost use Rattle.std.specs.Prelude.{◌≡◌, ◌≤◌, [], ◌∷◌, length}
 ghost use Rattle.q3_bits.specs.Words.{row_bits};
 ghost use Rattle.q3_chan.specs.Datagrams.{longest_message};
 ghost use Rattle.q3_chan.specs.Keys.{client_key};
-ghost use Rattle.q3_chan.specs.Keys as spec;
+ghost use Rattle.q3_chan.specs.Keys as keys_spec;
 ghost use Rattle.q3_chan.specs.declared.side.Side.TheVariants.{Client};
 ghost use Rattle.q3_window.specs.Outgoing.{IsOutgoing};
 ghost use Rattle.q3_window.specs.Outgoing as outgoing_spec;
@@ -28,7 +28,7 @@ use q3_window::Outgoing;
 /// Whether by protocol 68 the leading longs of the message that goes to the server next take more bits than stay clear: never by
 /// protocol 71.
 pub(crate) fn is_unclear(state: &ClState, acknowledged: u32) -> bool
-    ensures { result ≡ spec.is_unclear state.now.profile.protocol Client
+    ensures { result ≡ keys_spec.is_unclear state.now.profile.protocol Client
         (length (row_bits state.now.profile.code ((state.now.id, 32) ∷ (acknowledged, 32)
         ∷ (state.now.executed.executed, 32) ∷ []))) }
 {

@@ -1,6 +1,6 @@
 -- All that a state holds stays well formed and in range, whatever bytes are applied.
-use Rattle.std.proofs.Common.{◌≡◌, ℕ, ◌+◌, ◌^◌, ◌<◌, ◌≤◌, Bool, List, [], length, Option, Some, None, Result, Ok, Err, refl, sym, ap, subst, ◌∙◌, inl, inr, arith}
-use Rattle.std.specs.Prelude.{All, IfSome, if◌then◌else◌, nat_le, ◌==◌}
+use Rattle.std.proofs.Common.{◌≡◌, ℕ, ◌^◌, ◌<◌, ◌≤◌, List, [], Option, None, Result, Ok, Err, refl, sym, subst, inl, arith}
+use Rattle.std.specs.Prelude.{All, IfSome, ◌==◌}
 use Rattle.std.proofs.lemmas.Bool.{cond_both, leb-false}
 use Rattle.std.proofs.lemmas.List.Elements.{All-nil}
 use Rattle.q3_bits.specs.Bits.{bits_of}
@@ -8,7 +8,6 @@ use Rattle.q3_bits.specs.ResultBind.{◌>>=◌, bind_ok}
 use Rattle.q3_text.specs.Texts.{IsText, IsTextByte}
 use Rattle.q3_window.specs.Incoming.{IncomingState, jump_at}
 use Rattle.q3_config.specs.Strings.{Pending}
-use Rattle.q3_config.specs.Laws.{HoldTexts}
 use Rattle.q3_profile.specs.declared.profile.Profile.{Profile}
 use Rattle.q3_profile.specs.Profile.{IsCodec}
 use Rattle.q3_gamestate.specs.Values.{Gamestate}
@@ -21,7 +20,7 @@ use Rattle.q3_entity_ring.specs.Snapshot.{Snapshot}
 use Rattle.q3_clstate.specs.declared.applied.SnapOutcome.{SnapOutcome}
 use Rattle.q3_clstate.specs.declared.applied.SnapOutcome.TheVariants.{NoSnap, Skipped as SkippedFor, Stale}
 use Rattle.q3_rings.specs.Rings.{held_snapshot}
-use Rattle.q3_clstate.specs.State.{AppliedState, new_state, context_of, Application, passes, accepts, after_gamestate, applies_game, is_stale, skipped_for, apply_section, hearing, apply_read, apply_at, state_after_message}
+use Rattle.q3_clstate.specs.State.{AppliedState, new_state, context_of, passes, accepts, applies_game, is_stale, skipped_for, apply_section, hearing, apply_read, apply_at, state_after_message}
 use Rattle.q3_clstate.specs.Standing.{IsApplied}
 use Rattle.q3_clstate.proofs.Below.{Below}
 use Rattle.q3_clstate.proofs.Hearing.{id_below, hearing_stays}

@@ -2,7 +2,6 @@
 use Rattle.std.specs.Prelude.{ℕ, ◌+◌, ◌^◌, ◌<◌, ◌≤◌, List}
 use Rattle.q3_profile.specs.declared.profile.Profile.{Profile}
 use Rattle.q3_profile.specs.Profile.{IsCodec}
-use Rattle.q3_svmsg.specs.Values.{Context}
 use Rattle.q3_svmsg.specs.Laws.{IsContext}
 use Rattle.q3_clstate.specs.State.{AppliedState, new_state, context_of, apply_at, state_after_message}
 use Rattle.q3_entity.specs.Entities.{most_entities}

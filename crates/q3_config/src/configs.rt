@@ -6,7 +6,7 @@
 ghost use Rattle.std.specs.Prelude.{◌≡◌, ◌<◌, ◌≤◌, ◌==◌, not, if◌then◌else◌, length, map, find, option_map, All, Some, IsTrue, IfOk, OnOk};
 ghost use Rattle.q3_config.specs.Strings.{AreStrings, places, longest_string, no_strings, string_at, has_string, config_size, is_config_byte, set_fault, admit_fault, refused, after_set};
 ghost use Rattle.q3_config.specs.Strings as spec;
-ghost use Rattle.q3_config.specs.Commands as commands;
+ghost use Rattle.q3_config.specs.Commands as commands_spec;
 ghost use Rattle.q3_config.specs.Changes.{unchanged, go_on, after_change, after_command};
 ghost use Rattle.q3_config.specs.Changes as changes_spec;
 ghost use Rattle.q3_config.specs.Parts.{meant, finished};
@@ -187,7 +187,7 @@ impl Configs {
 
     /// Puts a piece after the pending text of its index, which ends where it would get too long, and says whether it did.
     fn grow(&mut self, index: u32, text: &[u8]) -> bool
-        ensures { (word : commands.Word) → go_on self.old word index text.now self.old.pending
+        ensures { (word : commands_spec.Word) → go_on self.old word index text.now self.old.pending
             ≡ (if result then finished self.new word self.new.pending else unchanged self.new) }
     {
         let Some((other, before)) = self.pending.get() else {
@@ -206,7 +206,7 @@ impl Configs {
 
     /// Changes a string to the text that was pending.
     fn finish(&mut self) -> bool
-        ensures { finished self.old commands.Last self.old.pending ≡ record { strings = self.new; changed = result } }
+        ensures { finished self.old commands_spec.Last self.old.pending ≡ record { strings = self.new; changed = result } }
     {
         let Some((index, text)) = self.pending.get() else {
             return false;

@@ -17,13 +17,13 @@ pub(crate) struct Pending {
 
 impl Model for Pending {
     ghost use Rattle.std.specs.Prelude.{◌≤◌, Option, option_map, vec_capacity};
-    ghost use Rattle.q3_config.specs.Strings as strings;
+    ghost use Rattle.q3_config.specs.Strings as strings_spec;
 
-    ghost Value = { Option strings.Pending };
+    ghost Value = { Option strings_spec.Pending };
 
     ghost view = { λ p. option_map (λ index. record { index = index; text = p.bytes.items }) p.index };
 
-    ghost invariant = { λ p. strings.longest_string ≤ vec_capacity p.bytes };
+    ghost invariant = { λ p. strings_spec.longest_string ≤ vec_capacity p.bytes };
 }
 
 impl Pending {

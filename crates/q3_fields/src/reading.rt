@@ -6,10 +6,7 @@ ghost use Rattle.std.specs.Prelude.{◌≡◌, ◌<◌, ◌≤◌, ◌^◌, ◌=
 ghost use Rattle.q3_bits.specs.Streams.{Reads};
 ghost use Rattle.q3_fields.specs.declared.kind.Kind.TheVariants.{Float, Unsigned, Signed};
 ghost use Rattle.q3_fields.specs.Kinds.{IsKind};
-ghost use Rattle.q3_fields.specs.Kinds as spec;
-ghost use Rattle.q3_fields.specs.Floats.{pattern};
 ghost use Rattle.q3_fields.specs.Texts.{float_at, integer_at, player_field_at, entity_field_at};
-ghost use Rattle.q3_fields.specs.Texts as texts_spec;
 
 use crate::float::{pattern_of, unbiased};
 use crate::kind::{Kind, positive_zero, sign_extended};

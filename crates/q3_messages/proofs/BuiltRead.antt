@@ -1,7 +1,6 @@
 -- A message that was built is read back from its bytes.
-use Rattle.std.proofs.Common.{◌≡◌, ◌-◌, ◌*◌, ◌^◌, ◌<◌, ◌≤◌, Bool, false, List, [], ◌∷◌, ◌++◌, length, drop, replicate, Option, Result, Ok, refl, sym, ap, subst, ◌∙◌, inl, inr, append_assoc, arith, ℕ}
+use Rattle.std.proofs.Common.{◌≡◌, ◌-◌, ◌*◌, ◌^◌, ◌<◌, Bool, false, List, [], ◌∷◌, ◌++◌, length, drop, replicate, Option, Result, Ok, refl, sym, ap, subst, ◌∙◌, inl, inr, append_assoc, ℕ}
 use Rattle.std.specs.Prelude.{IfSome, option_map}
-use Rattle.std.proofs.lemmas.Bool.{ltb-false}
 use Rattle.q3_bits.specs.Bits.{bits_of, message_bytes, message_length}
 use Rattle.q3_bits.specs.ResultBind.{◌>>=◌, fault_as}
 use Rattle.q3_bits.specs.declared.reader.ReadError.{ReadError}

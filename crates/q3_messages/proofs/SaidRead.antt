@@ -1,6 +1,6 @@
 -- What a client said is read back by the server.
-use Rattle.std.proofs.Common.{◌≡◌, ◌*◌, ◌-◌, ◌^◌, ◌<◌, ◌≤◌, Bool, false, List, [], ◌∷◌, ◌++◌, length, drop, replicate, Result, Ok, refl, sym, ap, subst, ◌∙◌, inl, inr, append_assoc, arith, ℕ}
-use Rattle.std.proofs.lemmas.Bool.{cases_Bool, ltb-false}
+use Rattle.std.proofs.Common.{◌≡◌, ◌*◌, ◌-◌, ◌^◌, ◌<◌, Bool, false, List, [], ◌∷◌, ◌++◌, length, drop, replicate, Result, Ok, refl, sym, ap, subst, ◌∙◌, inl, inr, append_assoc, ℕ}
+use Rattle.std.proofs.lemmas.Bool.{cases_Bool}
 use Rattle.q3_bits.specs.Bits.{bits_of, message_bytes, message_length}
 use Rattle.q3_bits.specs.ResultBind.{◌>>=◌, fault_as}
 use Rattle.q3_bits.specs.Words.{IsCode, row_bits}

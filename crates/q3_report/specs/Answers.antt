@@ -37,11 +37,11 @@ pub data Answered : Type 0 where
   Shown : ℕ → Showing → Answered
   Bytes : ℕ → Option (List ℕ) → Answered
 
--- what was executed and run with an answer
-abbrev pub heard_in : Answered → Heard
-heard_in (Took front (ByClient c took state commands ended)) = record (nothing_heard false) { commands = commands }
-heard_in (Took front (ByServer took heard)) = heard
-heard_in other = nothing_heard false
+-- what was executed and run with an answer, kept as the server keeps it: of a client's take the commands alone
+abbrev pub ran_in : Answered → Heard
+ran_in (Took front (ByClient c took state commands ended)) = record (nothing_heard false) { commands = commands }
+ran_in (Took front (ByServer took heard)) = heard
+ran_in other = nothing_heard false
 
 -- the snapshot that is shown
 abbrev pub snapshot_in : Answered → Option Snapshot

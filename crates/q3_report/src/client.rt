@@ -4,7 +4,7 @@ ghost use Rattle.std.specs.Prelude.{◌≡◌, [], ◌∷◌, codes, decimal};
 ghost use Rattle.std.specs.List.{concat};
 ghost use Rattle.q3_io.specs.Faults.{HasCause};
 ghost use Rattle.q3_io.specs.Written.{Adds};
-ghost use Rattle.q3_svmsg.specs.Report as spec;
+ghost use Rattle.q3_svmsg.specs.Report as report_spec;
 ghost use Rattle.q3_report.specs.ClientLines.{illegible_text, client_text, move_error_text, send_text};
 
 use q3_client::{Client, ClientTook, MoveError, Sent};
@@ -58,7 +58,7 @@ pub(crate) fn print_took<O: Sink>(
 fn print_illegible<O: Sink>(c: u8, cause: Illegible, out: &mut O) -> Result<(), Failed>
     ensures adds { Adds (O.written out.old) (O.written out.new)
         (concat (codes " client " ∷ decimal c
-        ∷ illegible_text (spec.cause_word cause) (spec.cause_number cause) ∷ [])) result }
+        ∷ illegible_text (report_spec.cause_word cause) (report_spec.cause_number cause) ∷ [])) result }
     ensures cause { HasCause (O.faults out.old) (O.faults out.new) result }
 {
     let Some(number) = cause_number(cause) else {

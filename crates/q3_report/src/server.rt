@@ -5,7 +5,7 @@ ghost use Rattle.std.specs.List.{concat, flat_map};
 ghost use Rattle.q3_io.specs.Faults.{HasCause};
 ghost use Rattle.q3_io.specs.Written.{Adds};
 ghost use Rattle.q3_clmsg.specs.Report.{move_text};
-ghost use Rattle.q3_clmsg.specs.Report as spec;
+ghost use Rattle.q3_clmsg.specs.Report as report_spec;
 ghost use Rattle.q3_slot.specs.declared.answer.Emitted.TheVariants as emitted;
 ghost use Rattle.q3_report.specs.ServerLines.{serve_text, slot_text, illegible_text, gap_text, ignored_text, owed_text, entered_text, ran_text, server_text};
 ghost use Rattle.q3_window.specs.Report.{commands_text};
@@ -187,7 +187,7 @@ fn print_word<O: Sink>(slot: u8, word: &[u8], out: &mut O) -> Result<(), Failed>
 /// Prints the line of a message that isn't legible.
 fn print_illegible<O: Sink>(slot: u8, cause: ClientIllegible, out: &mut O) -> Result<(), Failed>
     ensures adds { Adds (O.written out.old) (O.written out.new)
-        (illegible_text slot (spec.cause_word cause) (spec.cause_number cause)) result }
+        (illegible_text slot (report_spec.cause_word cause) (report_spec.cause_number cause)) result }
     ensures cause { HasCause (O.faults out.old) (O.faults out.new) result }
 {
     let Some(number) = cause_number(cause) else {

@@ -5,7 +5,7 @@ ghost use Rattle.std.specs.List.{concat};
 ghost use Rattle.q3_io.specs.Faults.{HasCause};
 ghost use Rattle.q3_io.specs.Written.{Adds};
 ghost use Rattle.q3_runs.specs.Lines.{fault_line, fault_status, cause_word, key_line, text_line, code_line, profile_line, record_line, illegible_text, demo_line, index_line};
-ghost use Rattle.q3_svmsg.specs.Report as spec;
+ghost use Rattle.q3_svmsg.specs.Report as report_spec;
 
 use q3_bits::{CodeError, NoMemory};
 use q3_demo::DemoError;
@@ -224,7 +224,7 @@ fn print_record<O: Sink>(rule: &[u8], at: u64, out: &mut O) -> Result<(), Failed
 /// Prints the fault line of a record whose message isn't legible.
 fn print_message<O: Sink>(at: u64, cause: Illegible, out: &mut O) -> Result<(), Failed>
     ensures adds { Adds (O.written out.old) (O.written out.new)
-        (concat (codes "demo:" ∷ illegible_text (spec.cause_word cause) (spec.cause_number cause) at ∷ [])) result }
+        (concat (codes "demo:" ∷ illegible_text (report_spec.cause_word cause) (report_spec.cause_number cause) at ∷ [])) result }
     ensures cause { HasCause (O.faults out.old) (O.faults out.new) result }
 {
     let Some(number) = cause_number(cause) else {

@@ -1,6 +1,6 @@
 -- Whole states: what was written is read, and what is read was written so.
 use Rattle.std.proofs.Common.{◌≡◌, ℕ, ◌^◌, ◌<◌, ◌≤◌, ◌==◌, Bool, true, false, if◌then◌else◌, List, [], ◌∷◌, length, Ok, Err, inl, inr, refl, sym, ap, subst, arith}
-use Rattle.std.specs.Prelude.{Option, Result, not}
+use Rattle.std.specs.Prelude.{Option, not}
 use Rattle.std.specs.List.{concat}
 use Rattle.std.proofs.Math.Nat.{pow-le-pow_right}
 use Rattle.std.proofs.lemmas.Bool.{cases_eq, eq-eqb, eqb-true}
@@ -15,10 +15,8 @@ use Rattle.q3_rings.specs.Rings.{HeldSnapshots}
 use Rattle.q3_rings.specs.Laws.{SnapshotsStay}
 use Rattle.q3_profile.specs.declared.profile.Profile.{Profile}
 use Rattle.q3_profile.specs.Profile.{IsCodec}
-use Rattle.q3_savestate.specs.Cursor.{Cursor, end_at}
-use Rattle.q3_savestate.specs.Entities.{baselines_at}
-use Rattle.q3_savestate.specs.Texts.{strings_at, pending_at}
-use Rattle.q3_savestate.specs.Snapshots.{last_number, snapshots_at}
+use Rattle.q3_savestate.specs.Cursor.{end_at}
+use Rattle.q3_savestate.specs.Snapshots.{last_number}
 use Rattle.q3_savestate.specs.State.{Saved, Start, flag_bytes, state_bytes, start_at, flag_at, whole_at, state_at}
 use Rattle.q3_savestate.specs.Standing.{IsSaved, AreWellHeld}
 use Rattle.q3_savestate.specs.Laws.{WrittenIsRead, ReadIsWritten}

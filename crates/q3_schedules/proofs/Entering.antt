@@ -131,7 +131,7 @@ runs_later before time moves le =
       each = All-weaker (λ (one : Move). before < one.time) (λ (one : Move). time < one.time) (λ one lt. omega (arith, le, lt)) (runs before moves) (later before (runs before moves) rise);
     }
 
--- a client that doesn't play enters the map after the last move run
+-- of a client that doesn't play each move of a message is later than the last one run
 abbrev EntersLate : SlotState → Message → Type 0
 EntersLate slot message = (one : Move) (others : List Move) → message.moves ≡ one ∷ others → is_active slot.stage ≡ false → slot.last_run < one.time
 

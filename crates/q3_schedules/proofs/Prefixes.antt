@@ -20,7 +20,7 @@ use Rattle.q3_client.specs.Sending.{said_bytes}
 use Rattle.q3_entity_ring.specs.Snapshot.{Snapshot}
 use Rattle.q3_world.specs.declared.made.Direction.{Direction}
 use Rattle.q3_world.specs.declared.made.Direction.TheVariants.{ToClient, ToServer}
-use Rattle.q3_report.specs.Answers.{heard_in}
+use Rattle.q3_report.specs.Answers.{ran_in}
 use Rattle.q3_world.specs.declared.places.Place.{Place}
 use Rattle.q3_world.specs.Ends.{Ends}
 use Rattle.q3_world.specs.Kept.{KeptStep, kept_step}
@@ -135,7 +135,7 @@ game_noted before noted commands number time (Some game) goes = goes
 
 -- by its tag
 arrived_goes_on : (profile : Profile) (whole : Whole) (number : ℕ) (tag : Tag) (direction : Direction) → Cited profile → tag.direction ≡ direction → IsSent profile whole.histories tag → Holds profile whole
-    → GoesOn (heard_in (arrive profile whole number tag direction).answer).commands (history_at whole.histories tag.client)
+    → GoesOn (ran_in (arrive profile whole number tag direction).answer).commands (history_at whole.histories tag.client)
     (history_at (arrive profile whole number tag direction).whole.histories tag.client) direction
 arrived_goes_on profile whole number tag ToClient cited way is holds =
     let c = tag.client in
@@ -166,7 +166,7 @@ arrived_goes_on profile whole number tag (ToServer from) cited way is holds =
     (slot_goes_on profile whole tag from slot had.0 cited sent had.1, refl, refl))
 
 abbrev StepGoesOn : Whole → Tag → Step → Type 0
-StepGoesOn whole tag next = GoesOn (heard_in next.answer).commands (history_at whole.histories tag.client) (history_at next.whole.histories tag.client) tag.direction
+StepGoesOn whole tag next = GoesOn (ran_in next.answer).commands (history_at whole.histories tag.client) (history_at next.whole.histories tag.client) tag.direction
 
 delivered_goes_on : (profile : Profile) (whole : Whole) (number : ℕ) (tag : Tag) → Cited profile → slice_get whole.sent (number - 1) ≡ Some tag → Holds profile whole
     → StepGoesOn whole tag (step profile whole (events.Deliver number))
@@ -185,9 +185,9 @@ executed_goes_on law below profile all number tag is are is_event at =
     let holds = holds_of profile kept whole stands in
     let history = history_at whole.histories tag.client in
     let by_tag = delivered_goes_on profile whole number tag cited at holds in
-    let answers : (heard_in (kept_step kept event).answer).commands ≡ (heard_in (step profile whole event).answer).commands =
-    ap (λ (s : KeptStep). (heard_in s.answer).commands) (delivers_same profile kept whole number cited stands) in
+    let answers : (ran_in (kept_step kept event).answer).commands ≡ (ran_in (step profile whole event).answer).commands =
+    ap (λ (s : KeptStep). (ran_in s.answer).commands) (delivers_same profile kept whole number cited stands) in
     let then_is : whole_then profile (all ++ event ∷ []) ≡ (step profile whole event).whole =
     after_both profile (opening profile) all (event ∷ []) ∙ after_one profile whole event in
     subst (λ (commands : List Command). GoesOn commands history (history_at (whole_then profile (all ++ event ∷ [])).histories tag.client) tag.direction) (sym answers)
-    (subst (λ (w : Whole). GoesOn (heard_in (step profile whole event).answer).commands history (history_at w.histories tag.client) tag.direction) (sym then_is) by_tag)
+    (subst (λ (w : Whole). GoesOn (ran_in (step profile whole event).answer).commands history (history_at w.histories tag.client) tag.direction) (sym then_is) by_tag)

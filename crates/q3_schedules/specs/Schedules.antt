@@ -27,7 +27,7 @@ use Rattle.q3_chan.specs.Gathering.{gathered}
 use Rattle.q3_report.specs.declared.answer.Front.TheVariants as fronts
 use Rattle.q3_report.specs.declared.answer.TakeRefused.{TakeRefused}
 use Rattle.q3_report.specs.declared.answer.TakeRefused.TheVariants as refused
-use Rattle.q3_report.specs.Answers.{Answered, ByClient, ByServer, SentOut, Took, Untaken, heard_in, snapshot_in}
+use Rattle.q3_report.specs.Answers.{Answered, ByClient, ByServer, SentOut, Took, Untaken, ran_in, snapshot_in}
 use Rattle.q3_world.specs.declared.made.Direction.TheVariants as direction
 use Rattle.q3_built.specs.Built.{Built, number_of, IsNear, is_unclear, built_bytes}
 use Rattle.q3_slot.specs.Slot.{SlotState, is_active}
@@ -70,7 +70,7 @@ ClientTookSo answer number c made commands = (state : AppliedState) × (ended : 
 
 -- the server made this of it, and ran this
 abbrev pub ServerTookSo : Answered → ℕ → ServerTook → Heard → Type 0
-ServerTookSo answer number made run = answer ≡ Took (fronts.Deliver number) (ByServer made run)
+ServerTookSo answer number made heard = answer ≡ Took (fronts.Deliver number) (ByServer made heard)
 
 -- an event of a schedule in which each end gets only what the other made; the laws below are said of such schedules
 abbrev pub IsScheduled : Event → Type 0
@@ -161,7 +161,7 @@ KeysAgree = (profile : Profile) (all : List Event) (c : ℕ) (slot : SlotState) 
 abbrev pub ExecutedGoesOn : Type 0
 ExecutedGoesOn = (profile : Profile) (all : List Event) (number : ℕ) (tag : Tag) → IsChecked profile → AllByRecursion IsScheduled all
     → IsScheduled (events.Deliver number) → slice_get (whole_then profile all).sent (number - 1) ≡ Some tag
-    → GoesOn (heard_in (kept_step (kept_then profile all) (events.Deliver number)).answer).commands
+    → GoesOn (ran_in (kept_step (kept_then profile all) (events.Deliver number)).answer).commands
     (history_then profile all tag.client) (history_then profile (all ++ events.Deliver number ∷ []) tag.client) tag.direction
 
 -- each snapshot that a client accepted is the one that the server built for it under that number, and the numbers rise
@@ -332,9 +332,9 @@ MovesWereIssued = (profile : Profile) (all : List Event) (c : ℕ) → IsChecked
 -- a move with which a client enters a map isn't among those that are run: all that were run before it are earlier, and all that
 -- are run later are later
 abbrev pub EnteringIsNotRun : Type 0
-EnteringIsNotRun = (profile : Profile) (before rest : List Event) (c number n time : ℕ) (run : Heard) → IsChecked profile
+EnteringIsNotRun = (profile : Profile) (before rest : List Event) (c number n time : ℕ) (heard : Heard) → IsChecked profile
     → AllByRecursion IsScheduled (before ++ events.Deliver number ∷ rest) → c < places
-    → ServerTookSo (kept_step (kept_then profile before) (events.Deliver number)).answer number (took.Ran c n) run → run.entered ≡ Some time
+    → ServerTookSo (kept_step (kept_then profile before) (events.Deliver number)).answer number (took.Ran c n) heard → heard.entered ≡ Some time
     → All (λ (one : Move). one.time < time) (history_then profile before c).run
     × ((later : List Move)
     × ((history_then profile (before ++ events.Deliver number ∷ rest) c).run ≡ (history_then profile before c).run ++ later)

@@ -11,9 +11,9 @@
 //! 3. `emit` for each slot that is due, and send `out` to `address(slot)` unless it is empty. As long as `sending(slot)` is some,
 //!    the next `emit` hands out a further piece of the same message.
 //!
-//! A gamestate isn't asked for: where one is owed to a client, `emit` begins it before any other message. After `new` no call
-//! takes memory. `turns.rt` of q3_tests drives a server and its client so. The rules are in docs/protocol.md, by the names that the
-//! modules call.
+//! A gamestate isn't asked for: where one is owed to a client, `emit` begins it before any other message. `turns.rt` of q3_tests
+//! drives a server and its client in such turns. After `new` no call takes memory. The rules are in docs/protocol.md, by the names
+//! that the modules call.
 #![tactic(auto)]
 
 pub mod laws;

@@ -6,7 +6,7 @@
 
 ghost use Rattle.std.specs.Prelude.{◌≡◌, ◌<◌, ◌≤◌, None, All, IsTrue, length, map, option_map, position};
 ghost use Rattle.q3_config.specs.Laws.{piece_texts};
-ghost use Rattle.q3_config.specs.Strings as strings;
+ghost use Rattle.q3_config.specs.Strings as strings_spec;
 ghost use Rattle.q3_config.specs.Strings.{is_config_byte, longest_string};
 ghost use Rattle.q3_window.specs.Outgoing.{total_of};
 ghost use Rattle.q3_slot.specs.Slot.{on_new_map};
@@ -28,7 +28,7 @@ pub fn begin_map(slots: &mut [Slot])
 
 /// Tells each client for which a gamestate was begun of a change of a config string, for which all of them have room.
 pub fn tell_all(slots: &mut [Slot], index: u32, text: &[u8])
-    requires index { index < strings.places }
+    requires index { index < strings_spec.places }
     requires chars { All (λ byte. IsTrue (is_config_byte byte)) text.now }
     requires room { position (lacks_room (piece_texts index text.now)) slots.old ≡ None }
     ensures { slots.new ≡ map (option_map (tells (piece_texts index text.now))) slots.old }
@@ -41,7 +41,7 @@ pub fn tell_all(slots: &mut [Slot], index: u32, text: &[u8])
 /// The least slot whose client is told of config changes and has no room for a change of a config string.
 pub fn first_without_room(slots: &[Slot], index: u32, text: &[u8]) -> Option<u8>
     requires slots { length slots.now ≤ places }
-    requires index { index < strings.places }
+    requires index { index < strings_spec.places }
     requires chars { All (λ byte. IsTrue (is_config_byte byte)) text.now }
     requires short { length text.now ≤ longest_string }
     ensures { result ≡ position (lacks_room (piece_texts index text.now)) slots.now }
@@ -67,7 +67,7 @@ fn place_without_room(slots: &[Slot], count: u32, bytes: u32) -> Option<usize>
 
 /// How many bytes the commands of a change of a config string have together.
 fn size_of_pieces(index: u32, text: &[u8]) -> u32
-    requires index { index < strings.places }
+    requires index { index < strings_spec.places }
     requires chars { All (λ byte. IsTrue (is_config_byte byte)) text.now }
     requires short { length text.now ≤ longest_string }
     ensures { result ≡ total_of (piece_texts index text.now) }

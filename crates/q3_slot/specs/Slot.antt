@@ -30,10 +30,10 @@ game_of Connected = None
 game_of (Primed game) = Some game
 game_of (Active game) = Some game
 
--- a client at the server: how it joined and from where, how far it came on the map, and whether a gamestate is owed to it; what is
--- being sent to it, what was gathered of what it sends, the commands that were issued to it, and those of its own that were executed;
--- the number of the snapshot that it asks to write the next one against, 0 for none, the time of its last move that was run, 0 for
--- none, its player in normal form, its area bytes, and whether its snapshots are delayed by rate control
+-- a client at the server: how it joined and from where, how far it came on the map and by which gamestate, and whether one is owed to
+-- it; what is being sent to it, what was gathered of what it sends, the commands that were issued to it, and those of its own that were
+-- executed; the number of the snapshot that it asks to write the next one against, 0 for none, the time of its last move that was run, 0
+-- for none, its player in normal form, its area bytes, and whether its snapshots are delayed by rate control
 pub record SlotState : Type 0 where
   pub challenge : ℕ
   pub address : Address

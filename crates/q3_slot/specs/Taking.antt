@@ -58,10 +58,10 @@ pub record Playing : Type 0 where
   pub entered : Option ℕ
   pub moves : List Move
 
--- those of a client that plays are run
-abbrev pub plays : SlotState → Message → Playing
-plays slot message = record {
-  stage = slot.stage;
+-- those of a client that plays are run, and it plays on
+abbrev pub plays : ℕ → SlotState → Message → Playing
+plays game slot message = record {
+  stage = Active game;
   delta = delta_after slot.delta message;
   last_run = last_run_of slot.last_run message.moves;
   entered = None;
@@ -90,7 +90,7 @@ stands slot = record { stage = slot.stage; delta = slot.delta; last_run = slot.l
 abbrev pub moves_on : SlotState → Message → Move → List Move → ClientStage → Playing
 moves_on slot message one moves Connected = waits slot
 moves_on slot message one moves (Primed game) = enters game one moves
-moves_on slot message one moves (Active game) = plays slot message
+moves_on slot message one moves (Active game) = plays game slot message
 
 abbrev pub goes_on : SlotState → Message → List Move → Playing
 goes_on slot message [] = stands slot
@@ -121,7 +121,7 @@ leading_of heads = record { id = heads.id; acknowledged = heads.acknowledged; co
 abbrev pub came_as : MapState → Message → Came
 came_as map message = if is_other map message.id then OfOther (heads_of message) else OfMap message
 
--- nothing was run
+-- nothing was run; and whether a gamestate is owed
 abbrev pub nothing_heard : Bool → Heard
 nothing_heard owed = record { commands = []; moves = record { items = [] }; entered = None; owed = owed }
 

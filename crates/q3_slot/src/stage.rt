@@ -13,8 +13,8 @@ ghost use Rattle.q3_slot.specs.Slot as spec;
 /// - `join` (of `Slot`): a client is connected at first.
 /// - `begin_map`: with a new map it is connected, however far it came on the last one.
 /// - `prime`: a gamestate that was owed is begun, and it is primed. Where that got lost, one is owed again, and `prime` leaves it
-///   primed. None becomes owed to an active client; but one that is owed as it enters stays so, and then `prime` leads back from
-///   `Active`. In a closed replay that never comes.
+///   primed, by the new one's number. None becomes owed to an active client; but one that is owed as it enters stays so, and then
+///   `prime` leads back from `Active`. In a closed replay that never comes.
 /// - `enter`: while it was primed a message of the map with moves came, and it is active.
 #[derive(Clone, Copy, Debug, PartialEq, Eq)]
 pub enum ClientStage {
@@ -22,7 +22,7 @@ pub enum ClientStage {
     Connected,
     /// One was begun, the last of them as the message of this number.
     Primed { game: u32 },
-    /// It plays under it.
+    /// It plays. The last gamestate of the map that was begun for it is the message of this number.
     Active { game: u32 },
 }
 

@@ -5,7 +5,7 @@
 //! - Ours: that a move runs exactly where its time is above that of the last one run; that before the first map each id is
 //!   another one.
 
-ghost use Rattle.std.specs.Prelude.{◌≡◌, ◌≤◌, [], false, length, None, IfOk};
+ghost use Rattle.std.specs.Prelude.{◌≡◌, ◌≤◌, [], false, length, IfOk};
 ghost use Rattle.q3_bits.specs.Streams.{holding};
 ghost use Rattle.q3_clmsg.specs.Values.{said_of};
 ghost use Rattle.q3_window.specs.Incoming.{executes, fresh_of, gap_in};

@@ -8,7 +8,7 @@ ghost use Rattle.q3_text.specs.Commands.{commands_of};
 ghost use Rattle.q3_strings.specs.Commands.{commands_bits};
 ghost use Rattle.q3_entity.specs.Baselines.{Baselines, no_baselines};
 ghost use Rattle.q3_entity.specs.Entities.{IsList};
-ghost use Rattle.q3_entity.specs.Entities as spec;
+ghost use Rattle.q3_entity.specs.Entities as entities_spec;
 ghost use Rattle.q3_svmsg.specs.Values.{HasSnap, IsNamed, Game, base_viewed, base_entities, distance_to, game_of, told_of, parts_told, game_told};
 ghost use Rattle.q3_svmsg.specs.Texts.{head_bits, snapshot_bits, server_message_bits};
 
@@ -63,7 +63,7 @@ pub fn write_parts(
     into: &mut [u8],
 ) -> Result<usize, Overflow>
     requires named { IsNamed (option_map base_viewed base) parts.head.now.number parts.base }
-    requires entities { IsList profile.now.entity (spec.run_of parts.entities) }
+    requires entities { IsList profile.now.entity (entities_spec.run_of parts.entities) }
     requires base_entities { IsList profile.now.entity (base_entities (option_map base_viewed base)) }
     requires some { 1 ≤ length into.old }
     requires most { length into.old ≤ 16384 }
@@ -140,7 +140,7 @@ fn parts_of(message: &ServerMessage, base: u32) -> SnapParts<'_>
     ensures commands { commands_of result.commands ≡ message.now.commands }
     ensures base { result.base ≡ base }
     ensures head { result.head.now ≡ message.now.head }
-    ensures entities { spec.run_of result.entities ≡ message.now.entities.value.items }
+    ensures entities { entities_spec.run_of result.entities ≡ message.now.entities.value.items }
 {
     SnapParts {
         ack: message.ack,
@@ -171,7 +171,7 @@ fn write_snap_bits(
     base: Option<BaseView>,
 ) -> Result<(), Overflow>
     requires named { IsNamed (option_map base_viewed base) parts.head.now.number parts.base }
-    requires entities { IsList profile.now.entity (spec.run_of parts.entities) }
+    requires entities { IsList profile.now.entity (entities_spec.run_of parts.entities) }
     requires base_entities { IsList profile.now.entity (base_entities (option_map base_viewed base)) }
     ensures { Writes w.old w.new (server_message_bits (record profile.now { code = w.old.words }) baselines.now
         (option_map base_viewed base.entry) (parts_told parts.entry)) result }
@@ -224,10 +224,10 @@ fn write_snapshot(
     entities: Run,
 ) -> Result<(), Overflow>
     requires number { number ≤ head.now.number }
-    requires entities { IsList profile.now.entity (spec.run_of entities) }
+    requires entities { IsList profile.now.entity (entities_spec.run_of entities) }
     requires base_entities { IsList profile.now.entity (base_entities (option_map base_viewed base)) }
     ensures { Writes w.old w.new (snapshot_bits (record profile.now { code = w.old.words }) baselines.now
-        (option_map base_viewed base.entry) number head.now (spec.run_of entities.entry)) result }
+        (option_map base_viewed base.entry) number head.now (entities_spec.run_of entities.entry)) result }
 {
     laws::texts_are_written();
     let zero = PlayerState::zero();

@@ -1,5 +1,5 @@
 -- Datagrams by their addresses and bytes.
-use Rattle.std.proofs.Common.{◌≡◌, ℕ, ◌+◌, ◌<◌, ◌≤◌, Bool, List, [], ◌∷◌, ◌++◌, length, drop, zero, suc, refl, ap, arith, Option}
+use Rattle.std.proofs.Common.{◌≡◌, ℕ, ◌<◌, ◌≤◌, Bool, List, [], ◌∷◌, ◌++◌, length, drop, zero, suc, refl, ap, arith, Option}
 use Rattle.std.specs.Prelude.{slice_index_or}
 use Rattle.q3_io.specs.declared.address.Address.{Address}
 use Rattle.q3_io.specs.Traffic.{Parcel, next_of}

@@ -1,5 +1,5 @@
 -- A wire in memory: what each call answers, and what stands after it.
-use Rattle.std.specs.Prelude.{ℕ, ◌-◌, Bool, not, ◌&&◌, nat_le, nat_lt, if◌then◌else◌, List, [], ◌∷◌, ◌++◌, length, Option, Some, None, is_some}
+use Rattle.std.specs.Prelude.{ℕ, ◌-◌, Bool, not, ◌&&◌, nat_le, nat_lt, if◌then◌else◌, List, [], ◌∷◌, ◌++◌, length, Option, None}
 use Rattle.q3_io.specs.declared.address.Address.{Address}
 use Rattle.q3_io.specs.Traffic.{Parcel, Traffic, after_bind as bound_to, after_send as sent_to, after_receive as received}
 use Rattle.q3_testio.specs.MemoryCalls.{MadeCalls, one_more, next_fails, after_call}

@@ -23,12 +23,9 @@ use Rattle.q3_slot.specs.declared.stage.ClientStage.TheVariants.{Active, Connect
 use Rattle.q3_world.specs.Games.{AreBuiltUnder, AreMapped, BuiltUnder, Carries, HasGames, HasLast, Standing, Tells, WasApplied, WasPlayed, standing_of}
 use Rattle.q3_world.specs.World.{Played, built_at}
 use Rattle.q3_world.proofs.GamesUnder.{under_above}
-use Rattle.q3_world.proofs.GamesParts.{HasNone, built_end, built_front, carries_before, carries_cases, carries_front, carries_more, carries_one, is_last, is_past, is_some_number, last_stays, none_some, some_at, some_same, some_then, tells_one}
+use Rattle.q3_world.proofs.GamesParts.{HasNone, built_end, built_front, carries_before, carries_cases, carries_front, carries_more, carries_one, is_last, is_past, is_some_number, last_stays, none_some, some_at, some_same, some_then, tells_one, untrue}
 
 -- ---- stages
-
-untrue : false ≡ true → ⊥
-untrue e = absurd (cc)
 
 -- the gamestate under which a client plays
 abbrev pub under_of : Bool → Option ℕ → Option ℕ

@@ -16,9 +16,7 @@ use Rattle.q3_entity_ring.specs.Snapshot.{Snapshot}
 use Rattle.q3_built.specs.Built.{Built}
 use Rattle.q3_world.specs.Games.{AreMapped, Carries, HasLast, Standing, Tells}
 use Rattle.q3_world.specs.World.{Played}
-
-untrue : false ≡ true → ⊥
-untrue e = absurd (cc)
+use Rattle.q3_world.proofs.GamesParts.{untrue}
 
 -- of a map with the same id the last gamestate is the same
 last_of : (map new : MapState) (built : List Built) (game : Option ℕ) → new.id ≡ map.id → HasLast map built game → HasLast new built game

@@ -1,6 +1,6 @@
 -- What the lemmas on maps at both ends share: gamestates that were built, and those that a client applied.
 use Rattle.q3_svmsg.specs.Values as told
-use Rattle.std.proofs.Common.{[], List, None, Option, Some, ap, arith, drop, get_or, inl, inr, length, refl, subst, sym, true, ℕ, ◌++◌, ◌+◌, ◌-◌, ◌<◌, ◌∙◌, ◌∷◌, ◌≡◌, ◌≤◌}
+use Rattle.std.proofs.Common.{[], List, None, Option, Some, ap, arith, drop, false, get_or, inl, inr, length, refl, subst, sym, true, ℕ, ◌++◌, ◌+◌, ◌-◌, ◌<◌, ◌∙◌, ◌∷◌, ◌≡◌, ◌≤◌}
 use Rattle.std.specs.List.{last_or}
 use Rattle.std.specs.Prelude.{Contains, IfSome, ◌⊎◌}
 use Rattle.std.proofs.lemmas.Bool.{cases_eq, cases_lt, true≢false}
@@ -20,6 +20,9 @@ use Rattle.q3_world.specs.World.{Played, built_at, no_message}
 
 pub some_same : {X : Type 0} (x y : X) → Some x ≡ Some y → x ≡ y
 some_same x y e = cc
+
+pub untrue : false ≡ true → ⊥
+untrue e = absurd (cc)
 
 pub none_some : {X : Type 0} (x : X) → None ≡ Some x → ⊥
 none_some x e = absurd (cc)

@@ -193,7 +193,6 @@ pub record IsOfMap (map : MapState) (slot : Standing) (games : List Played) (acc
   pub played : Played
   pub there : Contains games played
   pub last : slot.game ≡ Some played.number
-  pub begun : slot.game ≡ None → ⊥
   pub unowed : slot.owed ≡ false
   pub feed : said.feed ≡ map.feed
   pub after : played.number ≤ said.message.acknowledged
@@ -243,7 +242,6 @@ module _ (map : MapState) (slot : Standing) (state : AppliedState) (taken last_t
               played = played;
               there = said.there;
               last = last;
-              begun = λ e. none_some played.number (sym e ∙ last);
               unowed = false_from_ne_true slot.owed (λ owed. (some_at slot.game (λ (n : ℕ). (WasPlayed games n → ⊥) × (n < taken)) played.number last (stands.owed owed).2).0 was);
               feed = said.feed ∙ (are.of_maps.same played.number played.game applied.carries tells).2;
               after = said.after;
@@ -292,7 +290,7 @@ module _ (map : MapState) (slot : SlotState) (state : AppliedState) (taken last_
   stage_runs : (move : Move) (moves : List Move) (stage : ClientStage) → slot.stage ≡ stage → IsOfMap map (standing_of slot) games accepted one
       → (moves_on slot one.message move moves stage).last_run ≤ last_time → AreMapped map (standing_of slot) state taken last_time built games began accepted executed
       → AreMapped map (with_playing (standing_of slot) (moves_on slot one.message move moves stage)) state taken last_time built games began accepted executed
-  stage_runs move moves Connected is of ran are = absurd (of.begun (ap game_of is))
+  stage_runs move moves Connected is of ran are = absurd (none_some of.played.number (sym (ap game_of is) ∙ of.last))
   stage_runs move moves (Primed game) is of ran are =
       let last_run = (moves_on slot one.message move moves (Primed game)).last_run in
       subst (λ (found : Option ℕ). AreMapped map (record (standing_of slot) { plays = true; game = found; delta = 0; last_run = last_run }) state taken last_time built games began accepted executed) (ap game_of is)
@@ -306,7 +304,7 @@ module _ (map : MapState) (slot : SlotState) (state : AppliedState) (taken last_
         | inr under ↦ inr (under.0, under.1, under.3)
       ] in
       let asks = asked_then (IsUnder (game_of slot.stage) games accepted) slot.delta one.message one.message.moves old (λ e. (of.played, of.last, of.asks e)) in
-      subst (λ (plays : Bool). AreMapped map (record (standing_of slot) { plays = plays; delta = delta; last_run = last_run }) state taken last_time built games began accepted executed) (sym (ap is_active is))
+      subst (λ (found : Option ℕ). AreMapped map (record (standing_of slot) { plays = true; game = found; delta = delta; last_run = last_run }) state taken last_time built games began accepted executed) (ap game_of is)
       (plays_on map (standing_of slot) state taken last_time built games began accepted executed one delta last_run of asks ran are)
 
   moves_run : (moves : List Move) → IsOfMap map (standing_of slot) games accepted one → (goes_on slot one.message moves).last_run ≤ last_time

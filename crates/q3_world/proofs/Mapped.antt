@@ -202,7 +202,7 @@ pub mapped_other : (map : MapState) (slot : SlotState) (client : ClientState) (h
 mapped_other map slot client history said there other mapped =
     AreMapped-ignores map (standing_of slot) client.state client.gathering.taken client.last_time history.built history.games history.said history.accepted history.client_executed said there other mapped
 
--- with one of the map a client that doesn't play enters it later than the last move run
+-- with one of the map, of a client that doesn't play, each move is later than the last one run
 pub enters_late : (map : MapState) (slot : SlotState) (client : ClientState) (history : History) (said : Said) → Contains history.said said → is_other map said.message.id ≡ false
     → Mapped map slot client history → (one : Move) (others : List Move) → said.message.moves ≡ one ∷ others → is_active slot.stage ≡ false → slot.last_run < one.time
 enters_late map slot client history said there same mapped one others is waits =

@@ -36,7 +36,7 @@ runs_on run moves before le rise =
 runs_none : (run : List Move) (last : ℕ) → last_time 0 run ≤ last → TimesRise 0 run → RisesTo (run ++ []) last
 runs_none run last le rise = subst (λ (all : List Move). RisesTo all last) (sym (append-nil run)) (rise, le)
 
--- the moves of a message: with the first of one that is primed, which is later than all that were run, its client enters the map
+-- the moves of a message, where those of a client that doesn't play are no earlier than the last one run
 pub plays_on : (slot : SlotState) (message : Message) (run : List Move) → last_time 0 run ≤ slot.last_run → TimesRise 0 run
     → ((one : Move) (others : List Move) → message.moves ≡ one ∷ others → is_active slot.stage ≡ false → slot.last_run ≤ one.time)
     → RisesTo (run ++ (goes_on slot message message.moves).moves) (goes_on slot message message.moves).last_run

@@ -36,7 +36,7 @@ impl Place {
     ghost use Rattle.std.specs.Prelude.{OnOk, IfOk, IsErrOf, IsSome};
     ghost use Rattle.q3_ends.specs.AtClient.{taken_by_client};
     ghost use Rattle.q3_ends.specs.ClientLine.{client_named, fresh_of, acts_in};
-    ghost use Rattle.q3_ends.specs.ClientLine as spec;
+    ghost use Rattle.q3_ends.specs.ClientLine as lines_spec;
     ghost use Rattle.q3_ends.specs.Recording.{stop_at, note_taken, asking, HasFile, WritesFiles};
     ghost use Rattle.q3_demo.specs.Recorder.{done};
     ghost use Rattle.q3_world.specs.Doing.{Tells, LineAt, TakesAt};
@@ -79,13 +79,13 @@ impl Place {
         requires line { IsSome (client_named event.now) }
         requires fresh { fresh ≡ fresh_of event.now }
         requires file { HasFile (F.told files.old) (F.given files.old) number.old self.old.recording }
-        ensures does { LineAt self.old (spec.client_line self.old.client self.old.recording event.now) self.new
+        ensures does { LineAt self.old (lines_spec.client_line self.old.client self.old.recording event.now) self.new
             counts.old counts.new (O.written out.old) (O.written out.new)
             (O.faults out.old) (O.faults out.new) result }
         ensures files { DoesFiles (F.told files.old) (F.told files.new) (F.given files.old) (F.given files.new)
             (F.faults files.old) (F.faults files.new)
             (F.write_faults files.old) (F.write_faults files.new)
-            (acts_in (spec.client_line self.old.client self.old.recording event.now)) result }
+            (acts_in (lines_spec.client_line self.old.client self.old.recording event.now)) result }
         ensures file { HasFile (F.told files.new) (F.given files.new) number.new self.new.recording }
     {
         let Ok(answer) = client_line(

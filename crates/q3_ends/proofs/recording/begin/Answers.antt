@@ -1,4 +1,4 @@
-use Rattle.std.proofs.Common.{List, true, false, ap, sym, subst, ◌∙◌, Ok, Err}
+use Rattle.std.proofs.Common.{List, ap, sym, subst, ◌∙◌, Ok, Err}
 use Rattle.std.proofs.lemmas.Result.{err_from_is_err_and}
 use Rattle.q3_io.specs.Acts.{FileAct}
 use Rattle.q3_io.specs.Told.{Creates}

@@ -1,6 +1,6 @@
 use Rattle.std.proofs.Common.{◌≡◌, ◌∙◌, Some, ap, subst, rules, refl}
 use Rattle.q3_report.specs.Answers.{Answered}
-use Rattle.q3_ends.specs.ClientLine.{client_line, answer_in}
+use Rattle.q3_ends.specs.ClientLine.{client_line}
 use Rattle.q3_node.specs.Running.{effects, DoesLine}
 use Rattle.q3_node.specs.AtClient.{ClientEnd, own_done}
 use Rattle.q3_node.proofs.Parts.{acts_told, memory_stays}
