@@ -56,7 +56,7 @@ impl<'a> Ahead<'a> {
         ensures bits { bits_ahead self.new ≡ bits_ahead self.old }
         ensures full { (56 ≤ self.new.count) ⊎ (length self.new.rest.now ≡ 0) }
     {
-        let room = (63 - self.count) / 8;
+        let room = 7 - self.count / 8;
         // all but the last seven of a message's bytes have seven after them
         if let Some(word) = first_eight(self.rest) {
             *self = self.with(word, room);
@@ -72,7 +72,7 @@ impl<'a> Ahead<'a> {
         ensures { bits_ahead result ≡ bits_ahead self.entry }
     {
         match first_eight(self.rest) {
-            Some(word) => self.with(word, (63 - self.count) / 8),
+            Some(word) => self.with(word, 7 - self.count / 8),
             None => self,
         }
     }
@@ -81,7 +81,7 @@ impl<'a> Ahead<'a> {
     #[cold]
     #[inline(never)]
     fn refill_last(&mut self, room: u64)
-        requires room { room ≡ (63 - self.old.count) / 8 }
+        requires room { room ≡ 7 - self.old.count / 8 }
         requires last { length self.old.rest.now < 8 }
         ensures bits { bits_ahead self.new ≡ bits_ahead self.old }
         ensures full { (56 ≤ self.new.count) ⊎ (length self.new.rest.now ≡ 0) }

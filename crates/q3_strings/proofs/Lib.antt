@@ -2,7 +2,6 @@ mod Fronts
 mod Rows
 mod Spelled
 mod Numbered
-mod NumberRead
 mod Nops
 mod Turns
 mod OperationTurns

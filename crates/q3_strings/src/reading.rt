@@ -3,14 +3,13 @@
 //! own.
 
 ghost use Rattle.std.specs.Prelude.{◌≡◌, ◌≤◌, All};
-ghost use Rattle.q3_bits.specs.Words.{field_at};
 ghost use Rattle.q3_bits.specs.Streams.{Reads, holding};
 ghost use Rattle.q3_text.specs.Texts.{IsTextByte, most_bytes};
 ghost use Rattle.q3_strings.specs.Reading.{string_bytes_at, bounded_string_at, command_at};
 
 use crate::error::StringError;
 use arrayvec::ArrayVec;
-use q3_bits::{ReadError, Reader};
+use q3_bits::{LONG, ReadError, Reader};
 use q3_text::{Command, LONGEST_TEXT, Text, translate};
 
 /// Reads so many bytes, as they are. After a refusal `into` may hold any.
@@ -65,9 +64,18 @@ pub fn read_string<const N: usize>(
 pub fn read_text(r: &mut Reader, into: &mut Text) -> Result<(), StringError>
     ensures { Reads r.old r.new (bounded_string_at r.old.words most_bytes r.old.left) (holding into.new result) }
 {
-    into.clear();
     let mut own = r.copy();
-    for _ in 0..LONGEST_TEXT {
+    // over the bytes that stand there, which nothing blanks before
+    for place in 0..into.len() {
+        let byte = own.get_byte()?;
+        if byte == 0 {
+            into.truncate(place);
+            *r = own;
+            return Ok(());
+        }
+        into.set(place, byte);
+    }
+    for _ in into.len()..LONGEST_TEXT {
         let byte = own.get_byte()?;
         if byte == 0 {
             *r = own;
@@ -89,18 +97,6 @@ pub fn read_text(r: &mut Reader, into: &mut Text) -> Result<(), StringError>
 pub fn read_command(r: &mut Reader, into: &mut Command) -> Result<(), StringError>
     ensures { Reads r.old r.new (command_at r.old.words r.old.left) (holding into.new result) }
 {
-    into.number = read_number(r)?;
+    into.number = r.get_fixed(LONG)?;
     read_text(r, &mut into.text)
-}
-
-/// Reads a field of 32 bits byte by byte, so that the reader stays in registers.
-#[inline(always)]
-fn read_number(r: &mut Reader) -> Result<u32, ReadError>
-    ensures { Reads r.old r.new (field_at r.old.words 32 r.old.left) result }
-{
-    let first = r.get_byte()?;
-    let second = r.get_byte()?;
-    let third = r.get_byte()?;
-    let fourth = r.get_byte()?;
-    Ok(u32::from_le_bytes([first, second, third, fourth]))
 }

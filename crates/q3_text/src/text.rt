@@ -1,7 +1,7 @@
 //! Texts: the strings of messages. Keeps the rule "strings and their translation", which is the engine's
 //! `MSG_WriteString` and `MSG_ReadString` (msg.c).
 
-ghost use Rattle.std.specs.Prelude.{◌≡◌, ◌<◌, ◌==◌, ◌||◌, nat_lt, [], ◌∷◌, ◌++◌, length};
+ghost use Rattle.std.specs.Prelude.{◌≡◌, ◌<◌, ◌==◌, ◌||◌, ◌≤◌, nat_lt, [], ◌∷◌, ◌++◌, length, take, slice_set};
 ghost use Rattle.q3_text.specs.Texts.{IsText, most_bytes, translated, text_of};
 
 use crate::cut::place_of;
@@ -119,6 +119,45 @@ impl Text {
         ensures { self.new ≡ [] }
     {
         self.bytes.clear();
+    }
+
+    /// Keeps so many of its bytes, the first; all where it has no more.
+    pub fn truncate(&mut self, count: usize)
+        ensures { self.new ≡ take count self.old }
+    {
+        self.bytes.truncate(count);
+    }
+
+    /// How many bytes the text has.
+    pub fn len(&self) -> usize
+        ensures count { result ≡ length self.now }
+        ensures few { length self.now ≤ most_bytes }
+    {
+        self.bytes.len()
+    }
+
+    /// Writes a byte, translated, over the one at this place.
+    #[inline(always)]
+    pub fn set(&mut self, place: usize, byte: u8)
+        requires there { place < length self.old }
+        requires some { 0 < byte }
+        ensures { self.new ≡ slice_set self.old place (translated byte) }
+    {
+        if is_dotted(byte) {
+            self.set_dot(place);
+            return;
+        }
+        self.bytes.as_mut_slice()[place] = byte;
+    }
+
+    /// Writes a `.` over the byte at this place, as seldom as it is.
+    #[cold]
+    #[inline(never)]
+    fn set_dot(&mut self, place: usize)
+        requires { place < length self.old }
+        ensures { self.new ≡ slice_set self.old place 46 }
+    {
+        self.bytes.as_mut_slice()[place] = b'.';
     }
 
     /// Puts one more byte after the others, translated.
