@@ -375,7 +375,7 @@ impl Server {
             slot,
             from,
             datagram,
-            &mut *self.whole,
+            &mut self.whole,
             &mut self.said,
             heard,
         )

@@ -5,7 +5,7 @@
 //! - Ours: the end of message numbers; that a primed client is told of config changes at once.
 
 ghost use Rattle.std.specs.Prelude.{◌≡◌, ◌<◌, ◌≤◌, ◌+◌, [], false, true, None, Some, All, IfOk, IfSome, IsSome, IsTrue, length, option_map, is_some};
-ghost use Rattle.q3_chan.specs.Datagrams.{longest_message, sequence_end};
+ghost use Rattle.q3_chan.specs.Datagrams.{sequence_end};
 ghost use Rattle.q3_chan.specs.Sending.{HandsOut, IsIdle};
 ghost use Rattle.q3_fields.specs.Kinds.{end_mark};
 ghost use Rattle.q3_entity.specs.Entities.{RiseFrom};
@@ -30,7 +30,7 @@ use crate::taking::{Heard, ServerTook};
 use arrayvec::ArrayVec;
 use q3_bits::NoMemory;
 use q3_built::is_unclear;
-use q3_chan::{Datagram, Gathered, Gatherer, Sender, Side, check_for};
+use q3_chan::{Datagram, Gathered, Gatherer, LONGEST_MESSAGE, Sender, Side, check_for};
 use q3_clmsg::ClientMessage;
 use q3_config::{SYSTEM_INFO, piece, pieces, shape};
 use q3_io::Address;
@@ -259,16 +259,14 @@ impl Slot {
         slot: u8,
         from: Address,
         datagram: &[u8],
-        whole: &mut [u8],
+        whole: &mut [u8; LONGEST_MESSAGE],
         message: &mut ClientMessage,
         heard: &mut Heard,
     ) -> ServerTook
-        requires whole { length whole.old ≡ longest_message }
         requires heard { heard.old ≡ nothing_heard false }
         ensures slot { self.new ≡ slot_after_datagram profile.now map.now slot from datagram.now self.old }
         ensures answer { result ≡ answer_to profile.now map.now slot from datagram.now self.old }
         ensures heard { heard.new ≡ heard_of profile.now map.now slot from datagram.now self.old }
-        ensures whole { length whole.new ≡ longest_message }
     {
         let Some(client) = &mut self.client else {
             return ServerTook::Stranger;
