@@ -2,3 +2,5 @@ mod Applies
 mod Begins
 mod Stays
 mod Received
+mod WholeMessages
+mod Leaves

@@ -1,7 +1,8 @@
 -- Laws of a client's end.
-use Rattle.std.specs.Prelude.{◌≡◌, ℕ, ◌^◌, ◌<◌, ◌≤◌, Bool, false, List, IfSome, Ok}
+use Rattle.std.specs.Prelude.{◌≡◌, ◌⊎◌, ℕ, ◌^◌, ◌<◌, ◌≤◌, Bool, false, List, length, IfSome, Ok}
 use Rattle.q3_text.specs.Texts.{IsText}
-use Rattle.q3_window.specs.Outgoing.{IsOutgoing}
+use Rattle.q3_window.specs.Outgoing.{IsOutgoing, issued_of}
+use Rattle.q3_chan.specs.Datagrams.{longest_message}
 use Rattle.q3_clstate.specs.declared.applied.Applied.{Applied}
 use Rattle.q3_clstate.specs.State.{AppliedState, Application, apply_at}
 use Rattle.q3_clstate.specs.Standing.{IsApplied}
@@ -45,6 +46,25 @@ pub record WasApplied (before : AppliedState) (last : ℕ) (taken : Taken) (appl
   pub newer : last < applied.number
   pub fits : applied.number < 2 ^ 32
 
-abbrev pub AppliesItsMessage : Type 0
-AppliesItsMessage = (client : ClientState) (datagram : List ℕ) (applied : Applied)
-    → (take_at client datagram).answer ≡ took.Applied applied → WasApplied client.state client.gathering.taken (take_at client datagram) applied
+-- a message that was applied is from then on the newest that was taken, and as short as messages are; no command was issued
+pub record WasNewest (client : ClientState) (taken : Taken) (applied : Applied) : Type 0 where
+  pub answer : taken.answer ≡ took.Applied applied
+  pub number : taken.client.gathering.taken ≡ applied.number
+  pub fits : applied.number < 2 ^ 31
+  pub short : length taken.client.message ≤ longest_message
+  pub issued : issued_of taken.client.issued ≡ issued_of client.issued
+
+-- where none was applied, what the messages before left stays, and so does the window; the number of the newest doesn't fall
+pub record WasLeft (client : ClientState) (taken : Taken) : Type 0 where
+  pub none : (applied : Applied) → taken.answer ≡ took.Applied applied → ⊥
+  pub state : taken.client.state ≡ client.state
+  pub issued : taken.client.issued ≡ client.issued
+  pub rises : client.gathering.taken ≤ taken.client.gathering.taken
+  pub fits : client.gathering.taken < 2 ^ 31 → taken.client.gathering.taken < 2 ^ 31
+
+-- a datagram brings a message that is applied, or leaves what messages left
+pub record TakesMessages : Type 0 where
+  pub applies : (client : ClientState) (datagram : List ℕ) (applied : Applied)
+      → (take_at client datagram).answer ≡ took.Applied applied → WasApplied client.state client.gathering.taken (take_at client datagram) applied
+  pub leaves : (client : ClientState) (datagram : List ℕ)
+      → ((applied : Applied) × WasNewest client (take_at client datagram) applied) ⊎ WasLeft client (take_at client datagram)

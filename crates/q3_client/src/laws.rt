@@ -1,6 +1,6 @@
 //! Laws of a client's end, each the contract of a call that does nothing but cite the laws below it.
 
-ghost use Rattle.q3_client.specs.Laws.{AppliesItsMessage, BeginsSaid, ClientStays};
+ghost use Rattle.q3_client.specs.Laws.{BeginsSaid, ClientStays, TakesMessages};
 
 use q3_chan::laws as chan;
 use q3_clstate::laws as clstate;
@@ -25,9 +25,9 @@ pub fn client_stays()
     window::stays_outgoing();
 }
 
-/// A message that a client applied is kept, cleared: its bytes do under its number, which is newer than all before, what was
-/// answered.
-#[tactic(auto, using(crate::proofs::Applies::was_applied))]
-pub fn applies_its_message()
-    ensures { AppliesItsMessage }
+/// A datagram brings a message that is applied, or leaves what messages left. The bytes of one that is applied are kept, cleared, and do under
+/// its number, which is newer than all before, what was answered.
+#[tactic(auto, using(crate::proofs::Applies::was_applied, crate::proofs::Leaves::taken_did))]
+pub fn takes_messages()
+    ensures { TakesMessages }
 {}

@@ -15,7 +15,7 @@ ghost use Rattle.q3_ends.specs.Recording.{new_recording, waits_in, asking, begin
 
 use q3_bits::NoMemory;
 use q3_chan::Datagram;
-use q3_client::laws::applies_its_message;
+use q3_client::laws::takes_messages;
 use q3_client::{Client, ClientTook, Sent};
 use q3_clstate::{ClState, Log};
 use q3_demo::laws::applied_may_be_noted;
@@ -134,7 +134,7 @@ fn record_taken<F: Files>(
     ensures cause { HasCause (F.write_faults files.old) (F.write_faults files.new) result }
     ensures others { F.faults files.new ≡ F.faults files.old }
 {
-    applies_its_message();
+    takes_messages();
     applied_may_be_noted();
     stands(client.state());
     prepare(recorder, client);

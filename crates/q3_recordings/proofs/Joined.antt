@@ -13,7 +13,7 @@ use Rattle.q3_clstate.specs.Laws.{ApplyStays, AppliedIsContext}
 use Rattle.q3_script.specs.declared.event.Event.{Event}
 use Rattle.q3_script.specs.declared.event.Event.TheVariants as events
 use Rattle.q3_client.specs.Client.{ClientState, new_client, take_at}
-use Rattle.q3_client.specs.Laws.{AppliesItsMessage}
+use Rattle.q3_client.specs.Laws.{TakesMessages}
 use Rattle.q3_report.specs.declared.answer.RecordRefused.{RecordRefused}
 use Rattle.q3_report.specs.declared.answer.Front.TheVariants.{Arrive}
 use Rattle.q3_report.specs.declared.answer.TakeRefused.TheVariants.{Stranger}
@@ -189,8 +189,8 @@ noted_so laws profile count c challenge qport dup server events readings arrival
     let node : Node ClientEnd = new_node (new_end c (new_client profile challenge qport dup) server) events in
     (all_noted laws profile checked name count node readings arrivals ((client_laws laws profile checked).joins challenge qport dup)).are
 
-pub join_is_noted : ReadIsSpelled → ApplyStays → AppliedIsContext → AppliesItsMessage → JoinIsNoted
-join_is_noted read stays contexts applies = noted_so (record { read = read; stays = stays; contexts = contexts; applies = applies })
+pub join_is_noted : ReadIsSpelled → ApplyStays → AppliedIsContext → TakesMessages → JoinIsNoted
+join_is_noted read stays contexts takes = noted_so (record { read = read; stays = stays; contexts = contexts; takes = takes })
 
 plays_so : Laws → RecordingPlays → JoinPlays
 plays_so laws plays profile count c challenge qport dup server events readings arrivals name demo checked left told short few =
@@ -202,5 +202,5 @@ plays_so laws plays profile count c challenge qport dup server events readings a
     subst (λ (demo : List ℕ). PlaysTo profile demo (recorded_from Waits messages)) (sym written.is)
     (plays profile messages written.over noted.are noted.by told (subst (λ (demo : List ℕ). IsShort demo (length messages)) written.is short) few)
 
-pub join_plays : RecordingPlays → ReadIsSpelled → ApplyStays → AppliedIsContext → AppliesItsMessage → JoinPlays
-join_plays plays read stays contexts applies = plays_so (record { read = read; stays = stays; contexts = contexts; applies = applies }) plays
+pub join_plays : RecordingPlays → ReadIsSpelled → ApplyStays → AppliedIsContext → TakesMessages → JoinPlays
+join_plays plays read stays contexts takes = plays_so (record { read = read; stays = stays; contexts = contexts; takes = takes }) plays

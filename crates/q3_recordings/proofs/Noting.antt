@@ -9,7 +9,7 @@ use Rattle.q3_svmsg.specs.Laws.{ReadIsSpelled}
 use Rattle.q3_clstate.specs.State.{AppliedState}
 use Rattle.q3_clstate.specs.Laws.{ApplyStays, AppliedIsContext}
 use Rattle.q3_client.specs.Client.{ClientState, take_at}
-use Rattle.q3_client.specs.Laws.{AppliesItsMessage}
+use Rattle.q3_client.specs.Laws.{TakesMessages}
 use Rattle.q3_report.specs.declared.answer.RecordRefused.{RecordRefused}
 use Rattle.q3_report.specs.declared.answer.RecordRefused.TheVariants.{NoGame}
 use Rattle.q3_demo.specs.Recording.{Noted}
@@ -25,7 +25,7 @@ pub record Laws : Type 0 where
   pub read : ReadIsSpelled
   pub stays : ApplyStays
   pub contexts : AppliedIsContext
-  pub applies : AppliesItsMessage
+  pub takes : TakesMessages
 
 parse_room : (ring : ℕ) → is_parse_ring ring ≡ true → 512 ≤ ring
 parse_room ring is = leb-true 512 ring (least (nat_le 512 ring) (nat_le ring 65536) (is_power_of_two ring) is)
@@ -40,7 +40,7 @@ client_laws laws profile is = record {
   types = λ client text. typed_keeps profile client text;
   moves = λ client one. moved_keeps profile client one;
   emits = λ client on. emitted_keeps profile client on;
-  takes = λ client bytes sound. taken_sound laws.read laws.stays laws.contexts laws.applies profile client bytes sound;
+  takes = λ client bytes sound. taken_sound laws.read laws.stays laws.contexts laws.takes profile client bytes sound;
 }
 
 -- ---- messages that go on from what a client has
@@ -87,8 +87,8 @@ becomes_noted laws profile client new (Some bytes) others is sound begun onward 
     let there : new.state ≡ taken.client.state = ap (λ (client : ClientState). client.state) is in
     let number : new.state.number ≡ taken.client.state.number = ap (λ (s : AppliedState). s.number) there in
     let now : IsSound profile new =
-    subst (λ (client : ClientState). IsSound profile client) (sym is) (taken_sound laws.read laws.stays laws.contexts laws.applies profile client bytes sound) in
-    elim (taken_notes laws.read laws.stays laws.contexts laws.applies profile client bytes sound) [
+    subst (λ (client : ClientState). IsSound profile client) (sym is) (taken_sound laws.read laws.stays laws.contexts laws.takes profile client bytes sound) in
+    elim (taken_notes laws.read laws.stays laws.contexts laws.takes profile client bytes sound) [
       | inl one ↦
           let some = one.1.begun in
           let rest = onward now (omega (arith, number, some)) in
@@ -104,7 +104,7 @@ becomes_noted laws profile client new (Some bytes) others is sound begun onward 
 pub becomes_sound : Laws → (profile : Profile) (client new : ClientState) (bytes : Option (List ℕ)) → Becomes profile client bytes new → IsSound profile client → IsSound profile new
 becomes_sound laws profile client new None keeps sound = keeps.sound sound
 becomes_sound laws profile client new (Some bytes) is sound =
-    subst (λ (client : ClientState). IsSound profile client) (sym is) (taken_sound laws.read laws.stays laws.contexts laws.applies profile client bytes sound)
+    subst (λ (client : ClientState). IsSound profile client) (sym is) (taken_sound laws.read laws.stays laws.contexts laws.takes profile client bytes sound)
 
 pub are_by : (profile : Profile) (state : AppliedState) (messages : List Noted) → state.profile ≡ profile → GoOnFrom state messages → AreBy profile messages
 are_by profile state [] by after = tt

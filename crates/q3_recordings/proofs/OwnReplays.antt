@@ -67,7 +67,7 @@ plays_on laws profile client new (Some bytes) is plays =
     let there : new.state ≡ taken.client.state = ap (λ (client : ClientState). client.state) is in
     let number : new.state.number ≡ taken.client.state.number = ap (λ (s : AppliedState). s.number) there in
     let sound = becomes_sound laws profile client new (Some bytes) is plays.sound in
-    elim (taken_notes laws.read laws.stays laws.contexts laws.applies profile client bytes plays.sound) [
+    elim (taken_notes laws.read laws.stays laws.contexts laws.takes profile client bytes plays.sound) [
       | inl one ↦
           let some = one.1.begun in
           let noted = one.1.is plays.begun in

@@ -8,7 +8,7 @@ use Rattle.q3_clstate.specs.State.{AppliedState}
 use Rattle.q3_clstate.specs.Laws.{ApplyStays, AppliedIsContext}
 use Rattle.q3_script.specs.declared.event.Event.{Event}
 use Rattle.q3_script.specs.declared.event.Event.TheVariants as events
-use Rattle.q3_client.specs.Laws.{AppliesItsMessage}
+use Rattle.q3_client.specs.Laws.{TakesMessages}
 use Rattle.q3_report.specs.declared.answer.HandedIn.TheVariants as handed
 use Rattle.q3_report.specs.declared.answer.RecordRefused.{RecordRefused}
 use Rattle.q3_report.specs.declared.answer.RecordRefused.TheVariants as unrecorded
@@ -130,14 +130,14 @@ noted_so laws profile first rest c name checked answer =
     let from = are_noted laws profile checked (kept_step kept line).kept rest (have_slots kept line stands.have) c goes.place goes.at now (omega (arith, number, begun)) in
     record { are = from.are; by = are_by profile goes.place.client.state (applied_until (kept_step kept line).kept rest c) now.by from.after }
 
-pub replay_is_noted : ReadIsSpelled → ApplyStays → AppliedIsContext → AppliesItsMessage → ReplayIsNoted
-replay_is_noted read stays contexts applies profile first rest c name checked answer =
-    (noted_so (record { read = read; stays = stays; contexts = contexts; applies = applies }) profile first rest c name checked answer).are
+pub replay_is_noted : ReadIsSpelled → ApplyStays → AppliedIsContext → TakesMessages → ReplayIsNoted
+replay_is_noted read stays contexts takes profile first rest c name checked answer =
+    (noted_so (record { read = read; stays = stays; contexts = contexts; takes = takes }) profile first rest c name checked answer).are
 
 plays_so : Laws → RecordingPlays → ReplayPlays
 plays_so laws plays profile first rest c name checked answer told short few =
     let so = noted_so laws profile first rest c name checked answer in
     plays profile (noted_after profile first c name rest) true so.are so.by told short few
 
-pub replay_plays : RecordingPlays → ReadIsSpelled → ApplyStays → AppliedIsContext → AppliesItsMessage → ReplayPlays
-replay_plays plays read stays contexts applies = plays_so (record { read = read; stays = stays; contexts = contexts; applies = applies }) plays
+pub replay_plays : RecordingPlays → ReadIsSpelled → ApplyStays → AppliedIsContext → TakesMessages → ReplayPlays
+replay_plays plays read stays contexts takes = plays_so (record { read = read; stays = stays; contexts = contexts; takes = takes }) plays

@@ -29,7 +29,7 @@ pub fn replay_is_noted()
     svmsg::read_is_spelled();
     clstate::apply_stays();
     clstate::applied_is_context();
-    client::applies_its_message();
+    client::takes_messages();
 }
 
 /// And so are those that a new client's node applied after the turn that began the first recording into a name, up to its end, whatever
@@ -40,7 +40,7 @@ pub fn join_is_noted()
     svmsg::read_is_spelled();
     clstate::apply_stays();
     clstate::applied_is_context();
-    client::applies_its_message();
+    client::takes_messages();
 }
 
 /// Playing a recording gives what its client had: after the gamestate each of the messages that it recorded, under its number, with the
@@ -67,7 +67,7 @@ pub fn replay_plays()
     svmsg::read_is_spelled();
     clstate::apply_stays();
     clstate::applied_is_context();
-    client::applies_its_message();
+    client::takes_messages();
 }
 
 /// And where each end gets only what the other made, nothing is asked of the config strings: once a client has a gamestate they tell the
@@ -80,7 +80,7 @@ pub fn own_replay_plays()
     svmsg::read_is_spelled();
     clstate::apply_stays();
     clstate::applied_is_context();
-    client::applies_its_message();
+    client::takes_messages();
 }
 
 /// Where, moreover, the game says no text of a config change, it begins within no long string; so the config strings in the end are the
@@ -92,7 +92,7 @@ pub fn own_replay_begins_whole()
     svmsg::read_is_spelled();
     clstate::apply_stays();
     clstate::applied_is_context();
-    client::applies_its_message();
+    client::takes_messages();
 }
 
 /// And so does the recording of a client that joins over a wire, whatever arrives.
@@ -103,5 +103,5 @@ pub fn join_plays()
     svmsg::read_is_spelled();
     clstate::apply_stays();
     clstate::applied_is_context();
-    client::applies_its_message();
+    client::takes_messages();
 }

@@ -4,4 +4,4 @@ use Rattle.q3_recordings.proofs.laws.own_replay_begins_whole.Goals as goal
 pub returns : goal.returns
 returns c =
     own_replay_begins_whole c.nothing_pends.ensures
-    (record { read = c.read_is_spelled.ensures; stays = c.apply_stays.ensures; contexts = c.applied_is_context.ensures; applies = c.applies_its_message.ensures })
+    (record { read = c.read_is_spelled.ensures; stays = c.apply_stays.ensures; contexts = c.applied_is_context.ensures; takes = c.takes_messages.ensures })
