@@ -7,3 +7,4 @@ mod BitFronts
 mod MessageKeys
 mod BuiltRead
 mod SaidRead
+mod Begun

@@ -84,8 +84,8 @@ comes : PiecesComeWhole → FirstComePartial → (g : Gathering) (header : Heade
 comes whole partial g header number message from may =
     subst (λ (f : Form). Comes g (record { form = f; qport = header.qport }) number message) from
     (record {
-      partial = λ index before. partial g header.qport number index message may.newer may.none may.fits may.sendable before;
-      whole = whole g header.qport number 0 message may.newer (omega arith) may.none may.fits may.sendable;
+      partial = λ index before. partial g header.qport number index message may.newer may.none may.sent.fits may.sent.sendable before;
+      whole = whole g header.qport number 0 message may.newer (omega arith) may.none may.sent.fits may.sent.sendable;
     })
 
 -- ---- a client
@@ -253,7 +253,7 @@ all_tell : QportIsTold → (protocol challenge qport number : ℕ) (message : Li
 all_tell tells protocol challenge qport number message g short may =
     let header = client_header (check_for protocol challenge) qport in
     subst (λ (checked : Bool). AllTell checked header number message) (checked_so (is_checked protocol) challenge)
-    (λ index within. tells header number index message refl short may.fits may.sendable (omega (arith, within)))
+    (λ index within. tells header number index message refl short may.sent.fits may.sent.sendable (omega (arith, within)))
 
 -- after so many first datagrams
 server_first : (server : ServerState) (from : Address) (header : Header) (c : ℕ) (slot : SlotState) (number : ℕ) (message : List ℕ) (count : ℕ)

@@ -1,11 +1,12 @@
 -- Laws of the messages that the ends begin.
-use Rattle.std.specs.Prelude.{ℕ, ◌≡◌, ◌^◌, ◌<◌, false, List, [], ◌∷◌, map, Some, None, IfSome, Ok}
+use Rattle.std.specs.Prelude.{ℕ, ◌≡◌, ◌+◌, ◌^◌, ◌<◌, ◌≤◌, false, List, [], ◌∷◌, length, map, Some, None, IfSome, Ok}
 use Rattle.std.specs.List.{range_with_len}
+use Rattle.q3_bits.specs.Bits.{message_length}
 use Rattle.q3_profile.specs.declared.profile.Profile.{Profile}
 use Rattle.q3_profile.specs.Profile.{IsCodec}
 use Rattle.q3_io.specs.declared.address.Address.{Address}
 use Rattle.q3_chan.specs.Checks.{check_for}
-use Rattle.q3_chan.specs.Datagrams.{Header, server_header, client_header, sequence_end, last_index, datagram}
+use Rattle.q3_chan.specs.Datagrams.{Header, server_header, client_header, sequence_end, longest_message, last_index, datagram}
 use Rattle.q3_chan.specs.Gathering.{Gathering}
 use Rattle.q3_chan.specs.Laws.{IsSendable}
 use Rattle.q3_svmsg.specs.Values as told
@@ -15,18 +16,20 @@ use Rattle.q3_entity_ring.specs.Snapshot.{Snapshot}
 use Rattle.q3_rings.specs.Rings.{HeldSnapshots, view_at}
 use Rattle.q3_window.specs.Outgoing.{acknowledge_at, text_at}
 use Rattle.q3_slot.specs.declared.taking.ServerTook.TheVariants.{Partial as SlotPartial}
-use Rattle.q3_built.specs.Built.{Built, IsBuilt, built_bytes, plain_bytes}
+use Rattle.q3_built.specs.Built.{Built, IsBuilt, built_bits, built_bytes, plain_bytes}
 use Rattle.q3_slot.specs.Slot.{SlotState}
+use Rattle.q3_slot.specs.Standing.{IsSlot}
 use Rattle.q3_slot.specs.Taking.{came_as, run_read, said_by}
 use Rattle.q3_slot.specs.Taking as by_slot
-use Rattle.q3_server.specs.Server.{ServerState, slot_at}
+use Rattle.q3_server.specs.Server.{ServerState, slot_at, emit_at}
 use Rattle.q3_server.specs.Taking.{sender_of, taken_at}
 use Rattle.q3_server.specs.Taking as hears
 use Rattle.q3_server.specs.Standing.{IsServerState}
 use Rattle.q3_clstate.specs.Standing.{IsApplied}
 use Rattle.q3_client.specs.declared.client.ClientTook.TheVariants.{Partial}
 use Rattle.q3_client.specs.Client.{ClientState, Taken, answers, receive_message, receive_bytes, applies, take_at}
-use Rattle.q3_client.specs.Sending.{said_bytes, Said, IsSaid}
+use Rattle.q3_client.specs.Sending.{said_bits, said_bytes, Said, IsSaid}
+use Rattle.q3_client.specs.Sending as says
 use Rattle.q3_client.specs.Standing.{IsClient}
 
 -- what is held under the number of a base is that base
@@ -59,13 +62,27 @@ SaidIsRead = (profile : Profile) → IsCodec profile → (map : MapState) (slot 
 abbrev pub first_datagrams : Header → ℕ → List ℕ → ℕ → List (List ℕ)
 first_datagrams header number message count = map (datagram header number message) (range_with_len 0 count)
 
+-- a message may be sent under a number: the number is below 2^30, and it has 1 to 16,384 bytes
+pub record MayBeSent (number : ℕ) (message : List ℕ) : Type 0 where
+  pub fits : number < sequence_end
+  pub sendable : IsSendable message
+
+-- a message as an end begins it has bytes that may be sent, where it isn't too long; so what either end begins may be sent, in every state
+pub record BegunMayBeSent : Type 0 where
+  pub of_built : (profile : Profile) (challenge n : ℕ) (built : Built) → IsBuilt profile challenge n built
+      → message_length (length (built_bits profile built)) ≤ longest_message → IsSendable (built_bytes profile built)
+  pub of_said : (profile : Profile) (challenge : ℕ) (said : Said) → IsSaid profile challenge said
+      → message_length (length (said_bits profile said)) ≤ longest_message → IsSendable (said_bytes profile said)
+  pub built : (server : ServerState) (c : ℕ) → c < 2 ^ 32 → IfSome (slot_at server c) IsSlot → IsServerState server
+      → IfSome (slot_at server c) (λ slot. IfSome (emit_at server c).began (λ built. MayBeSent (slot.sending.number + 1) (built_bytes server.profile built)))
+  pub said : (client : ClientState) → IsClient client → IfSome (says.emit_at client).began (λ said. MayBeSent (client.sending.number + 1) (said_bytes client.state.profile said))
+
 -- a message may come to an end that gathers: its number is above every number taken, nothing was gathered under it, and it may be
 -- sent
 pub record MayCome (number : ℕ) (message : List ℕ) (g : Gathering) : Type 0 where
   pub newer : g.taken < number
   pub none : g.number ≡ number → g.bytes ≡ []
-  pub fits : number < sequence_end
-  pub sendable : IsSendable message
+  pub sent : MayBeSent number message
 
 -- a client after these datagrams, one after the other
 unfoldable pub client_after : ClientState → List (List ℕ) → ClientState

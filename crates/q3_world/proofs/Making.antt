@@ -1,20 +1,14 @@
 -- Both ends make datagrams by bytes as by tags.
-use Rattle.std.proofs.Common.{IfSome, ◌≡◌, ℕ, ◌+◌, ◌^◌, ◌<◌, Bool, false, List, length, Option, Some, None, Ok, refl, sym, ap, subst, ◌∙◌, inl, inr, arith}
-use Rattle.std.specs.Prelude.{map, nat_le, nat_lt, ◌%◌, ◌≤◌, bit_xor, true}
+use Rattle.std.proofs.Common.{◌≡◌, ℕ, ◌+◌, ◌^◌, ◌<◌, false, List, length, Option, Some, None, Ok, refl, sym, ap, subst, ◌∙◌, inl, inr, arith}
+use Rattle.std.specs.Prelude.{map, nat_le, nat_lt, true}
 use Rattle.std.proofs.lemmas.List.{length-map, map_push, set-set}
 use Rattle.std.proofs.lemmas.Bool.{cases_Bool, cond_both, leb-false, ltb-false}
-use Rattle.q3_bits.specs.Bits.{message_bytes, message_length}
-use Rattle.q3_bits.specs.Laws.{MessageIsBytes}
+use Rattle.q3_bits.specs.Bits.{message_length}
 use Rattle.q3_profile.specs.declared.profile.Profile.{Profile}
 use Rattle.q3_svmsg.specs.declared.error.Illegible.{Illegible}
 use Rattle.q3_chan.specs.Datagrams.{server_form, client_header, sequence_end, longest_message}
 use Rattle.q3_chan.specs.Sending.{UnderWay}
-use Rattle.q3_chan.specs.Laws.{IsSendable}
-use Rattle.q3_chan.specs.Checks.{is_checked, check_for}
-use Rattle.q3_chan.specs.declared.side.Side.{Side}
-use Rattle.q3_chan.specs.declared.side.Side.TheVariants.{Server, Client}
-use Rattle.q3_chan.specs.Keys.{start_by, Key, side_scrambled}
-use Rattle.q3_text.specs.Texts.{IsText}
+use Rattle.q3_chan.specs.Checks.{check_for}
 use Rattle.q3_slot.specs.declared.answer.Emitted.{Emitted}
 use Rattle.q3_slot.specs.declared.answer.Emitted.TheVariants as emitted
 use Rattle.q3_client.specs.declared.client.Sent.{Sent}
@@ -39,7 +33,6 @@ use Rattle.q3_world.specs.declared.made.Direction.TheVariants.{ToServer}
 use Rattle.q3_world.specs.Ends.{place_at, with_place}
 use Rattle.q3_world.specs.Kept.{datagrams_after, kept_serve, kept_said, kept_send}
 use Rattle.q3_world.specs.World.{Whole, history_at, serve, say, send, sent_after, with_built, with_history, with_said, bytes_of}
-use Rattle.q3_world.specs.Layers.{ScramblingLaws}
 use Rattle.q3_world.proofs.Clients.{slot_begun, client_begun, asked_has, next_base, next_number}
 use Rattle.q3_world.proofs.Holding.{Holds, has_slot, has_client, same_server, Has}
 use Rattle.q3_world.proofs.OnePlace.{set_there}
@@ -67,24 +60,6 @@ quiet profile whole c server answer same_as holds =
     let count = length-map whole.sent bytes_of in
     subst (λ (s : ServerState). Served profile whole c (record { server = s; answer = answer; began = None; piece = None })) (sym same_as)
     (record { same = rw count refl; holds = unnoted profile whole c holds })
-
--- a message of a length that fits is one that may be sent
-pub sendable : ScramblingLaws → (bits : List Bool) (side : Side) (key : Key) → MessageIsBytes → IfSome key.start (λ start. start < 2 ^ 8) → IsText key.text
-    → nat_lt longest_message (message_length (length bits)) ≡ false → IsSendable (side_scrambled side key (message_bytes bits))
-sendable laws bits side key law begins is fits =
-    let bytes = law bits in
-    let short = ltb-false longest_message (message_length (length bits)) fits in
-    let many = (laws.front side key (message_bytes bits)).0 ∙ bytes.0 in
-    record {
-      some = subst (λ (k : ℕ). 1 ≤ k) (sym many) (omega arith);
-      most = subst (λ (k : ℕ). k ≤ longest_message) (sym many) short;
-      bytes = laws.bytes side key (message_bytes bits) begins is bytes.1;
-    }
-
--- keys start from a byte, if they do
-low_byte : (protocol number : ℕ) → IfSome (start_by protocol (number % 256)) (λ start. start < 2 ^ 8)
-low_byte protocol number =
-    cond_both (is_checked protocol) None (Some (number % 256)) (λ (o : Option ℕ). IfSome o (λ start. start < 2 ^ 8)) (λ e. tt) (λ e. omega arith)
 
 -- a client as the server keeps it: a gamestate is owed on a map alone
 is_joined : (profile : Profile) (whole : Whole) (c : ℕ) (slot : SlotState) (place : Place) → Has profile whole c slot place → server_has.IsJoined profile whole.ends.server.map.id slot
@@ -137,20 +112,20 @@ served_built profile whole c slot cited lt is fits clear holds =
     let has = asked_has slot history.said history.built history.accepted joined.of_client.accepted joined.asked in
     let base = next_base cited.below.server profile map frames c slot history.built begun are has in
     let names = executed_by_slot profile slot client history had.1.keeps.of_client joined.commanded in
-    let may = sendable cited.below.scrambles bits Server next.key cited.below.bytes (low_byte profile.protocol (bit_xor slot.challenge (slot.sending.number + 1))) names.text in
     let count = length-map whole.sent bytes_of in
     let built = next_is_built profile whole c slot place cited lt had.1 fits clear holds in
     let snapshot = section_is profile slot.challenge (slot.sending.number + 1) next (next_snapshot map slot) built refl in
     elim (cases_Bool (nat_lt longest_message (message_length (length bits)))) [
       | inl long ↦ rw long (record { same = rw count refl; holds = Holds-too_long cited.below.server profile whole c slot lt is snapshot holds })
       | inr short ↦
+          let may = cited.below.sent.of_built profile slot.challenge (slot.sending.number + 1) next built (ltb-false _ _ short) in
           let pushed = map_push bytes_of whole.sent (handed_tag c (slot_begun profile slot next) first) in
           let kept = KeepsFrames-built cited.below.server profile frames whole.histories c (with_built history (Some next)) (next_snapshot map slot) lt holds.facts.histories snapshot
           (frames_begun cited.below.server frames c history.built (telling_of profile slot) map.baselines next.base (next_snapshot map slot) (omega (arith, begun, number)) are) holds.facts.frames in
           let mapped = mapped_snapshot map slot client history next (has_snapshot next refl) refl refl (asked_base slot next history.built (slot.sending.number + 1) base) joined.mapped in
           rw short (record {
             same = rw (count, pushed) refl;
-            holds = Holds-begun cited.below.windows profile whole c slot place slot.stage slot.owed next map (next_frames map frames c slot) first cited.below.sends cited.below.gathers lt had.1 fits built (may short) refl refl base refl
+            holds = Holds-begun cited.below.windows profile whole c slot place slot.stage slot.owed next map (next_frames map frames c slot) first cited.below.sends cited.below.gathers lt had.1 fits built may refl refl base refl
                 holds.facts.map (λ s e h joined. joined) kept mapped holds;
           })
     ]
@@ -176,7 +151,6 @@ served_game profile whole c slot cited lt is owed fits clear holds =
     let keeps = had.1.keeps in
     let begun = keeps.of_slot.sending.begun in
     let names = executed_by_slot profile slot client history keeps.of_client joined.commanded in
-    let may = sendable cited.below.scrambles bits Server next.key cited.below.bytes (low_byte profile.protocol (bit_xor slot.challenge n)) names.text in
     let count = length-map whole.sent bytes_of in
     elim (cases_Bool (nat_lt longest_message (message_length (length bits)))) [
       | inl long ↦ rw long (quiet profile whole c (with_slot server c slot) emitted.Overlong (same_server server c slot is) holds)
@@ -185,13 +159,14 @@ served_game profile whole c slot cited lt is owed fits clear holds =
           let other = joined.mapped.stands.owed owed in
           let built = cited.below.begins.game profile map slot cited.codec holds.facts.map (is_joined profile whole c slot place had.1) (slot_stands profile slot keeps.of_slot.window keeps.of_slot.area names)
           c (omega (arith, lt)) owed clear in
+          let may = cited.below.sent.of_built profile slot.challenge n next built (ltb-false _ _ short) in
           let kept = KeepsFrames-game profile frames whole.histories c (with_built history (Some next)) lt holds.facts.histories
           (frames_of_game frames c history.built next refl (holds.facts.frames.each c lt)) holds.facts.frames in
           let mapped = mapped_game map slot client history next (next_game map c slot) owed refl refl (holds.facts.map.tells other.1) refl refl begun joined.of_client.gathers.taken
           joined.mapped in
           rw short (record {
             same = rw (count, pushed) refl;
-            holds = Holds-begun cited.below.windows profile whole c slot place (Primed n) false next (begins_game map) frames first cited.below.sends cited.below.gathers lt had.1 fits built (may short) refl refl tt refl
+            holds = Holds-begun cited.below.windows profile whole c slot place (Primed n) false next (begins_game map) frames first cited.below.sends cited.below.gathers lt had.1 fits built may refl refl tt refl
                 (cited.below.maps.begun profile map holds.facts.map) (joined_stays profile map (begins_game map) (AreMapped-begun map)) kept mapped holds;
           })
     ]
@@ -295,15 +270,15 @@ said_text profile whole c place cited lt found fits clear holds =
     let is = is_client profile whole c place lt found holds in
     let said_is : IsSaid profile place.client.challenge next = subst (λ (p : Profile). IsSaid p place.client.challenge next) keeps.by
     (cited.below.says.next place.client is (subst (λ (p : Profile). is_said_unclear p (next_message place.client) ≡ false) (sym keeps.by) clear)) in
-    let may = sendable cited.below.scrambles bits Client next.key cited.below.bytes (low_byte place.client.state.profile.protocol (bit_xor (bit_xor place.client.challenge place.client.state.id) place.client.gathering.taken)) keeps.applied.last in
     elim (cases_Bool (nat_lt longest_message (message_length (length bits)))) [
       | inl long ↦ rw long (silent profile whole c place answered_sent.Overlong found holds)
       | inr short ↦
+          let may = cited.below.sent.of_said profile place.client.challenge next said_is (ltb-false _ _ short) in
           let count = length-map whole.sent bytes_of in
           let pushed = map_push bytes_of whole.sent (said_tag c (place.address) (client_begun profile place.client) first) in
           rw short (record {
             same = rw (count, pushed) refl;
-            holds = Holds-said cited.below.windows profile whole c had.0 place first cited.below.sends cited.below.gathers lt had.1 refl fits said_is (may short)
+            holds = Holds-said cited.below.windows profile whole c had.0 place first cited.below.sends cited.below.gathers lt had.1 refl fits said_is may
                 (mapped_said whole.ends.server.map had.0 place.client (history_at whole.histories c) had.1.joined.of_client.asks.0 had.1.joined.since had.1.joined.mapped) holds;
           })
     ]

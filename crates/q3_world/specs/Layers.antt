@@ -1,9 +1,8 @@
 -- What the laws over schedules use of the layers below.
-use Rattle.q3_bits.specs.Laws.{MessageIsBytes}
 use Rattle.q3_player.specs.Laws.{NormalIsNormal, ZeroIsNormal}
 use Rattle.q3_entity.specs.Laws.{NormalIsNormal as EntityNormalIsNormal}
 use Rattle.q3_chan.specs.Senders.{QportIsTold}
-use Rattle.q3_chan.specs.Laws.{SentIsTagged, TaggedDoes, EndsGather, EndsSend, SideFrontStays, SideBytesStay}
+use Rattle.q3_chan.specs.Laws.{SentIsTagged, TaggedDoes, EndsGather, EndsSend}
 use Rattle.q3_frames.specs.Laws.{NothingIsHeld, HeldWasBuilt, BuildKeeps, BaseIsNear}
 use Rattle.q3_map.specs.Laws.{ListsStayHeld}
 use Rattle.q3_config.specs.Laws.{PiecesAreTexts, PiecesMakeChange, SpelledIsRead}
@@ -13,7 +12,7 @@ use Rattle.q3_rings.specs.Laws.{AcceptedIsHeld, NothingStands, AcceptIsAdded, Ba
 use Rattle.q3_server.specs.Apart.{SlotsApart}
 use Rattle.q3_server.specs.Laws.{MapStays, BeginsAsBuilt}
 use Rattle.q3_client.specs.Laws.{BeginsSaid, ClientStays}
-use Rattle.q3_messages.specs.MessageLaws.{BuiltIsRead, SaidIsRead}
+use Rattle.q3_messages.specs.MessageLaws.{BuiltIsRead, SaidIsRead, BegunMayBeSent}
 
 -- that a server's entities stay held, what its frames hold, which of these is a base, and what a call for one client leaves the others
 pub record ServerLaws : Type 0 where
@@ -34,11 +33,6 @@ pub record RingLaws : Type 0 where
   pub by_age : NearIsHeldByAge
   pub usual : UsualRingHolds
 
--- scrambled bytes are as many, and bytes
-pub record ScramblingLaws : Type 0 where
-  pub front : SideFrontStays
-  pub bytes : SideBytesStay
-
 -- that the pieces of a change are texts of commands, which make the change
 pub record ConfigLaws : Type 0 where
   pub pieces : PiecesAreTexts
@@ -50,9 +44,9 @@ pub record WindowLaws : Type 0 where
   pub flow : FlowLaws
   pub stays : StaysOutgoing
 
--- what either end begins is read back, what the messages left at a client, what the game hands in and what either end begins is well formed, the normal form of a state is normal, what a datagram does and which qport it tells, how
--- both ends gather and send, how many bytes a message has, what a server and a client hold, what becomes
--- of commands, what scrambling leaves, and what the pieces of a config change make
+-- what either end begins is read back, what the messages left at a client, what the game hands in and what either end begins is well formed
+-- and may be sent, the normal form of a state is normal, what a datagram does and which qport it tells, how both ends gather and send, what a
+-- server and a client hold, what becomes of commands, and what the pieces of a config change make
 pub record Layers : Type 0 where
   pub reads : BuiltIsRead
   pub hears : SaidIsRead
@@ -60,6 +54,7 @@ pub record Layers : Type 0 where
   pub maps : MapStays
   pub begins : BeginsAsBuilt
   pub says : BeginsSaid
+  pub sent : BegunMayBeSent
   pub entity : EntityNormalIsNormal
   pub normal : NormalIsNormal
   pub zero : ZeroIsNormal
@@ -68,9 +63,7 @@ pub record Layers : Type 0 where
   pub does : TaggedDoes
   pub gathers : EndsGather
   pub sends : EndsSend
-  pub bytes : MessageIsBytes
   pub server : ServerLaws
   pub rings : RingLaws
   pub windows : WindowLaws
-  pub scrambles : ScramblingLaws
   pub configs : ConfigLaws

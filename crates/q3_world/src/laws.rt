@@ -5,7 +5,6 @@ ghost use Rattle.q3_world.specs.ByTags.{BytesFollowTags, StepFollows};
 ghost use Rattle.q3_world.specs.Forgetting.{ForgettingIsAlike};
 ghost use Rattle.q3_world.specs.Layers.{Layers};
 
-use q3_bits::laws as bits;
 use q3_chan::laws as chan;
 use q3_client::laws as client;
 use q3_config::laws as config;
@@ -28,6 +27,7 @@ pub fn layers()
     server::map_stays();
     server::begins_built();
     client::begins_said();
+    messages::begun_may_be_sent();
     entity::normal_is_normal();
     player::normal_is_normal();
     player::zero_is_normal();
@@ -36,8 +36,6 @@ pub fn layers()
     chan::tagged_does();
     chan::ends_gather();
     chan::ends_send();
-    chan::ends_scramble();
-    bits::message_holds_bits();
     map::lists_stay_held();
     config::pieces_are_texts();
     config::pieces_make_change();

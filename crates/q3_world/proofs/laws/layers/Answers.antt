@@ -8,6 +8,7 @@ returns c = record {
   maps = c.map_stays.ensures;
   begins = c.begins_built.ensures;
   says = c.begins_said.ensures;
+  sent = c.begun_may_be_sent.ensures;
   entity = c.normal_is_normal.ensures;
   normal = c.normal_is_normal-2.ensures;
   zero = c.zero_is_normal.ensures;
@@ -16,7 +17,6 @@ returns c = record {
   does = c.tagged_does.ensures;
   gathers = c.ends_gather.ensures;
   sends = c.ends_send.ensures;
-  bytes = c.message_holds_bits.ensures.bytes;
   server = record {
     lists = c.lists_stay_held.ensures;
     nothing = c.nothing_is_held.ensures;
@@ -26,7 +26,6 @@ returns c = record {
     apart = c.slots_apart.ensures;
   };
   windows = record { flow = c.commands_flow.ensures; stays = c.stays_outgoing.ensures };
-  scrambles = record { front = c.ends_scramble.ensures.front; bytes = c.ends_scramble.ensures.bytes };
   rings = record {
     none = c.nothing_stands.ensures;
     added = c.accept_is_added.ensures;
