@@ -21,4 +21,4 @@ bytes_on stage (first ∷ messages) noted =
     ∙ sym (append_assoc now.bytes (noted_from now.stage messages).bytes (note_of (noted_from now.stage messages).stage noted).bytes)
 
 pub goes_on : RecordingGoesOn
-goes_on = record { stage = stage_on; bytes = bytes_on; whole = λ messages. refl }
+goes_on = record { stage = stage_on; bytes = bytes_on }

@@ -6,20 +6,18 @@ use Rattle.q3_clstate.specs.Standing.{IsApplied}
 use Rattle.q3_demo.specs.declared.error.DemoError.{DemoError}
 use Rattle.q3_demo.specs.declared.error.DemoError.TheVariants.{ReadFault, Truncated, NoMemory, WriteFault}
 use Rattle.q3_demo.specs.declared.recorder.Stage.{Stage}
-use Rattle.q3_demo.specs.declared.recorder.Stage.TheVariants.{Waits}
 use Rattle.q3_demo.specs.Records.{head_bytes, length_of}
 use Rattle.q3_demo.specs.Report.{state_text}
 use Rattle.q3_demo.specs.Playing.{Played, Stepped, unplayed, step, most_records, play_of, records_of, last_of, last_played, play_state}
 use Rattle.q3_demo.specs.Recorder.{MayNote}
-use Rattle.q3_demo.specs.Recording.{Noted, note_of, noted_from, closing, recording}
+use Rattle.q3_demo.specs.Recording.{Noted, note_of, noted_from}
 
--- after messages, and after one more: its bytes follow theirs; and the file of a recording is what its messages add, with its end
+-- after messages, and after one more: its bytes follow theirs
 pub record RecordingGoesOn : Type 0 where
   pub stage : (stage : Stage) (messages : List Noted) (noted : Noted)
       → (noted_from stage (messages ++ noted ∷ [])).stage ≡ (note_of (noted_from stage messages).stage noted).stage
   pub bytes : (stage : Stage) (messages : List Noted) (noted : Noted)
       → (noted_from stage (messages ++ noted ∷ [])).bytes ≡ (noted_from stage messages).bytes ++ (note_of (noted_from stage messages).stage noted).bytes
-  pub whole : (messages : List Noted) → recording messages ≡ (noted_from Waits messages).bytes ++ closing (noted_from Waits messages).stage
 
 -- a message that was applied may be noted, however far the recording is
 abbrev pub AppliedMayBeNoted : Type 0
