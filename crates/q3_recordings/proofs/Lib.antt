@@ -11,5 +11,6 @@ mod Sound
 mod AtPlace
 mod Noting
 mod Replayed
+mod HalfNoted
 mod OwnReplays
 mod Joined

@@ -1,9 +1,8 @@
 -- Where each end gets only what the other made, a recording begins with config strings that tell the map's id.
-use Rattle.std.proofs.Common.{◌≡◌, ℕ, ◌+◌, ◌<◌, ◌≤◌, true, List, [], ◌∷◌, ◌++◌, length, Option, Some, None, Ok, refl, sym, ap, subst, ◌∙◌, inl, inr, arith, append_assoc}
+use Rattle.std.proofs.Common.{◌≡◌, ℕ, ◌<◌, true, List, [], ◌∷◌, ◌++◌, Option, Some, None, Ok, refl, sym, ap, subst, ◌∙◌, inl, inr, arith}
 use Rattle.std.specs.Prelude.{IsSome}
 use Rattle.std.specs.List.{AllByRecursion}
 use Rattle.std.proofs.lemmas.Bool.{cond_both}
-use Rattle.std.proofs.lemmas.List.{length-append}
 use Rattle.q3_config.specs.Strings.{server_id}
 use Rattle.q3_profile.specs.declared.profile.Profile.{Profile}
 use Rattle.q3_svmsg.specs.Values.{Told, Nothing, Game, Snap, Skipped}
@@ -23,19 +22,20 @@ use Rattle.q3_demo.specs.declared.recorder.Stage.TheVariants.{Waits, Runs, Ended
 use Rattle.q3_demo.specs.Recording.{Noted, note_of}
 use Rattle.q3_world.specs.declared.places.Place.{Place}
 use Rattle.q3_world.specs.Ends.{client_at, client_of, line_of, place_at}
-use Rattle.q3_world.specs.Kept.{Kept, kept_after, kept_step, opening_kept}
+use Rattle.q3_world.specs.Kept.{Kept, kept_step, opening_kept}
 use Rattle.q3_world.specs.ByTags.{kept_then}
 use Rattle.q3_world.specs.StandsFor.{IsChecked}
 use Rattle.q3_schedules.specs.Recorded.{applied_until, bytes_for, is_stop, noted_at, noted_of}
-use Rattle.q3_schedules.specs.Schedules.{IsScheduled, NothingPends, SaysNoChange, StringsTellId}
+use Rattle.q3_schedules.specs.Schedules.{AppliedWasServed, IsScheduled, NothingPends, SaysNoChange, StringsTellId}
 use Rattle.q3_schedules.proofs.SlotsStay.{HaveSlots, have_slots}
 use Rattle.q3_recordings.specs.Plays.{recorded_with, recorded_from, BeginsTold, BeginsWhole}
-use Rattle.q3_recordings.specs.Replays.{ReplayPlays, OwnReplayPlays, OwnReplayBeginsWhole, kept_recording, noted_after}
+use Rattle.q3_recordings.specs.Replays.{ReplayIsNoted, ReplayPlays, OwnReplayPlays, OwnReplayBeginsWhole, kept_recording, noted_after}
 use Rattle.q3_recordings.proofs.PlaysAs.{has_read}
 use Rattle.q3_recordings.proofs.Recorded.{recorded_none}
 use Rattle.q3_recordings.proofs.Sound.{IsSound, taken_notes}
 use Rattle.q3_recordings.proofs.AtPlace.{Becomes, goes_on_at}
 use Rattle.q3_recordings.proofs.Noting.{Laws, client_laws, becomes_sound}
+use Rattle.q3_recordings.proofs.HalfNoted.{all_front, all_next, Along, along_on, half_noted}
 use Rattle.q3_recordings.proofs.Replayed.{after_stands, opening_stands, records_at}
 
 -- ---- a client keeps its gamestate
@@ -81,35 +81,6 @@ plays_on laws profile client new (Some bytes) is plays =
           let begun = plays.begun in
           record { sound = sound; begun = omega (arith, number, same, begun); has = ap (λ (s : AppliedState). s.has_game) (there ∙ none.same) ∙ plays.has }
     ]
-
--- ---- events
-
-all_front : (Is : Event → Type 0) (some others : List Event) → AllByRecursion Is (some ++ others) → AllByRecursion Is some
-all_front Is [] others are = tt
-all_front Is (event ∷ some) others are = (are.0, all_front Is some others are.1)
-
-all_next : (some : List Event) (event : Event) (others : List Event) → AllByRecursion IsScheduled (some ++ event ∷ others) → IsScheduled event
-all_next [] event others are = are.0
-all_next (one ∷ some) event others are = all_next some event others are.1
-
-one_after : (kept : Kept) (some : List Event) (event : Event) → kept_after kept (some ++ event ∷ []) ≡ (kept_step (kept_after kept some) event).kept
-unfolding kept_after
-one_after kept [] event = refl
-one_after kept (one ∷ some) event = one_after (kept_step kept one).kept some event
-
--- after some of them, with these to come
-record Along (Is : Event → Type 0) (profile : Profile) (kept : Kept) (events : List Event) : Type 0 where
-  done : List Event
-  is : kept ≡ kept_then profile done
-  are : AllByRecursion Is (done ++ events)
-
-along_on : (Is : Event → Type 0) (profile : Profile) (kept : Kept) (event : Event) (events : List Event) → Along Is profile kept (event ∷ events)
-    → Along Is profile (kept_step kept event).kept events
-along_on Is profile kept event events along = record {
-  done = along.done ++ event ∷ [];
-  is = ap (λ (k : Kept). (kept_step k event).kept) along.is ∙ sym (one_after (opening_kept profile) along.done event);
-  are = subst (AllByRecursion Is) (sym (append_assoc along.done (event ∷ []) events)) along.are;
-}
 
 -- ---- what is said of a client's state before each of its messages
 
@@ -195,42 +166,22 @@ unfolding recorded_from
 begins_told [] tell = tt
 begins_told (noted ∷ others) tell = first_told (note_of Waits noted).stage noted others tell.0 (begins_told others tell.1)
 
--- ---- how many messages there are
-
-answer_few : (client : ClientState) (taken : Taken) (answer : ClientTook) → length (noted_of client taken answer) ≤ 1
-answer_few client taken (took.Applied applied) = omega arith
-answer_few client taken other = omega arith
-
-event_few : (found : Option Place) (bytes : Option (List ℕ)) → length (noted_at found bytes) ≤ 1
-event_few (Some place) (Some bytes) = answer_few place.client (take_at place.client bytes) (take_at place.client bytes).answer
-event_few found bytes = omega arith
-
-few_applied : (kept : Kept) (events : List Event) (c : ℕ) → length (applied_until kept events c) ≤ length events
-unfolding applied_until
-few_applied kept [] c = omega arith
-few_applied kept (event ∷ events) c =
-    let next = (kept_step kept event).kept in
-    let notes = noted_at (place_at kept.ends c) (bytes_for kept event c) in
-    cond_both (is_stop c event) [] (notes ++ applied_until next events c) (λ (all : List Noted). length all ≤ length (event ∷ events)) (λ e. omega arith)
-    (λ e. omega (arith, event_few (place_at kept.ends c) (bytes_for kept event c), few_applied next events c, length-append notes (applied_until next events c)))
-
 -- ---- all of it
 
 within : (c : ℕ) (name : List ℕ) → IsScheduled (events.RecordTo c name) → c < places
 within c name is = let most = is.0.0 in omega (arith, most)
 
-own_plays : StringsTellId → Laws → ReplayPlays → OwnReplayPlays
-own_plays law laws plays profile first rest c name checked are answer short few =
+own_plays : StringsTellId → AppliedWasServed → Laws → ReplayIsNoted → ReplayPlays → OwnReplayPlays
+own_plays law served laws noted plays profile first rest c name checked are answer few =
     let messages = noted_after profile first c name rest in
     let lt = within c name (all_next first (events.RecordTo c name) rest are) in
     let tell = after_said IsScheduled Tells laws profile checked
     (λ done c client are lt at has. told_by (server_id client.state.strings) client.state.id (law profile done c client checked are lt at has)) first rest c name are lt answer in
-    let count = few_applied (kept_recording profile first c name) rest c in
-    plays profile first rest c name checked answer (begins_told messages tell)
-    (elim short [ inl long ↦ inl long | inr fewer ↦ inr (omega (arith, count, fewer)) ]) (omega (arith, count, few))
+    let count = half_noted served profile first rest c name checked are (noted profile first rest c name checked answer) in
+    plays profile first rest c name checked answer (begins_told messages tell) (inr (omega (arith, count, few))) (omega (arith, count, few))
 
-pub own_replay_plays : StringsTellId → ReplayPlays → Laws → OwnReplayPlays
-own_replay_plays law plays laws = own_plays law laws plays
+pub own_replay_plays : StringsTellId → AppliedWasServed → ReplayIsNoted → ReplayPlays → Laws → OwnReplayPlays
+own_replay_plays law served noted plays laws = own_plays law served laws noted plays
 
 -- ---- it begins within no long string
 

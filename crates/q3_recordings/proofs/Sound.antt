@@ -1,23 +1,19 @@
 -- A client whose messages may be noted.
-use Rattle.std.proofs.Common.{◌≡◌, ◌⊎◌, ℕ, zero, suc, ◌+◌, ◌-◌, ◌^◌, ◌<◌, ◌≤◌, Bool, true, List, [], ◌∷◌, ◌++◌, length, take, drop, Option, Some, None, Result, Ok, Err, inl, inr, refl, sym, ap, subst, ◌∙◌, arith}
-use Rattle.std.specs.Prelude.{◌==◌, ◌||◌, ◌&&◌, not, nat_lt, nat_le, if◌then◌else◌}
-use Rattle.std.proofs.lemmas.Bool.{cond_both, eqb-true, leb-false, leb-true, ltb-false, or_parts, and_parts}
-use Rattle.std.proofs.lemmas.List.{length-take, length-drop, length-append}
+use Rattle.std.proofs.Common.{◌≡◌, ◌⊎◌, ℕ, ◌+◌, ◌^◌, ◌<◌, ◌≤◌, Bool, true, List, [], ◌∷◌, ◌++◌, length, Option, Some, None, Result, Ok, Err, inl, inr, refl, sym, ap, subst, ◌∙◌, arith}
+use Rattle.std.specs.Prelude.{◌&&◌, not, nat_lt, nat_le, if◌then◌else◌}
+use Rattle.std.proofs.lemmas.Bool.{cond_both, leb-true, and_parts}
+use Rattle.std.proofs.lemmas.List.{length-append}
 use Rattle.q3_bits.specs.Bits.{bits_of, message_bytes, message_length}
-use Rattle.q3_bits.specs.ResultBind.{◌>>=◌, bind_ok, fault_as}
-use Rattle.q3_window.specs.Outgoing.{OutgoingState, most_waiting, most_text, last_number, total_of, issued_of, fits, issue_at, Issuing, Acknowledging, acknowledged_to, acknowledge_at, text_at}
+use Rattle.q3_bits.specs.ResultBind.{bind_ok}
+use Rattle.q3_window.specs.Outgoing.{OutgoingState, most_waiting, most_text, last_number, total_of, issued_of, fits, issue_at, Issuing}
 use Rattle.q3_profile.specs.declared.profile.Profile.{Profile}
 use Rattle.q3_profile.specs.Profile.{IsCodec}
-use Rattle.q3_chan.specs.declared.gatherer.Gathered.{Gathered}
-use Rattle.q3_chan.specs.declared.gatherer.Gathered.TheVariants as gathered
-use Rattle.q3_chan.specs.Datagrams.{fragment_size, longest_message, sequence_end, is_fragment, number_in, length_of, has_bad_check, start_in, count_in, after_header}
-use Rattle.q3_chan.specs.Gathering.{Gathering, Took, answers as gathers, arrives, emptied, gathering_of, take_whole, add_piece, take_piece, take_fragment, take_newer, is_connectionless, gathered as gathered_of}
+use Rattle.q3_chan.specs.Datagrams.{longest_message, sequence_end}
+use Rattle.q3_chan.specs.Gathering.{Gathering}
 use Rattle.q3_chan.specs.Sending.{UnderWay, started}
-use Rattle.q3_chan.specs.Scrambling.{keyed, key_at}
-use Rattle.q3_chan.specs.Keys.{server_key, client_scrambled, scrambled_by}
+use Rattle.q3_chan.specs.Keys.{client_scrambled}
 use Rattle.q3_svmsg.specs.declared.error.Illegible.{Illegible}
-use Rattle.q3_svmsg.specs.declared.error.Illegible.TheVariants.{Bits}
-use Rattle.q3_svmsg.specs.Reading.{ack_at, server_message_in}
+use Rattle.q3_svmsg.specs.Reading.{server_message_in}
 use Rattle.q3_svmsg.specs.Values.{Told, Nothing, Game, Snap, Skipped, Message}
 use Rattle.q3_svmsg.specs.Laws.{ReadIsSpelled}
 use Rattle.q3_rings.specs.Rings.{held_snapshot}
@@ -32,11 +28,11 @@ use Rattle.q3_client.specs.declared.client.ClientTook.TheVariants as took
 use Rattle.q3_client.specs.declared.client.MoveError.{MoveError}
 use Rattle.q3_client.specs.declared.client.MoveError.TheVariants.{NoGame, NotLater, Range}
 use Rattle.q3_client.specs.declared.client.Sent.TheVariants as sent
-use Rattle.q3_client.specs.Client.{ClientState, Taken, Reception, new_client, type_at, applies_read, take_answer, take_unless, take_at, receive_bytes, ack_taken, cleared}
+use Rattle.q3_client.specs.Client.{ClientState, Taken, new_client, type_at, take_at}
 use Rattle.q3_client.specs.Moves.{Handed, is_issuable, issue, add_move_at}
 use Rattle.q3_client.specs.Sending.{Said, Emission, next_message, next_said, said_bits, is_unclear, nothing, hand_out, emit_bits, emit_new, emit_left, emit_unless, emit_at}
 use Rattle.q3_client.specs.Laws.{WasApplied, WasNewest, WasLeft, TakesMessages}
-use Rattle.q3_demo.specs.Records.{longest_record, number_end}
+use Rattle.q3_demo.specs.Records.{number_end}
 use Rattle.q3_demo.specs.Recording.{Noted}
 use Rattle.q3_schedules.specs.Recorded.{noted_of}
 use Rattle.q3_recordings.specs.Plays.{IsNoted}

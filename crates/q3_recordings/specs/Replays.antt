@@ -1,9 +1,10 @@
 -- What a recording of a replay plays to.
-use Rattle.std.specs.Prelude.{◌≡◌, ℕ, ◌<◌, List, ◌∷◌, ◌++◌, length, Ok}
+use Rattle.std.specs.Prelude.{◌≡◌, ℕ, ◌<◌, ◌≤◌, List, ◌∷◌, ◌++◌, length, Ok}
 use Rattle.std.specs.List.{AllByRecursion}
 use Rattle.q3_profile.specs.declared.profile.Profile.{Profile}
 use Rattle.q3_script.specs.declared.event.Event.{Event}
 use Rattle.q3_script.specs.declared.event.Event.TheVariants as events
+use Rattle.q3_script.specs.Script.{most_events}
 use Rattle.q3_report.specs.declared.answer.HandedIn.TheVariants as handed
 use Rattle.q3_report.specs.Answers.{Given}
 use Rattle.q3_demo.specs.declared.recorder.Stage.TheVariants.{Waits}
@@ -38,12 +39,12 @@ ReplayPlays = (profile : Profile) (first rest : List Event) (c : ℕ) (name : Li
     → IsShort (recording (noted_after profile first c name rest)) (length (noted_after profile first c name rest)) → length (noted_after profile first c name rest) < most_records
     → PlaysTo profile (recording (noted_after profile first c name rest)) (recorded_from Waits (noted_after profile first c name rest))
 
--- and where each end gets only what the other made, as long as there are fewer events than a demo may have records, nothing is asked of
--- the config strings
+-- and where each end gets only what the other made, of as many events as a script may have, nothing is asked of the config strings, nor of
+-- how long the recording is
 abbrev pub OwnReplayPlays : Type 0
 OwnReplayPlays = (profile : Profile) (first rest : List Event) (c : ℕ) (name : List ℕ) → IsChecked profile → AllByRecursion IsScheduled (first ++ events.RecordTo c name ∷ rest)
     → (kept_step (kept_then profile first) (events.RecordTo c name)).answer ≡ Given (handed.Record c (Ok tt))
-    → IsShort (recording (noted_after profile first c name rest)) (length rest) → length rest < most_records
+    → length (first ++ events.RecordTo c name ∷ rest) ≤ most_events
     → PlaysTo profile (recording (noted_after profile first c name rest)) (recorded_from Waits (noted_after profile first c name rest))
 
 -- and where, moreover, the game says no text of a config change, no long string is being put together where it begins: so the config strings

@@ -70,13 +70,16 @@ pub fn replay_plays()
     client::takes_messages();
 }
 
-/// And where each end gets only what the other made, nothing is asked of the config strings: once a client has a gamestate they tell the
-/// map's id.
+/// And where each end gets only what the other made, nothing is asked of the config strings, since once a client has a gamestate they tell
+/// the map's id, nor of how long the recording is: a script has too few events for one that can't be played, since each message takes a line
+/// that makes it and one that hands it over.
 pub fn own_replay_plays()
     ensures { OwnReplayPlays }
 {
+    replay_is_noted();
     replay_plays();
     schedules::strings_tell_id();
+    schedules::applied_was_served();
     svmsg::read_is_spelled();
     clstate::apply_stays();
     clstate::applied_is_context();

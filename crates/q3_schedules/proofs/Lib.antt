@@ -36,3 +36,4 @@ mod Recorded
 mod NodeRecorded
 mod MadeOnce
 mod EndedEarly
+mod Served

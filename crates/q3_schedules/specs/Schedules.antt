@@ -1,5 +1,5 @@
 -- Laws over every list of events.
-use Rattle.std.specs.Prelude.{ℕ, ◌≡◌, ◌↔◌, ◌⊎◌, ◌||◌, ◌+◌, ◌-◌, ◌<◌, Bool, true, false, List, [], ◌∷◌, ◌++◌, length, map, take, replicate, ◌≤◌, All, Contains, Option, Some, None, IfSome, MatchOption, Ok, slice_get, slice_index_or}
+use Rattle.std.specs.Prelude.{ℕ, ◌≡◌, ◌↔◌, ◌⊎◌, ◌||◌, ◌+◌, ◌-◌, ◌<◌, Bool, true, false, List, [], ◌∷◌, ◌++◌, length, map, filter, take, replicate, ◌≤◌, All, Contains, Option, Some, None, IfSome, MatchOption, Ok, slice_get, slice_index_or}
 use Rattle.std.specs.List.{AllByRecursion, last_or, range_with_len}
 use Rattle.q3_clmsg.specs.declared.moves.Move.{Move}
 use Rattle.q3_profile.specs.declared.profile.Profile.{Profile}
@@ -273,6 +273,18 @@ AppliedWasBuilt = (profile : Profile) (all : List Event) (number c : ℕ) (appli
     × ((base : ℕ) → applied.snap ≡ Accepted base
     → Shows (kept_step (kept_then profile all) (events.Deliver number)).kept.ends c applied.number (history_then profile all c).built)
     × ((after : ClientState) × (client_at (kept_step (kept_then profile all) (events.Deliver number)).kept.ends c ≡ Some after) × (after.state.number ≡ applied.number))
+
+-- a line that lets the server make a datagram
+abbrev pub is_serve : Event → Bool
+is_serve (events.Serve c) = true
+is_serve other = false
+
+-- where a client applies one, its number is at most that of these lines before
+abbrev pub AppliedWasServed : Type 0
+AppliedWasServed = (profile : Profile) (all : List Event) (number c : ℕ) (applied : AppliedSo) (commands : List Command) → IsChecked profile
+    → AllByRecursion IsScheduled all
+    → ClientTookSo (kept_step (kept_then profile all) (events.Deliver number)).answer number c (Applied applied) commands
+    → applied.number ≤ length (filter is_serve all)
 
 -- where the bytes of a datagram bring a message whole to a client, it is applied: a gamestate always, and a snapshot is accepted
 -- exactly where it has no base, or the entities of its base are there

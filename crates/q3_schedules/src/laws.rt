@@ -4,7 +4,7 @@ ghost use Rattle.q3_schedules.specs.Early.{NodeLeavesFront, ReplayLeavesFront};
 ghost use Rattle.q3_schedules.specs.NodeRecorded.{NodeRecordsItsMessages};
 ghost use Rattle.q3_schedules.specs.Recorded.{RecordingIsItsMessages};
 ghost use Rattle.q3_schedules.specs.ReportLines.{CountsAreLines, ReplayIsCounted};
-ghost use Rattle.q3_schedules.specs.Schedules.{AlwaysLegible, UnknownWasNotMade, CommandsArePrefixes, KeysAgree, ExecutedGoesOn, AcceptedWereBuilt, ShownWasBuilt, ShownIsNewest, AsksForAccepted, AskedUnderGame, OneGamePerMap, BasesWereAccepted, HeldIsAccepted, ViewsWereBuilt, AppliedWasBuilt, NewerIsAccepted, UsualNeverSkips, NewerIsRun, MovesWereIssued, EnteringIsNotRun, InOrderIsAccepted, ServedIsShown, StateIsOfGame, StringsTellId, StringsFollow, NothingPends};
+ghost use Rattle.q3_schedules.specs.Schedules.{AlwaysLegible, UnknownWasNotMade, CommandsArePrefixes, KeysAgree, ExecutedGoesOn, AcceptedWereBuilt, ShownWasBuilt, ShownIsNewest, AsksForAccepted, AskedUnderGame, OneGamePerMap, BasesWereAccepted, HeldIsAccepted, ViewsWereBuilt, AppliedWasBuilt, AppliedWasServed, NewerIsAccepted, UsualNeverSkips, NewerIsRun, MovesWereIssued, EnteringIsNotRun, InOrderIsAccepted, ServedIsShown, StateIsOfGame, StringsTellId, StringsFollow, NothingPends};
 
 use q3_bits::laws as bits;
 use q3_chan::laws as chan;
@@ -127,6 +127,15 @@ pub fn applied_was_built()
 {
     world::bytes_follow_tags();
     world::layers();
+}
+
+/// Whatever came before, where a client applies a datagram, its message's number is at most that of the lines before that let the server
+/// make one.
+pub fn applied_was_served()
+    ensures { AppliedWasServed }
+{
+    world::bytes_follow_tags();
+    applied_was_built();
 }
 
 /// Whatever came before, where the bytes of a datagram bring a message whole, it is applied: its gamestate, or its snapshot,
