@@ -7,7 +7,8 @@ use Rattle.std.proofs.lemmas.Option.{none-some}
 use Rattle.std.proofs.lemmas.List.{append_cancel_left, length-append, length-map, take_at, get_or-map, get_or_default, drop_at, drop_more, drop_all, take_all}
 use Rattle.std.proofs.lemmas.List.Folds.{list_any_at, Any-from_list_any}
 use Rattle.std.proofs.lemmas.Nat.{shr_high, one_shl}
-use Rattle.q3_bits.specs.ResultBind.{◌>>=◌, bind_err}
+use Rattle.q3_bits.specs.ResultBind.{◌>>=◌}
+use Rattle.q3_bits.proofs.Binds.{bind_err}
 use Rattle.q3_bits.specs.Bits.{low_bits, number_of}
 use Rattle.q3_bits.specs.Laws.{EndsCutShort}
 use Rattle.q3_bits.specs.declared.reader.ReadError.{ReadError}

@@ -9,7 +9,8 @@ use Rattle.std.proofs.lemmas.List.FromFn.{length-map-range_with_len, get_or-map-
 use Rattle.std.proofs.Math.Seq.{take-append-add}
 use Rattle.std.proofs.lemmas.Nat.{pow-add, shr_high, shr_below, shl_whole, mul-add-lt}
 use Rattle.std.proofs.Math.Nat.{mod-add-div, mod-eq_of_lt, pow-le-pow_right, pow-succ'}
-use Rattle.q3_bits.specs.ResultBind.{◌>>=◌, bind_ok}
+use Rattle.q3_bits.specs.ResultBind.{◌>>=◌}
+use Rattle.q3_bits.proofs.Binds.{bind_ok}
 use Rattle.q3_bits.specs.Bits.{low_bits, number_of}
 use Rattle.q3_bits.specs.Words.{word_of, IsCode, plain_words, bytes_bits, field_bits, raw_at, bits_after, byte_from, begins_word, byte_at, bytes_at, field_at}
 use Rattle.q3_bits.specs.declared.reader.ReadError.{ReadError}

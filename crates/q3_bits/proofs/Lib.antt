@@ -1,3 +1,6 @@
+-- exported: proofs of crates above may cite these
+pub mod Binds
+-- for this crate alone
 mod Numbers
 mod Texts
 mod ReadOver

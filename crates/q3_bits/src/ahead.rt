@@ -50,13 +50,21 @@ impl<'a> Ahead<'a> {
         }
     }
 
+    /// How many bytes more there is room for.
+    #[inline(always)]
+    fn room(&self) -> u64
+        ensures { result ≡ 7 - self.now.count / 8 }
+    {
+        7 - self.count / 8
+    }
+
     /// Gathers as many bytes more as there is room for, also of the last seven. It isn't inlined: `fuller` is the half that is.
     #[inline(never)]
     pub(crate) fn refill(&mut self)
         ensures bits { bits_ahead self.new ≡ bits_ahead self.old }
         ensures full { (56 ≤ self.new.count) ⊎ (length self.new.rest.now ≡ 0) }
     {
-        let room = 7 - self.count / 8;
+        let room = self.room();
         // all but the last seven of a message's bytes have seven after them
         if let Some(word) = first_eight(self.rest) {
             *self = self.with(word, room);
@@ -71,8 +79,9 @@ impl<'a> Ahead<'a> {
     pub(crate) fn fuller(self) -> Ahead<'a>
         ensures { bits_ahead result ≡ bits_ahead self.entry }
     {
+        let room = self.room();
         match first_eight(self.rest) {
-            Some(word) => self.with(word, 7 - self.count / 8),
+            Some(word) => self.with(word, room),
             None => self,
         }
     }

@@ -4,7 +4,8 @@ use Rattle.std.specs.Prelude.{◌||◌, nat_lt}
 use Rattle.std.proofs.lemmas.Bool.{cond_both, ltb-false, or_parts}
 use Rattle.std.proofs.lemmas.List.{length-drop}
 use Rattle.q3_bits.specs.Bits.{bits_of}
-use Rattle.q3_bits.specs.ResultBind.{◌>>=◌, bind_ok, fault_as}
+use Rattle.q3_bits.specs.ResultBind.{◌>>=◌, fault_as}
+use Rattle.q3_bits.proofs.Binds.{bind_ok}
 use Rattle.q3_window.specs.Outgoing.{OutgoingState, issued_of, Acknowledging, acknowledged_to, acknowledge_at, text_at}
 use Rattle.q3_chan.specs.Scrambling.{keyed, key_at}
 use Rattle.q3_chan.specs.Keys.{server_key, scrambled_by}

@@ -1,10 +1,11 @@
 -- The fields of a move: what is written spells them, what is read was spelled so, and what is spelled so is read.
 use Rattle.std.proofs.Common.{◌≡◌, ◌⊎◌, ◌<◌, ◌^◌, ℕ, suc, Bool, eqb, cond, List, [], ◌∷◌, ◌++◌, length, Ok, refl, sym, ap, subst, ◌∙◌, append_assoc, arith, inl, inr}
 use Rattle.std.proofs.lemmas.Bool.{cases_Bool, eqb-true, eqb-false}
-use Rattle.q3_bits.specs.ResultBind.{◌>>=◌, bind_ok}
+use Rattle.q3_bits.specs.ResultBind.{◌>>=◌}
+use Rattle.q3_bits.proofs.Binds.{bind_ok}
 use Rattle.q3_bits.specs.Words.{IsCode, field_bits, row_bits, field_at}
 use Rattle.q3_bits.specs.Laws.{PutIsRead, ReadWasPut}
-use Rattle.q3_strings.specs.Rows.{row-none, field_was_put, row-first, row-last}
+use Rattle.q3_strings.proofs.FieldRows.{row-none, field_was_put, row-first, row-last}
 use Rattle.q3_clmsg.specs.Moves.{AreFields, hidden, field_delta, fields_bits, field_over, fields_at}
 use Rattle.q3_clmsg.specs.Spelling.{SpellsFields}
 use Rattle.q3_clmsg.proofs.Keys.{hidden_fits, hidden_twice}

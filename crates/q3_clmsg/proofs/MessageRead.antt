@@ -6,7 +6,7 @@ use Rattle.q3_bits.specs.Laws.{PutIsRead}
 use Rattle.q3_text.specs.declared.text.Command.{Command}
 use Rattle.q3_strings.specs.Commands.{commands_bits, SpellsNops, SpellsCommands}
 use Rattle.q3_strings.specs.Operations.{ending_at}
-use Rattle.q3_strings.specs.Rows.{row-after, row-first, row-last, operations-parts}
+use Rattle.q3_strings.proofs.FieldRows.{row-after, row-first, row-last, operations-parts}
 use Rattle.q3_strings.specs.Laws.{NopsAreNops, RowSpelledIsRead, EndingSpelledIsRead}
 use Rattle.q3_clmsg.specs.declared.moves.Move.{Move}
 use Rattle.q3_clmsg.specs.Moves.{no_move}

@@ -5,13 +5,14 @@ use Rattle.std.proofs.lemmas.Bool.{cases_Bool, eqb-true}
 use Rattle.std.proofs.lemmas.Bool.Decides.{nat_tests}
 use Rattle.std.proofs.lemmas.List.{append-nil}
 use Rattle.std.proofs.lemmas.List.Elements.{All-nil}
-use Rattle.q3_bits.specs.ResultBind.{◌>>=◌, fault_as, bind_ok, map_err_ok}
+use Rattle.q3_bits.specs.ResultBind.{◌>>=◌, fault_as}
+use Rattle.q3_bits.proofs.Binds.{bind_ok, map_err_ok}
 use Rattle.q3_bits.specs.Words.{IsCode, row_bits, field_at}
 use Rattle.q3_bits.specs.Laws.{ReadWasPut}
 use Rattle.q3_text.specs.declared.text.Command.{Command}
 use Rattle.q3_strings.specs.Commands.{commands_bits, SpellsNops, SpellsCommands, SpellsEnding}
 use Rattle.q3_strings.specs.Operations.{Row, row_at, ending_at}
-use Rattle.q3_strings.specs.Rows.{row-empty, row-none, row-after, field_was_put}
+use Rattle.q3_strings.proofs.FieldRows.{row-empty, row-none, row-after, field_was_put}
 use Rattle.q3_strings.specs.Laws.{IsCommand, CommandsAreSpelled, WasRow, RowReadIsSpelled, EndingReadIsSpelled}
 use Rattle.q3_clmsg.specs.declared.moves.Move.{Move}
 use Rattle.q3_clmsg.specs.declared.heads.Heads.{Heads}

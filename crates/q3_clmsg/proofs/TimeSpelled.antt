@@ -2,10 +2,11 @@
 use Rattle.std.proofs.Common.{◌≡◌, ◌<◌, ◌+◌, ◌%◌, ◌^◌, ℕ, Bool, eqb, cond, ltb, List, [], ◌∷◌, ◌++◌, Ok, refl, ap, subst, ◌∙◌, arith, inl, inr}
 use Rattle.std.proofs.lemmas.Bool.{cases_Bool, eqb-true, eqb-false}
 use Rattle.std.proofs.lemmas.Bool.Decides.{nat_tests}
-use Rattle.q3_bits.specs.ResultBind.{◌>>=◌, bind_ok}
+use Rattle.q3_bits.specs.ResultBind.{◌>>=◌}
+use Rattle.q3_bits.proofs.Binds.{bind_ok}
 use Rattle.q3_bits.specs.Words.{IsCode, row_bits, field_at}
 use Rattle.q3_bits.specs.Laws.{PutIsRead, ReadWasPut}
-use Rattle.q3_strings.specs.Rows.{row-none, field_was_put, row-first, row-last}
+use Rattle.q3_strings.proofs.FieldRows.{row-none, field_was_put, row-first, row-last}
 use Rattle.q3_clmsg.specs.Moves.{time_since, time_bits, time_at}
 use Rattle.q3_clmsg.specs.Spelling.{SpellsTime}
 

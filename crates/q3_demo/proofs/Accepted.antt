@@ -4,7 +4,8 @@ use Rattle.std.specs.Prelude.{IsOk, IsSome, is_some}
 use Rattle.std.specs.Result.{result_ok}
 use Rattle.std.proofs.lemmas.Bool.{cond_both, leb-false}
 use Rattle.q3_bits.specs.Bits.{bits_of}
-use Rattle.q3_bits.specs.ResultBind.{◌>>=◌, bind_ok, fault_as, map_err_ok}
+use Rattle.q3_bits.specs.ResultBind.{◌>>=◌, fault_as}
+use Rattle.q3_bits.proofs.Binds.{bind_ok, map_err_ok}
 use Rattle.q3_bits.specs.Words.{field_at}
 use Rattle.q3_bits.specs.declared.reader.ReadError.{ReadError}
 use Rattle.q3_strings.specs.declared.error.OperationError.{OperationError}

@@ -2,7 +2,8 @@
 use Rattle.std.proofs.Common.{◌≡◌, ℕ, zero, suc, ◌+◌, ◌<◌, ◌≤◌, List, [], ◌∷◌, ◌++◌, length, take, drop, Option, Some, None, Result, Ok, Err, refl, sym, ap, subst, ◌∙◌, inl, inr, arith}
 use Rattle.std.specs.Prelude.{◌⊎◌}
 use Rattle.std.proofs.lemmas.List.{drop-append-le, take-append-le, length-drop}
-use Rattle.q3_bits.specs.ResultBind.{◌>>=◌, fault_as, bind_is, bind_same}
+use Rattle.q3_bits.specs.ResultBind.{◌>>=◌, fault_as}
+use Rattle.q3_bits.proofs.Binds.{bind_is, bind_same}
 use Rattle.q3_clstate.specs.State.{Application, apply_at}
 use Rattle.q3_demo.specs.declared.error.DemoError.{DemoError}
 use Rattle.q3_demo.specs.declared.error.DemoError.TheVariants.{Truncated, Message as NoMessage}

@@ -5,7 +5,8 @@ use Rattle.std.specs.List.{concat}
 use Rattle.std.proofs.Math.Seq.{take-append-add}
 use Rattle.std.proofs.lemmas.List.{append-nil, drop_at, drop-drop, length-append, length-take}
 use Rattle.std.proofs.lemmas.List.Folds.{concat-append}
-use Rattle.q3_bits.specs.ResultBind.{◌>>=◌, fault_as, bind_ok, bind_is}
+use Rattle.q3_bits.specs.ResultBind.{◌>>=◌, fault_as}
+use Rattle.q3_bits.proofs.Binds.{bind_ok, bind_is}
 use Rattle.q3_io.specs.Told.{Told}
 use Rattle.q3_io.specs.Written.{Written, Wrote}
 use Rattle.q3_io.specs.Laws.{TextsFollow}

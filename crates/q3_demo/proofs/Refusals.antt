@@ -1,7 +1,8 @@
 -- What a demo is refused for.
 use Rattle.std.proofs.Common.{◌≡◌, ℕ, Bool, true, false, List, Some, Result, Ok, Err, subst, inl, inr}
 use Rattle.std.specs.Prelude.{if◌then◌else◌}
-use Rattle.q3_bits.specs.ResultBind.{◌>>=◌, fault_as, bind_err}
+use Rattle.q3_bits.specs.ResultBind.{◌>>=◌, fault_as}
+use Rattle.q3_bits.proofs.Binds.{bind_err}
 use Rattle.q3_svmsg.specs.declared.error.Illegible.{Illegible}
 use Rattle.q3_clstate.specs.State.{Application, apply_at}
 use Rattle.q3_demo.specs.declared.error.DemoError.{DemoError}

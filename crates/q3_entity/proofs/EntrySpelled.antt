@@ -2,7 +2,7 @@
 use Rattle.std.proofs.Common.{◌≡◌, ◌⊎◌, ℕ, ◌^◌, ◌<◌, Bool, false, cond, eqb, List, ◌++◌, Option, Some, None, Ok, refl, sym, ap, ◌∙◌, subst, append_assoc, arith, inl, inr}
 use Rattle.std.proofs.lemmas.Bool.{cases_Bool, eqb-true, eqb-false}
 use Rattle.std.proofs.lemmas.List.{append-nil}
-use Rattle.q3_bits.specs.ResultBind.{bind_ok, map_err_ok}
+use Rattle.q3_bits.proofs.Binds.{bind_ok, map_err_ok}
 use Rattle.q3_bits.specs.Words.{IsCode, field_bits, field_at, row_bits}
 use Rattle.q3_bits.specs.Laws.{ReadWasPut, PutIsRead}
 use Rattle.q3_fields.specs.Kinds.{Layout, IsTable}

@@ -1,6 +1,7 @@
 -- A list that is read is skipped to the same place.
 use Rattle.std.proofs.Common.{◌≡◌, ◌==◌, ℕ, zero, suc, ◌+◌, Bool, if◌then◌else◌, List, [], length, replicate, Ok, refl, sym, ap, ◌∙◌, inl, inr}
-use Rattle.q3_bits.specs.ResultBind.{bind_ok, left_of, left_ok, bind_alike, bind_after, if_alike, map_err_alike}
+use Rattle.q3_bits.specs.ResultBind.{left_of}
+use Rattle.q3_bits.proofs.Binds.{bind_ok, left_ok, bind_alike, bind_after, if_alike, map_err_alike}
 use Rattle.q3_bits.specs.Words.{field_at}
 use Rattle.q3_fields.specs.declared.delta.StateKind.TheVariants.{Entity}
 use Rattle.q3_fields.specs.Kinds.{Layout, IsTable, end_mark}

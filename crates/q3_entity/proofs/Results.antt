@@ -2,7 +2,7 @@
 use Rattle.std.proofs.Common.{◌≡◌, ℕ, ◌^◌, ◌<◌, ◌≤◌, Bool, true, false, cond, ltb, List, ◌++◌, Result, Ok, Err, refl, subst, arith}
 use Rattle.std.proofs.lemmas.Bool.{ltb-false, le-ltb}
 use Rattle.std.proofs.lemmas.Nat.{pow_pos}
-use Rattle.q3_bits.specs.ResultBind.{bind_ok, map_err_ok}
+use Rattle.q3_bits.proofs.Binds.{bind_ok, map_err_ok}
 use Rattle.q3_bits.specs.Words.{IsCode, field_bits, field_at}
 use Rattle.q3_bits.specs.Laws.{ReadWasPut, PutIsRead}
 use Rattle.q3_fields.specs.Kinds.{Layout, end_mark}

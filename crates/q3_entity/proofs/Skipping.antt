@@ -1,7 +1,8 @@
 -- A list that is passed over, turn by turn.
 use Rattle.std.proofs.Common.{◌≡◌, ℕ, zero, suc, ◌+◌, ◌-◌, ◌<◌, ◌≤◌, Bool, List, Result, Ok, Err, refl, sym, ◌∙◌, arith, replicate, inl, inr}
 use Rattle.std.proofs.lemmas.Bool.{cases_eq, eq-eqb, ne_eqb}
-use Rattle.q3_bits.specs.ResultBind.{◌>>=◌, bind_same, bind_assoc}
+use Rattle.q3_bits.specs.ResultBind.{◌>>=◌}
+use Rattle.q3_bits.proofs.Binds.{bind_same, bind_assoc}
 use Rattle.q3_fields.specs.Kinds.{Layout, end_mark}
 use Rattle.q3_entity.specs.declared.error.EntityError.{EntityError}
 use Rattle.q3_entity.specs.Delta.{entity_at}

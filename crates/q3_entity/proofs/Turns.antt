@@ -2,7 +2,8 @@
 use Rattle.std.proofs.Common.{◌≡◌, ◌≢◌, ℕ, zero, suc, ◌+◌, ◌-◌, ◌<◌, ◌≤◌, Bool, true, false, List, [], ◌∷◌, ◌++◌, length, take, Option, Result, Ok, Err, refl, sym, ap, subst, ◌∙◌, arith, ltb, cond, inl, inr}
 use Rattle.std.proofs.lemmas.Bool.{cases_eq, cases_lt, eq-eqb, ne_eqb, cases_Bool, lt-ltb, le-ltb, ltb-false}
 use Rattle.std.specs.Option.{is_some}
-use Rattle.q3_bits.specs.ResultBind.{◌>>=◌, bind_ok, bind_same, bind_assoc}
+use Rattle.q3_bits.specs.ResultBind.{◌>>=◌}
+use Rattle.q3_bits.proofs.Binds.{bind_ok, bind_same, bind_assoc}
 use Rattle.q3_fields.specs.Kinds.{Layout, end_mark}
 use Rattle.q3_entity.specs.declared.state.EntityState.{EntityState}
 use Rattle.q3_entity.specs.declared.error.EntityError.{EntityError}

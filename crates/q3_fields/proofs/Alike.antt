@@ -1,6 +1,7 @@
 -- What is read over other words ends at the same place, or is refused in the same way.
 use Rattle.std.proofs.Common.{◌≡◌, ◌==◌, ℕ, Bool, nat_lt, if◌then◌else◌, List, [], ◌∷◌, length, take, Ok, Err, refl, arith}
-use Rattle.q3_bits.specs.ResultBind.{◌>>=◌, left_of, bind_alike, bind_after, if_alike, map_err_alike}
+use Rattle.q3_bits.specs.ResultBind.{◌>>=◌, left_of}
+use Rattle.q3_bits.proofs.Binds.{bind_alike, bind_after, if_alike, map_err_alike}
 use Rattle.q3_bits.specs.Words.{field_at}
 use Rattle.q3_fields.specs.declared.kind.Kind.{Kind}
 use Rattle.q3_fields.specs.declared.delta.StateKind.{StateKind}

@@ -1,7 +1,8 @@
 -- The fields that a loop reads, of which those that didn't change are passed over in runs.
 use Rattle.std.proofs.Common.{◌≡◌, ℕ, zero, suc, ◌+◌, ◌-◌, ◌≤◌, ◌<◌, Bool, true, false, List, [], ◌∷◌, length, take, drop, Some, slice_get, Result, Ok, Err, refl, sym, ap, ◌∙◌, arith}
 use Rattle.std.proofs.lemmas.List.{drop_more, drop-drop, length-drop, length-take-le}
-use Rattle.q3_bits.specs.ResultBind.{◌>>=◌, bind_ok}
+use Rattle.q3_bits.specs.ResultBind.{◌>>=◌}
+use Rattle.q3_bits.proofs.Binds.{bind_ok}
 use Rattle.q3_bits.specs.Words.{run_at}
 use Rattle.q3_bits.specs.Laws.{MarksAreBits}
 use Rattle.q3_bits.specs.InPlace.{ListRead, with_front, with_first}

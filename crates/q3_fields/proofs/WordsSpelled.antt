@@ -3,7 +3,7 @@ use Rattle.std.proofs.Common.{◌≡◌, ℕ, ◌^◌, ◌≤◌, ◌<◌, Bool,
 use Rattle.std.proofs.lemmas.Bool.{ltb-false, le-ltb}
 use Rattle.std.proofs.lemmas.List.{length-take-le}
 use Rattle.std.proofs.lemmas.List.Elements.{All-take}
-use Rattle.q3_bits.specs.ResultBind.{bind_ok}
+use Rattle.q3_bits.proofs.Binds.{bind_ok}
 use Rattle.q3_bits.specs.Words.{field_bits, field_at}
 use Rattle.q3_bits.specs.Laws.{ReadWasPut, PutIsRead}
 use Rattle.q3_fields.specs.declared.kind.Kind.{Kind}

@@ -2,9 +2,10 @@
 use Rattle.std.proofs.Common.{◌≡◌, ℕ, Bool, true, cond, List, [], ◌∷◌, ◌++◌, length, Option, Some, None, IsSome, Result, Ok, Err, refl, sym, ap, subst, ◌∙◌, append_assoc, inl, inr}
 use Rattle.std.specs.Option.{is_some}
 use Rattle.std.proofs.lemmas.Bool.{cases_Bool}
-use Rattle.q3_bits.specs.ResultBind.{◌>>=◌, bind_ok}
+use Rattle.q3_bits.specs.ResultBind.{◌>>=◌}
+use Rattle.q3_bits.proofs.Binds.{bind_ok}
 use Rattle.q3_bits.specs.Words.{row_bits}
-use Rattle.q3_strings.specs.Rows.{WasField, row-none, row-after}
+use Rattle.q3_strings.proofs.FieldRows.{WasField, row-none, row-after}
 use Rattle.q3_entity.specs.Baselines.{Baselines, no_baselines}
 use Rattle.q3_entity.specs.Laws.{NoneAreBaselines}
 use Rattle.q3_config.specs.Strings.{Strings, no_strings, server_id}

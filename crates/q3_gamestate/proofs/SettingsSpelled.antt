@@ -4,13 +4,14 @@ use Rattle.std.specs.List.{All}
 use Rattle.std.proofs.lemmas.Bool.{cases_Bool, eqb-true, eqb-false}
 use Rattle.std.proofs.lemmas.Bool.Decides.{nat_tests}
 use Rattle.std.proofs.lemmas.List.{length-append, length-map}
-use Rattle.q3_bits.specs.ResultBind.{◌>>=◌, fault_as, bind_ok, map_err_ok}
+use Rattle.q3_bits.specs.ResultBind.{◌>>=◌, fault_as}
+use Rattle.q3_bits.proofs.Binds.{bind_ok, map_err_ok}
 use Rattle.q3_bits.specs.Words.{IsCode, row_bits, field_at, field_bits}
 use Rattle.q3_bits.specs.Laws.{ReadWasPut}
 use Rattle.q3_text.specs.Texts.{IsTextByte}
 use Rattle.q3_strings.specs.Reading.{bounded_string_at}
 use Rattle.q3_strings.specs.Spelling.{SpellsString}
-use Rattle.q3_strings.specs.Rows.{row-none, row-after}
+use Rattle.q3_strings.proofs.FieldRows.{row-none, row-after}
 use Rattle.q3_strings.specs.Laws.{StringReadIsSpelled}
 use Rattle.q3_fields.specs.Kinds.{IsTable, end_mark}
 use Rattle.q3_fields.specs.States.{AreWords}

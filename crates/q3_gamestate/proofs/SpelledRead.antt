@@ -5,7 +5,7 @@ use Rattle.std.proofs.lemmas.Bool.Decides.{nat_tests}
 use Rattle.std.proofs.lemmas.List.{length-append}
 use Rattle.q3_bits.specs.Words.{IsCode, row_bits}
 use Rattle.q3_strings.specs.Spelling.{SpellsString}
-use Rattle.q3_strings.specs.Rows.{row-after, row-first, row-last}
+use Rattle.q3_strings.proofs.FieldRows.{row-after, row-first, row-last}
 use Rattle.q3_fields.specs.Kinds.{end_mark}
 use Rattle.q3_entity.specs.declared.state.EntityState.{EntityState}
 use Rattle.q3_entity.specs.Baselines.{Baselines, no_baselines, with_baseline}

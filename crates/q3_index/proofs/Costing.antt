@@ -1,6 +1,7 @@
 -- What a seek asks of the demo: no more than the records have that it plays.
 use Rattle.std.proofs.Common.{◌≡◌, ◌≢◌, ℕ, zero, suc, ◌+◌, ◌-◌, ◌*◌, ◌/◌, ◌<◌, ◌≤◌, Bool, IsTrue, List, length, drop, Option, Some, None, Result, Ok, Err, refl, sym, ap, subst, ◌∙◌, arith}
-use Rattle.q3_bits.specs.ResultBind.{◌>>=◌, bind_ok, bind_is, map_err_ok}
+use Rattle.q3_bits.specs.ResultBind.{◌>>=◌}
+use Rattle.q3_bits.proofs.Binds.{bind_ok, bind_is, map_err_ok}
 use Rattle.q3_io.specs.Told.{Told, contents_at}
 use Rattle.q3_profile.specs.declared.profile.Profile.{Profile}
 use Rattle.q3_clstate.specs.State.{AppliedState}

@@ -4,7 +4,8 @@ use Rattle.std.specs.Prelude.{nat_lt, nat_le, ◌&&◌, if◌then◌else◌}
 use Rattle.std.proofs.lemmas.Bool.{cond_both, and_parts, leb-true}
 use Rattle.std.proofs.lemmas.List.{length-drop, drop-drop}
 use Rattle.byteorder.specs.Endian.{little_number}
-use Rattle.q3_bits.specs.ResultBind.{◌>>=◌, bind_ok, bind_is}
+use Rattle.q3_bits.specs.ResultBind.{◌>>=◌}
+use Rattle.q3_bits.proofs.Binds.{bind_ok, bind_is}
 use Rattle.q3_savestate.specs.Cursor.{Cursor, Field, cursor_after, field_at, number_at}
 use Rattle.q3_index.specs.declared.index.Checkpoint.{Checkpoint}
 use Rattle.q3_index.specs.declared.opening.Head.{Head}

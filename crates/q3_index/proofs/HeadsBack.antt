@@ -3,7 +3,8 @@ use Rattle.std.proofs.Common.{◌≡◌, ℕ, zero, suc, ◌+◌, ◌/◌, ◌^�
 use Rattle.std.specs.List.{flat_map, slice_get}
 use Rattle.std.proofs.lemmas.List.{append-nil, take_at, drop_at}
 use Rattle.byteorder.specs.Endian.{little_bytes}
-use Rattle.q3_bits.specs.ResultBind.{◌>>=◌, bind_is}
+use Rattle.q3_bits.specs.ResultBind.{◌>>=◌}
+use Rattle.q3_bits.proofs.Binds.{bind_is}
 use Rattle.q3_fields.specs.Kinds.{HasNumberBits, least_number_bits, most_number_bits}
 use Rattle.q3_profile.specs.declared.profile.Profile.{Profile}
 use Rattle.q3_savestate.specs.Cursor.{Cursor}

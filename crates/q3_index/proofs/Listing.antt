@@ -2,7 +2,8 @@
 use Rattle.std.proofs.Common.{◌≡◌, ℕ, suc, ◌+◌, ◌-◌, ◌*◌, ◌<◌, ◌≤◌, true, false, List, [], ◌∷◌, ◌++◌, length, drop, Option, Some, None, Result, Ok, Err, refl, sym, ap, ◌∙◌, append_assoc, arith, eq-eqb, ne_eqb}
 use Rattle.std.specs.Prelude.{◌==◌, ◌^◌, SomeIff}
 use Rattle.std.proofs.lemmas.List.{append-nil, length-drop}
-use Rattle.q3_bits.specs.ResultBind.{◌>>=◌, bind_assoc, bind_is}
+use Rattle.q3_bits.specs.ResultBind.{◌>>=◌}
+use Rattle.q3_bits.proofs.Binds.{bind_assoc, bind_is}
 use Rattle.q3_io.specs.Told.{Told, contents_at}
 use Rattle.q3_demo.specs.Running.{OnlyAsks}
 use Rattle.q3_savestate.specs.Cursor.{Cursor, Field, field_at, number_at, end_at}

@@ -3,7 +3,8 @@ use Rattle.std.proofs.Common.{◌≡◌, ◌≢◌, ℕ, true, false, List, leng
 use Rattle.std.specs.Prelude.{◌⊎◌, ◌==◌, ◌&&◌}
 use Rattle.std.proofs.lemmas.Bool.{and_left, and_right, and_from}
 use Rattle.std.proofs.Common.{inl, inr}
-use Rattle.q3_bits.specs.ResultBind.{◌>>=◌, fault_as, bind_is}
+use Rattle.q3_bits.specs.ResultBind.{◌>>=◌, fault_as}
+use Rattle.q3_bits.proofs.Binds.{bind_is}
 use Rattle.q3_io.specs.Told.{Told, Measures, contents_at}
 use Rattle.q3_demo.specs.Running.{OnlyAsks}
 use Rattle.q3_savestate.specs.Cursor.{Cursor, Field}

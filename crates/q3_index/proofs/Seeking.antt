@@ -1,6 +1,7 @@
 -- Records are played one by one, as many as are sought.
 use Rattle.std.proofs.Common.{◌≡◌, ℕ, suc, ◌+◌, ◌-◌, ◌<◌, ◌≤◌, List, Option, Some, Result, Ok, Err, refl, sym, ap, subst, ◌∙◌, lt-ltb, le-ltb, arith}
-use Rattle.q3_bits.specs.ResultBind.{◌>>=◌, fault_as, bind_assoc, map_err_ok}
+use Rattle.q3_bits.specs.ResultBind.{◌>>=◌, fault_as}
+use Rattle.q3_bits.proofs.Binds.{bind_assoc, map_err_ok}
 use Rattle.q3_io.specs.Told.{Told, contents_at}
 use Rattle.q3_profile.specs.declared.profile.Profile.{Profile}
 use Rattle.q3_clstate.specs.State.{AppliedState}

@@ -3,7 +3,8 @@ use Rattle.std.proofs.Common.{◌≡◌, ℕ, ◌+◌, ◌-◌, ◌*◌, ◌/◌
 use Rattle.std.specs.List.{flat_map}
 use Rattle.std.proofs.lemmas.Bool.{cases_lt, eq-eqb, lt-ltb, le-ltb}
 use Rattle.std.proofs.lemmas.List.{append-nil}
-use Rattle.q3_bits.specs.ResultBind.{fault_as, bind_ok, bind_is}
+use Rattle.q3_bits.specs.ResultBind.{fault_as}
+use Rattle.q3_bits.proofs.Binds.{bind_ok, bind_is}
 use Rattle.q3_profile.specs.declared.profile.Profile.{Profile}
 use Rattle.q3_profile.specs.Profile.{IsCodec}
 use Rattle.q3_entity.specs.Entities.{most_entities}

@@ -1,7 +1,8 @@
 -- A player plays one record after the other.
 use Rattle.std.proofs.Common.{◌≡◌, ℕ, ◌+◌, List, ◌++◌, drop, replicate, Option, Some, Result, Ok, sym, ap, ◌∙◌}
 use Rattle.std.proofs.lemmas.List.{drop_at, length-replicate}
-use Rattle.q3_bits.specs.ResultBind.{fault_as, bind_ok, map_err_ok}
+use Rattle.q3_bits.specs.ResultBind.{fault_as}
+use Rattle.q3_bits.proofs.Binds.{bind_ok, map_err_ok}
 use Rattle.q3_clstate.specs.State.{Application, apply_at}
 use Rattle.q3_clstate.specs.declared.applied.Applied.{Applied}
 use Rattle.q3_demo.specs.declared.error.DemoError.{DemoError}

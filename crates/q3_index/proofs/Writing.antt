@@ -5,7 +5,7 @@ use Rattle.std.specs.List.{flat_map}
 use Rattle.std.proofs.lemmas.Bool.{cond_both, eq-eqb, ne_eqb, eqb-true, eqb-false}
 use Rattle.std.proofs.lemmas.List.{append-nil}
 use Rattle.std.proofs.lemmas.List.Elements.{All-weaker}
-use Rattle.q3_bits.specs.ResultBind.{map_err_ok}
+use Rattle.q3_bits.proofs.Binds.{map_err_ok}
 use Rattle.q3_io.specs.Told.{Told, contents_at, name_of}
 use Rattle.q3_entity.specs.Entities.{most_entities}
 use Rattle.q3_profile.specs.declared.profile.Profile.{Profile}

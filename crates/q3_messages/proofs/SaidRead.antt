@@ -7,7 +7,7 @@ use Rattle.q3_bits.specs.Words.{IsCode, row_bits}
 use Rattle.q3_bits.specs.Laws.{PutIsRead, MessageHoldsBits}
 use Rattle.q3_bits.specs.declared.reader.ReadError.{ReadError}
 use Rattle.q3_strings.specs.Commands.{commands_bits}
-use Rattle.q3_strings.specs.Rows.{row-first, row-last}
+use Rattle.q3_strings.proofs.FieldRows.{row-first, row-last}
 use Rattle.q3_window.specs.declared.outgoing.BadAck.{BadAck}
 use Rattle.q3_window.specs.Outgoing.{acknowledge_at, text_at}
 use Rattle.q3_chan.specs.declared.side.Side.TheVariants.{Client}

@@ -2,7 +2,8 @@
 use Rattle.std.proofs.Common.{◌≡◌, ◌==◌, ◌%◌, ◌/◌, ℕ, Bool, if◌then◌else◌, List, [], ◌∷◌, length, map, Ok, refl, sym, ◌∙◌, arith}
 use Rattle.std.proofs.lemmas.List.{length-map}
 use Rattle.std.specs.Int.{w32, cast_unsigned}
-use Rattle.q3_bits.specs.ResultBind.{◌>>=◌, left_of, bind_alike, bind_after, if_alike, map_err_alike}
+use Rattle.q3_bits.specs.ResultBind.{◌>>=◌, left_of}
+use Rattle.q3_bits.proofs.Binds.{bind_alike, bind_after, if_alike, map_err_alike}
 use Rattle.q3_bits.specs.Words.{field_at}
 use Rattle.q3_fields.specs.declared.kind.Kind.{Kind}
 use Rattle.q3_fields.specs.declared.delta.StateKind.TheVariants.{Player}

@@ -1,6 +1,7 @@
 -- The arrays, read one after the other.
 use Rattle.std.proofs.Common.{◌≡◌, ℕ, Bool, List, Result, Ok, Err, refl, sym, ap, ◌∙◌}
-use Rattle.q3_bits.specs.ResultBind.{◌>>=◌, bind_ok}
+use Rattle.q3_bits.specs.ResultBind.{◌>>=◌}
+use Rattle.q3_bits.proofs.Binds.{bind_ok}
 use Rattle.q3_bits.specs.Streams.{with_rest, holding}
 use Rattle.q3_bits.specs.InPlace.{ListRead}
 use Rattle.q3_bits.specs.declared.reader.ReadError.{ReadError}

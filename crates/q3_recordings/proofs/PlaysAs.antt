@@ -4,7 +4,8 @@ use Rattle.std.specs.Prelude.{nat_lt, ◌==◌, ◌&&◌, if◌then◌else◌}
 use Rattle.std.proofs.lemmas.Bool.{cases_lt, lt-ltb, cond_both, lt-leb, ltb-true, ltb-false, eqb-true}
 use Rattle.std.specs.Result.{result_ok}
 use Rattle.q3_bits.specs.Bits.{bits_of}
-use Rattle.q3_bits.specs.ResultBind.{◌>>=◌, bind_ok}
+use Rattle.q3_bits.specs.ResultBind.{◌>>=◌}
+use Rattle.q3_bits.proofs.Binds.{bind_ok}
 use Rattle.q3_text.specs.declared.text.Command.{Command}
 use Rattle.q3_window.specs.Incoming.{IncomingState, fresh_of, executing_all, executes, jump_at, new_incoming}
 use Rattle.q3_config.specs.Strings.{Strings}

@@ -4,7 +4,7 @@ use Rattle.std.specs.Prelude.{◌&&◌, not, nat_lt, nat_le, if◌then◌else◌
 use Rattle.std.proofs.lemmas.Bool.{cond_both, leb-true, and_parts}
 use Rattle.std.proofs.lemmas.List.{length-append}
 use Rattle.q3_bits.specs.Bits.{bits_of, message_bytes, message_length}
-use Rattle.q3_bits.specs.ResultBind.{bind_ok}
+use Rattle.q3_bits.proofs.Binds.{bind_ok}
 use Rattle.q3_window.specs.Outgoing.{OutgoingState, most_waiting, most_text, last_number, total_of, issued_of, fits, issue_at, Issuing}
 use Rattle.q3_profile.specs.declared.profile.Profile.{Profile}
 use Rattle.q3_profile.specs.Profile.{IsCodec}

@@ -6,7 +6,8 @@ use Rattle.std.proofs.lemmas.List.{append-nil, append_assoc, length-append, leng
 use Rattle.std.proofs.lemmas.List.Elements.{All-cons, All-head, All-nil, All-tail, filter_map-append}
 use Rattle.std.proofs.lemmas.Option.{IfSome_then}
 use Rattle.byteorder.specs.Endian.{little_bytes}
-use Rattle.q3_bits.specs.ResultBind.{◌>>=◌, bind_ok}
+use Rattle.q3_bits.specs.ResultBind.{◌>>=◌}
+use Rattle.q3_bits.proofs.Binds.{bind_ok}
 use Rattle.q3_fields.specs.Kinds.{Layout, IsTable, end_mark}
 use Rattle.q3_fields.specs.States.{AreWords}
 use Rattle.q3_entity.specs.declared.state.EntityState.{EntityState}

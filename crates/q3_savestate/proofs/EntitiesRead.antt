@@ -2,7 +2,8 @@
 use Rattle.std.proofs.Common.{◌≡◌, ℕ, suc, ◌+◌, ◌-◌, ◌^◌, ◌<◌, ◌≤◌, List, [], ◌∷◌, ◌++◌, length, Option, Some, None, Ok, Err, refl, sym, ap, ◌∙◌, subst, append_assoc, arith}
 use Rattle.std.specs.Prelude.{MatchOption, option_map}
 use Rattle.std.proofs.lemmas.List.{append-nil, length-append}
-use Rattle.q3_bits.specs.ResultBind.{◌>>=◌, bind_ok}
+use Rattle.q3_bits.specs.ResultBind.{◌>>=◌}
+use Rattle.q3_bits.proofs.Binds.{bind_ok}
 use Rattle.q3_fields.specs.Kinds.{Layout, end_mark}
 use Rattle.q3_entity.specs.declared.state.EntityState.{EntityState}
 use Rattle.q3_entity.specs.Entities.{RiseFrom, Rises, most_entities}

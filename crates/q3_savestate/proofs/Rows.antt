@@ -1,7 +1,8 @@
 -- Rows of reads: what was written one after another is read so, and what was read so was written.
 use Rattle.std.proofs.Common.{◌≡◌, ℕ, ◌+◌, List, [], ◌++◌, append_assoc, sym, refl, ap, subst, ◌∙◌}
 use Rattle.std.specs.Prelude.{◌<◌, All, Result, Ok}
-use Rattle.q3_bits.specs.ResultBind.{◌>>=◌, bind_ok, bind_is}
+use Rattle.q3_bits.specs.ResultBind.{◌>>=◌}
+use Rattle.q3_bits.proofs.Binds.{bind_ok, bind_is}
 use Rattle.q3_savestate.specs.Cursor.{Cursor, Field}
 use Rattle.q3_savestate.proofs.Fields.{Took, took_none, took_both, carried}
 

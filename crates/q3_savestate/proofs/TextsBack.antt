@@ -8,7 +8,8 @@ use Rattle.std.proofs.lemmas.List.Sums.{sum-map, sum_by-append, sum_by-cons}
 use Rattle.std.proofs.lemmas.List.Folds.{sum_by-replicate}
 use Rattle.std.proofs.lemmas.Option.{IfSome_then}
 use Rattle.byteorder.specs.Endian.{little_bytes}
-use Rattle.q3_bits.specs.ResultBind.{◌>>=◌, bind_ok}
+use Rattle.q3_bits.specs.ResultBind.{◌>>=◌}
+use Rattle.q3_bits.proofs.Binds.{bind_ok}
 use Rattle.q3_text.specs.Texts.{IsTextByte}
 use Rattle.q3_config.specs.Strings.{Pending, Strings, AreStrings, places, longest_string, most_size, size_of, config_size}
 use Rattle.q3_config.specs.Laws.{HoldTexts}

@@ -3,7 +3,8 @@ use Rattle.std.proofs.Common.{◌≡◌, ℕ, ◌+◌, ◌-◌, ◌<◌, ◌≤�
 use Rattle.std.specs.Prelude.{slice_get}
 use Rattle.std.proofs.lemmas.List.{take_more_set, drop_more, drop_all, drop-set-lt, take-append-drop, append-nil, drop-drop, drop-replicate, length-take-le}
 use Rattle.std.proofs.lemmas.Option.{get_or_from_slice_get}
-use Rattle.q3_bits.specs.ResultBind.{◌>>=◌, bind_is}
+use Rattle.q3_bits.specs.ResultBind.{◌>>=◌}
+use Rattle.q3_bits.proofs.Binds.{bind_is}
 use Rattle.q3_fields.specs.declared.kind.Kind.{Kind}
 use Rattle.q3_savestate.specs.Cursor.{Cursor, Field}
 use Rattle.q3_savestate.proofs.Ranges.{refused}

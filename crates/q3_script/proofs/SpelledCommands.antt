@@ -9,7 +9,8 @@ use Rattle.q3_text.specs.Texts.{IsText}
 use Rattle.q3_text.proofs.Translation.{texts}
 use Rattle.q3_script.specs.declared.event.Event.{Event}
 use Rattle.q3_script.specs.declared.event.Event.TheVariants.{Config, Say, TypeText}
-use Rattle.q3_bits.specs.ResultBind.{◌>>=◌, bind_ok}
+use Rattle.q3_bits.specs.ResultBind.{◌>>=◌}
+use Rattle.q3_bits.proofs.Binds.{bind_ok}
 use Rattle.q3_words.specs.Quotes.{bytes_word, text_word, most_config, SpellsBytes, SpellsText}
 use Rattle.q3_words.specs.Numbers.{last_client, number_word, client_word}
 use Rattle.q3_script.specs.Lines.{config_at, config_line, command_at, say_line, type_line}

@@ -26,7 +26,8 @@ use Rattle.q3_words.specs.declared.cause.LineCause.{LineCause}
 use Rattle.q3_words.specs.declared.cause.LineCause.TheVariants as causes
 use Rattle.q3_script.specs.declared.cause.ScriptKind.{ScriptKind}
 use Rattle.q3_script.specs.declared.cause.ScriptKind.TheVariants as kinds
-use Rattle.q3_bits.specs.ResultBind.{◌>>=◌, bind_ok}
+use Rattle.q3_bits.specs.ResultBind.{◌>>=◌}
+use Rattle.q3_bits.proofs.Binds.{bind_ok}
 use Rattle.q3_words.specs.Words.{words_of, words_left}
 use Rattle.q3_words.specs.Addresses.{address_at, SpellsAddress}
 use Rattle.q3_words.specs.Hex.{most_handed, area_at, handed_at, SpellsHex}

@@ -10,7 +10,8 @@ use Rattle.q3_words.specs.declared.cause.LineCause.{LineCause}
 use Rattle.q3_words.specs.declared.cause.LineCause.TheVariants.{Large, Many, Order}
 use Rattle.q3_script.specs.declared.cause.ScriptKind.{ScriptKind}
 use Rattle.q3_script.specs.declared.cause.ScriptError.{ScriptError}
-use Rattle.q3_bits.specs.ResultBind.{◌>>=◌, bind_ok}
+use Rattle.q3_bits.specs.ResultBind.{◌>>=◌}
+use Rattle.q3_bits.proofs.Binds.{bind_ok}
 use Rattle.q3_words.specs.Words.{words_of}
 use Rattle.q3_script.specs.Lines.{line_at}
 use Rattle.q3_script.specs.Script.{longest_script, most_events, lines_of, line_after, is_passed_over, BadLine, Course, no_course, event_at, course_after, is_complete, in_line, events_from, script_at, with_items, Reads}

@@ -1,3 +1,6 @@
+-- exported: proofs of crates above may cite these
+pub mod FieldRows
+-- for this crate alone
 mod Fronts
 mod Rows
 mod Spelled

@@ -5,7 +5,7 @@ use Rattle.std.proofs.lemmas.List.Elements.{All-head, All-tail}
 use Rattle.q3_bits.specs.Words.{row_bits}
 use Rattle.q3_strings.specs.Texts.{command_bits}
 use Rattle.q3_strings.specs.Commands.{commands_bits, nops_bits}
-use Rattle.q3_strings.specs.Rows.{row-none, row-empty, row-after}
+use Rattle.q3_strings.proofs.FieldRows.{row-none, row-empty, row-after}
 use Rattle.q3_strings.specs.Laws.{IsCommand, CommandIsSpelled, CommandsAreSpelled, NopIsSpelled, NopsAreNops}
 
 pub commands_are_spelled : CommandIsSpelled → CommandsAreSpelled

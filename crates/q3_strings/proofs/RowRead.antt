@@ -6,7 +6,7 @@ use Rattle.q3_bits.specs.Laws.{PutIsRead}
 use Rattle.q3_text.specs.declared.text.Command.{Command}
 use Rattle.q3_strings.specs.Commands.{nops_bits, SpellsCommands}
 use Rattle.q3_strings.specs.Operations.{row_at, ending_at}
-use Rattle.q3_strings.specs.Rows.{row-none, row-first, row-last}
+use Rattle.q3_strings.proofs.FieldRows.{row-none, row-first, row-last}
 use Rattle.q3_strings.specs.Laws.{CommandSpelledIsRead, TurnsAreTaken, RowSpelledIsRead, EndingSpelledIsRead}
 use Rattle.q3_strings.proofs.OperationTurns.{ending_done, ending_nop, row_nop, row_done, row_command}
 use Rattle.q3_strings.proofs.CommandRows.{more_is_read}

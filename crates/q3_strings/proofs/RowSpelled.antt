@@ -4,14 +4,15 @@ use Rattle.std.specs.List.{All}
 use Rattle.std.proofs.lemmas.Bool.{cases_Bool, eqb-true, eqb-false}
 use Rattle.std.proofs.lemmas.List.{length-append, append-nil}
 use Rattle.std.proofs.lemmas.List.Elements.{All-nil, All-cons}
-use Rattle.q3_bits.specs.ResultBind.{◌>>=◌, fault_as, bind_ok, map_err_ok}
+use Rattle.q3_bits.specs.ResultBind.{◌>>=◌, fault_as}
+use Rattle.q3_bits.proofs.Binds.{bind_ok, map_err_ok}
 use Rattle.q3_bits.specs.Words.{IsCode, row_bits, field_at}
 use Rattle.q3_bits.specs.Laws.{ReadWasPut}
 use Rattle.q3_text.specs.declared.text.Command.{Command}
 use Rattle.q3_strings.specs.declared.error.OperationError.TheVariants.{Bits, BadOp}
 use Rattle.q3_strings.specs.Commands.{nops_bits, SpellsCommands}
 use Rattle.q3_strings.specs.Operations.{Row, commands_at, row_at, ending_at}
-use Rattle.q3_strings.specs.Rows.{row-none, row-empty, field_was_put}
+use Rattle.q3_strings.proofs.FieldRows.{row-none, row-empty, field_was_put}
 use Rattle.q3_strings.specs.Laws.{IsCommand, CommandReadIsSpelled, NopIsSpelled, RowReadIsSpelled, EndingReadIsSpelled}
 use Rattle.q3_strings.proofs.CommandRows.{ReadMore, more_was_spelled}
 

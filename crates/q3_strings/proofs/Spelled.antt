@@ -4,7 +4,8 @@ use Rattle.std.specs.List.{All}
 use Rattle.std.proofs.lemmas.Bool.{cases_Bool, eqb-true, eqb-false}
 use Rattle.std.proofs.lemmas.List.{length-map}
 use Rattle.std.proofs.lemmas.List.Elements.{All-nil, All-cons, All-head, All-tail}
-use Rattle.q3_bits.specs.ResultBind.{◌>>=◌, fault_as, bind_ok, map_err_ok}
+use Rattle.q3_bits.specs.ResultBind.{◌>>=◌, fault_as}
+use Rattle.q3_bits.proofs.Binds.{bind_ok, map_err_ok}
 use Rattle.q3_bits.specs.Words.{IsCode, row_bits, field_at}
 use Rattle.q3_bits.specs.Laws.{PutIsRead, ReadWasPut}
 use Rattle.q3_bits.specs.declared.reader.ReadError.{ReadError}
@@ -15,7 +16,7 @@ use Rattle.q3_strings.specs.declared.error.StringError.TheVariants.{Bits, Long}
 use Rattle.q3_strings.specs.Texts.{bytes_row, string_bits}
 use Rattle.q3_strings.specs.Reading.{string_bytes_at, bounded_string_at, command_at}
 use Rattle.q3_strings.specs.Spelling.{SpellsString, SpellsCommand}
-use Rattle.q3_strings.specs.Rows.{row-none, WasField, field_was_put, row-first, row-last}
+use Rattle.q3_strings.proofs.FieldRows.{row-none, WasField, field_was_put, row-first, row-last}
 use Rattle.q3_strings.specs.Laws.{IsCommand, BytesWerePut, BytesAreRead, StringReadIsSpelled, StringSpelledIsRead, CommandReadIsSpelled, CommandSpelledIsRead}
 use Rattle.q3_strings.proofs.Fronts.{Read, with_front, isnt_zero, translated_is_text, bytes_none, bytes_more, string_end, string_more}
 

@@ -2,7 +2,6 @@ pub mod Texts
 pub mod Reading
 pub mod Spelling
 pub mod Commands
-pub mod Rows
 pub mod Turns
 pub mod Operations
 pub mod Laws

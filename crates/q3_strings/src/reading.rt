@@ -75,6 +75,7 @@ pub fn read_text(r: &mut Reader, into: &mut Text) -> Result<(), StringError>
         }
         into.set(place, byte);
     }
+    // and then after them, as far as there is room
     for _ in into.len()..LONGEST_TEXT {
         let byte = own.get_byte()?;
         if byte == 0 {

@@ -3,12 +3,13 @@ use Rattle.std.proofs.Common.{◌≡◌, ◌<◌, ◌≤◌, ℕ, Bool, false, c
 use Rattle.std.specs.List.{All}
 use Rattle.std.proofs.lemmas.Bool.{cases_Bool}
 use Rattle.std.proofs.lemmas.Bool.Decides.{nat_tests}
-use Rattle.q3_bits.specs.ResultBind.{fault_as, bind_ok, map_err_ok}
+use Rattle.q3_bits.specs.ResultBind.{fault_as}
+use Rattle.q3_bits.proofs.Binds.{bind_ok, map_err_ok}
 use Rattle.q3_bits.specs.Words.{IsCode, row_bits}
 use Rattle.q3_bits.specs.Laws.{PutIsRead, ReadWasPut}
 use Rattle.q3_strings.specs.Texts.{bytes_row}
 use Rattle.q3_strings.specs.Reading.{string_bytes_at}
-use Rattle.q3_strings.specs.Rows.{row-none, row-last}
+use Rattle.q3_strings.proofs.FieldRows.{row-none, row-last}
 use Rattle.q3_strings.specs.Laws.{BytesWerePut, BytesAreRead}
 use Rattle.q3_svmsg.specs.declared.error.Illegible.TheVariants.{Bits, Area}
 use Rattle.q3_svmsg.specs.Reading.{field_read, area_at}

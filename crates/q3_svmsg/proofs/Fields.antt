@@ -1,9 +1,9 @@
 -- Fields of a message that were read.
 use Rattle.std.proofs.Common.{◌≡◌, ℕ, Bool, List, Ok}
-use Rattle.q3_bits.specs.ResultBind.{map_err_ok}
+use Rattle.q3_bits.proofs.Binds.{map_err_ok}
 use Rattle.q3_bits.specs.Words.{IsCode, field_at}
 use Rattle.q3_bits.specs.Laws.{ReadWasPut}
-use Rattle.q3_strings.specs.Rows.{WasField, field_was_put}
+use Rattle.q3_strings.proofs.FieldRows.{WasField, field_was_put}
 use Rattle.q3_svmsg.specs.declared.error.Illegible.TheVariants.{Bits}
 use Rattle.q3_svmsg.specs.Reading.{field_read}
 

@@ -1,6 +1,7 @@
 -- The section with a gamestate: its text, what is read of it, and what is spelled so.
 use Rattle.std.proofs.Common.{◌≡◌, ℕ, Bool, List, Ok, None, refl, subst, arith, inl}
-use Rattle.q3_bits.specs.ResultBind.{fault_as, bind_ok, map_err_ok}
+use Rattle.q3_bits.specs.ResultBind.{fault_as}
+use Rattle.q3_bits.proofs.Binds.{bind_ok, map_err_ok}
 use Rattle.q3_entity.specs.Baselines.{Baselines}
 use Rattle.q3_profile.specs.declared.profile.Profile.{Profile}
 use Rattle.q3_profile.specs.Profile.{IsCodec}

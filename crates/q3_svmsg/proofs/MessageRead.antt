@@ -11,7 +11,7 @@ use Rattle.q3_svmsg.specs.Spelling.{SpellsSection}
 use Rattle.q3_svmsg.specs.Laws.{IsContext, SpelledIsRead}
 use Rattle.q3_strings.specs.Commands.{SpellsNops, SpellsCommands}
 use Rattle.q3_strings.specs.Operations.{ending_at}
-use Rattle.q3_strings.specs.Rows.{row-last, operations-parts}
+use Rattle.q3_strings.proofs.FieldRows.{row-last, operations-parts}
 use Rattle.q3_svmsg.proofs.Below.{IsRead}
 use Rattle.q3_svmsg.proofs.SectionSpelled.{ReadsSection, TakenSection, snapshot_is_read, skipped_is_read}
 use Rattle.q3_svmsg.proofs.Games.{game_is_read}

@@ -2,12 +2,13 @@
 use Rattle.std.proofs.Common.{◌≡◌, ◌<◌, ◌≤◌, ◌^◌, ℕ, Bool, eqb, List, [], ◌∷◌, ◌++◌, length, Ok, refl, sym, ap, subst, ◌∙◌, append_assoc, arith, inl, inr}
 use Rattle.std.specs.List.{All}
 use Rattle.std.proofs.lemmas.Bool.{cases_Bool, eqb-true}
-use Rattle.q3_bits.specs.ResultBind.{fault_as, bind_ok, map_err_ok}
+use Rattle.q3_bits.specs.ResultBind.{fault_as}
+use Rattle.q3_bits.proofs.Binds.{bind_ok, map_err_ok}
 use Rattle.q3_bits.specs.Words.{IsCode, row_bits}
 use Rattle.q3_text.specs.declared.text.Command.{Command}
 use Rattle.q3_strings.specs.Commands.{SpellsNops, SpellsCommands, SpellsEnding}
 use Rattle.q3_strings.specs.Operations.{Row, row_at, ending_at}
-use Rattle.q3_strings.specs.Rows.{row-none, row-empty}
+use Rattle.q3_strings.proofs.FieldRows.{row-none, row-empty}
 use Rattle.q3_strings.specs.Laws.{IsCommand, WasRow}
 use Rattle.q3_profile.specs.declared.profile.Profile.{Profile}
 use Rattle.q3_profile.specs.Profile.{IsCodec}

@@ -1,7 +1,8 @@
 -- What is read against a base is skipped where that base isn't held.
 use Rattle.std.proofs.Common.{◌≡◌, ◌<◌, ℕ, zero, suc, Bool, List, [], ◌++◌, Option, None, refl, sym, ap, subst, ◌∙◌, arith}
 use Rattle.std.proofs.lemmas.List.{append-nil}
-use Rattle.q3_bits.specs.ResultBind.{left_of, left_ok}
+use Rattle.q3_bits.specs.ResultBind.{left_of}
+use Rattle.q3_bits.proofs.Binds.{left_ok}
 use Rattle.q3_player.specs.declared.state.PlayerState.{PlayerState}
 use Rattle.q3_player.specs.declared.head.SnapHead.{SnapHead}
 use Rattle.q3_player.specs.State.{IsState, zero_player}

@@ -4,7 +4,7 @@ use Rattle.std.proofs.lemmas.Bool.Decides.{nat_tests}
 use Rattle.std.proofs.lemmas.List.{append-nil}
 use Rattle.q3_bits.specs.Words.{row_bits}
 use Rattle.q3_strings.specs.Commands.{commands_bits}
-use Rattle.q3_strings.specs.Rows.{row-empty}
+use Rattle.q3_strings.proofs.FieldRows.{row-empty}
 use Rattle.q3_player.specs.Delta.{player_delta}
 use Rattle.q3_entity.specs.Lists.{entity_list_bits}
 use Rattle.q3_profile.specs.declared.profile.Profile.{Profile}

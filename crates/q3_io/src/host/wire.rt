@@ -12,7 +12,7 @@ use std::marker::Model;
 use std::net::{IpAddr, Ipv4Addr, Net, SocketAddr, SocketAddrV4, UdpSocket};
 use std::time::Duration;
 
-/// A receive waits for so many milliseconds at most.
+/// A receive waits for so many milliseconds at most, which the system may round up to its clock.
 const WAITS: u64 = 1;
 
 /// A socket for datagrams over UDP, of IPv4. What goes to port 0 is lost: a datagram may come from there, but none can go back, and one
