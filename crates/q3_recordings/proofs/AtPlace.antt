@@ -2,10 +2,12 @@
 use Rattle.std.proofs.Common.{◌≡◌, ℕ, List, Option, Some, None, Result, Ok, Err, true, refl, sym, ap, subst, ◌∙◌, inl, inr, length}
 use Rattle.std.specs.Prelude.{◌==◌, ◌-◌, if◌then◌else◌, Bool, slice_get}
 use Rattle.std.specs.Option.{is_some}
-use Rattle.std.proofs.lemmas.Bool.{cases_eq, cond_both, eqb-true, eqb-false}
+use Rattle.std.proofs.lemmas.Bool.{cases_eq, cases_lt, cond_both, eqb-true, eqb-false}
 use Rattle.std.proofs.lemmas.List.{get_or-set_other, get_or-set_same}
 use Rattle.std.proofs.lemmas.Option.{none-some, same_Some}
+use Rattle.std.proofs.Math.ListN.{get_or-eq_default}
 use Rattle.std.proofs.Math.Seq.{set_out}
+use Rattle.q3_schedules.specs.Slots.{HaveSlots, SlotsAreKept}
 use Rattle.q3_profile.specs.declared.profile.Profile.{Profile}
 use Rattle.q3_clmsg.specs.declared.moves.Move.{Move}
 use Rattle.q3_script.specs.declared.event.Event.{Event}
@@ -26,7 +28,6 @@ use Rattle.q3_world.specs.Ends.{Ends, client_takes, hand_server_of, joined, line
 use Rattle.q3_ends.specs.ClientLine.{client_line, client_after, recording_after}
 use Rattle.q3_world.specs.Kept.{Kept, SentBytes, arrive_at, deliver_at, kept_line, kept_send, kept_step}
 use Rattle.q3_schedules.specs.Recorded.{bytes_for, sent_for, sent_to}
-use Rattle.q3_schedules.proofs.SlotsStay.{HaveSlots, joins, there, within}
 use Rattle.q3_recordings.proofs.Sound.{IsSound, Keeps}
 
 -- what is known of a client's calls
@@ -70,6 +71,13 @@ nobody_changes profile by {old} {new} same = record {
   stays = λ c place at. record { place = place; at = rw same at; becomes = same_client profile place.client };
   comes = λ c place none at. absurd (none-some place (sym none ∙ sym (ap (λ (clients : List (Option Place)). place_at (record old { clients = clients }) c) same) ∙ at));
 }
+
+-- what stands at a place where a client was
+there : (ends : Ends) (c : ℕ) (place now : Place) → place_at ends c ≡ Some place → place_at (with_place ends c now) c ≡ Some now
+there ends c place now at = elim (cases_lt c (length ends.clients)) [
+  | inl lt ↦ get_or-set_same ends.clients c (Some now) None lt
+  | inr ge ↦ absurd (none-some place (sym (get_or-eq_default ends.clients None ge) ∙ at))
+]
 
 -- a place of one who was there
 changes_at : (profile by : Profile) (ends : Ends) (d : ℕ) (old new : Place) (took : ℕ → Option (List ℕ)) → place_at ends d ≡ Some old → Becomes profile old.client (took d) new.client
@@ -135,7 +143,7 @@ joins_there profile by ends server d new (Ok x) is free have = record { stays = 
     ]
 
     at_it : (place : Place) → place_at ends d ≡ None → place_at (with_place (record ends { server = server }) d new) d ≡ Some place → IsNew by place.client
-    at_it place none at = elim (within (length ends.clients) d) [
+    at_it place none at = elim (cases_lt d (length ends.clients)) [
       | inl lt ↦ subst (λ (one : Place). IsNew by one.client) (same_Some new place (sym (get_or-set_same ends.clients d (Some new) None lt) ∙ at)) is
       | inr ge ↦ absurd (none-some place (sym none ∙ sym (ap (λ (clients : List (Option Place)). place_at (record ends { clients = clients }) d) (set_out ends.clients d (Some new) ge)) ∙ at))
     ]
@@ -196,35 +204,34 @@ hands_server profile by ends d bytes (Some place) = nobody_changes profile by re
 
 -- ---- every event
 
-goes_on : (profile : Profile) → ClientLaws profile → (kept : Kept) → HaveSlots kept.ends → (event : Event)
+goes_on : (slots : SlotsAreKept) (profile : Profile) → ClientLaws profile → (kept : Kept) → HaveSlots kept.ends → (event : Event)
     → GoesOn profile kept.profile kept.ends (kept_step kept event).kept.ends (λ c. bytes_for kept event c)
 unfolding kept_step line_of server_line
-goes_on profile laws kept have (events.Client d challenge qport dup address) =
+goes_on slots profile laws kept have (events.Client d challenge qport dup address) =
     let added = add_client_at kept.ends.server d challenge qport address in
-    let facts = joins kept.ends.server d challenge qport address in
     joins_there profile kept.profile kept.ends added.server d (record { client = new_client kept.profile challenge qport dup; address = address; recording = None }) added.answer
-    (record { challenge = challenge; qport = qport; dup = dup; is = refl }) facts.free have
-goes_on profile laws kept have (events.Port d port) = sets_port profile kept.profile kept.ends d port (place_at kept.ends d) refl
-goes_on profile laws kept have (events.TypeText d text) =
+    (record { challenge = challenge; qport = qport; dup = dup; is = refl }) (slots.free kept.ends.server d challenge qport address) have
+goes_on slots profile laws kept have (events.Port d port) = sets_port profile kept.profile kept.ends d port (place_at kept.ends d) refl
+goes_on slots profile laws kept have (events.TypeText d text) =
     does_line profile kept.profile kept.ends d (events.TypeText d text) (λ client recording. laws.types client text) (place_at kept.ends d) refl
-goes_on profile laws kept have (events.Move d one) =
+goes_on slots profile laws kept have (events.Move d one) =
     does_line profile kept.profile kept.ends d (events.Move d one) (λ client recording. laws.moves client one) (place_at kept.ends d) refl
-goes_on profile laws kept have (events.Send d) = sends_at profile kept.profile laws kept d (place_at kept.ends d) refl
-goes_on profile laws kept have (events.Deliver number) = delivers_at profile kept.profile kept.ends number (slice_get kept.datagrams (number - 1))
-goes_on profile laws kept have (events.RecordTo d name) =
+goes_on slots profile laws kept have (events.Send d) = sends_at profile kept.profile laws kept d (place_at kept.ends d) refl
+goes_on slots profile laws kept have (events.Deliver number) = delivers_at profile kept.profile kept.ends number (slice_get kept.datagrams (number - 1))
+goes_on slots profile laws kept have (events.RecordTo d name) =
     does_line profile kept.profile kept.ends d (events.RecordTo d name) (λ client recording. same_client profile client) (place_at kept.ends d) refl
-goes_on profile laws kept have (events.Stop d) =
+goes_on slots profile laws kept have (events.Stop d) =
     does_line profile kept.profile kept.ends d (events.Stop d) (λ client recording. same_client profile client) (place_at kept.ends d) refl
-goes_on profile laws kept have (events.Show d) =
+goes_on slots profile laws kept have (events.Show d) =
     does_line profile kept.profile kept.ends d (events.Show d) (λ client recording. same_client profile client) (place_at kept.ends d) refl
-goes_on profile laws kept have (events.Toclient d bytes) = takes_there profile kept.profile kept.ends d (fronts.Toclient d) bytes (place_at kept.ends d) refl
-goes_on profile laws kept have (events.Toserver d bytes) = hands_server profile kept.profile kept.ends d bytes (place_at kept.ends d)
-goes_on profile laws kept have event = nobody_changes profile kept.profile refl
+goes_on slots profile laws kept have (events.Toclient d bytes) = takes_there profile kept.profile kept.ends d (fronts.Toclient d) bytes (place_at kept.ends d) refl
+goes_on slots profile laws kept have (events.Toserver d bytes) = hands_server profile kept.profile kept.ends d bytes (place_at kept.ends d)
+goes_on slots profile laws kept have event = nobody_changes profile kept.profile refl
 
 -- a client that is there stays there
-pub goes_on_at : (profile : Profile) → ClientLaws profile → (kept : Kept) → HaveSlots kept.ends → (event : Event) (c : ℕ) (place : Place) → place_at kept.ends c ≡ Some place
+pub goes_on_at : (slots : SlotsAreKept) (profile : Profile) → ClientLaws profile → (kept : Kept) → HaveSlots kept.ends → (event : Event) (c : ℕ) (place : Place) → place_at kept.ends c ≡ Some place
     → GoesOnAt profile (kept_step kept event).kept.ends c place (bytes_for kept event c)
-goes_on_at profile laws kept have event = (goes_on profile laws kept have event).stays
+goes_on_at slots profile laws kept have event = (goes_on slots profile laws kept have event).stays
 
 -- one that comes there is new
 abbrev pub AllSound : Profile → Ends → Type 0
@@ -234,12 +241,12 @@ becomes_sound : (profile : Profile) → ClientLaws profile → (old : ClientStat
 becomes_sound profile laws old None new becomes is = becomes.sound is
 becomes_sound profile laws old (Some bytes) new becomes is = subst (IsSound profile) (sym becomes) (laws.takes old bytes is)
 
-pub all_sound : (profile : Profile) → ClientLaws profile → (kept : Kept) → kept.profile ≡ profile → HaveSlots kept.ends → (event : Event) → AllSound profile kept.ends
+pub all_sound : (slots : SlotsAreKept) (profile : Profile) → ClientLaws profile → (kept : Kept) → kept.profile ≡ profile → HaveSlots kept.ends → (event : Event) → AllSound profile kept.ends
     → AllSound profile (kept_step kept event).kept.ends
-all_sound profile laws kept by have event sound = λ c place at. by_old c place at (place_at kept.ends c) refl
+all_sound slots profile laws kept by have event sound = λ c place at. by_old c place at (place_at kept.ends c) refl
   where
     goes : GoesOn profile kept.profile kept.ends (kept_step kept event).kept.ends (λ c. bytes_for kept event c)
-    goes = goes_on profile laws kept have event
+    goes = goes_on slots profile laws kept have event
 
     by_old : (c : ℕ) (place : Place) → place_at (kept_step kept event).kept.ends c ≡ Some place → (old : Option Place) → place_at kept.ends c ≡ old → IsSound profile place.client
     by_old c place at None was =

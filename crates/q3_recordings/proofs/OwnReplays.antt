@@ -3,6 +3,7 @@ use Rattle.std.proofs.Common.{◌≡◌, ℕ, ◌<◌, true, List, [], ◌∷◌
 use Rattle.std.specs.Prelude.{IsSome}
 use Rattle.std.specs.List.{AllByRecursion}
 use Rattle.std.proofs.lemmas.Bool.{cond_both}
+use Rattle.q3_schedules.specs.Slots.{HaveSlots, SlotsAreKept}
 use Rattle.q3_config.specs.Strings.{server_id}
 use Rattle.q3_profile.specs.declared.profile.Profile.{Profile}
 use Rattle.q3_svmsg.specs.Values.{Told, Nothing, Game, Snap, Skipped}
@@ -27,7 +28,6 @@ use Rattle.q3_world.specs.ByTags.{kept_then}
 use Rattle.q3_world.specs.StandsFor.{IsChecked}
 use Rattle.q3_schedules.specs.Recorded.{applied_until, bytes_for, is_stop, noted_at, noted_of}
 use Rattle.q3_schedules.specs.Schedules.{AppliedWasServed, IsScheduled, NothingPends, SaysNoChange, StringsTellId}
-use Rattle.q3_schedules.proofs.SlotsStay.{HaveSlots, have_slots}
 use Rattle.q3_recordings.specs.Plays.{recorded_with, recorded_from, BeginsTold, BeginsWhole}
 use Rattle.q3_recordings.specs.Replays.{ReplayIsNoted, ReplayPlays, OwnReplayPlays, OwnReplayBeginsWhole, kept_recording, noted_after}
 use Rattle.q3_recordings.proofs.PlaysAs.{has_read}
@@ -115,37 +115,37 @@ client_said Is profile P of kept events along c place lt at has =
     found_client None = None
     found_client (Some place) = Some (client_of place)
 
-all_said : (Is : Event → Type 0) (P : AppliedState → Type 0) → Laws → (profile : Profile) → IsChecked profile → OfClients Is profile P → (kept : Kept) (events : List Event)
+all_said : (slots : SlotsAreKept) (Is : Event → Type 0) (P : AppliedState → Type 0) → Laws → (profile : Profile) → IsChecked profile → OfClients Is profile P → (kept : Kept) (events : List Event)
     → HaveSlots kept.ends → Along Is profile kept events → (c : ℕ) (place : Place) → c < places → place_at kept.ends c ≡ Some place → Plays profile place.client
     → AllBefore P (applied_until kept events c)
 unfolding applied_until
-all_said Is P laws profile checked of kept [] have along c place lt at plays = tt
-all_said Is P laws profile checked of kept (event ∷ events) have along c place lt at plays =
+all_said slots Is P laws profile checked of kept [] have along c place lt at plays = tt
+all_said slots Is P laws profile checked of kept (event ∷ events) have along c place lt at plays =
     let next = (kept_step kept event).kept in
-    let goes = goes_on_at profile (client_laws laws profile checked) kept have event c place at in
+    let goes = goes_on_at slots profile (client_laws laws profile checked) kept have event c place at in
     let bytes = bytes_for kept event c in
     let now = plays_on laws profile place.client goes.place.client bytes goes.becomes plays in
-    let rest = all_said Is P laws profile checked of next events (have_slots kept event have) (along_on Is profile kept event events along) c goes.place lt goes.at now in
+    let rest = all_said slots Is P laws profile checked of next events (slots.step kept event have) (along_on Is profile kept event events along) c goes.place lt goes.at now in
     let is = client_said Is profile P of kept (event ∷ events) along c place lt at plays.has in
     let all = both_said P (noted_at (Some place) bytes) (applied_until next events c) (event_said P place bytes is) rest in
     let there = subst (λ (found : Option Place). AllBefore P (noted_at found bytes ++ applied_until next events c)) (sym at) all in
     cond_both (is_stop c event) [] (noted_at (place_at kept.ends c) bytes ++ applied_until next events c) (λ (notes : List Noted). AllBefore P notes) (λ e. tt) (λ e. there)
 
 -- after a `record` line
-after_said : (Is : Event → Type 0) (P : AppliedState → Type 0) → Laws → (profile : Profile) → IsChecked profile → OfClients Is profile P → (first rest : List Event) (c : ℕ) (name : List ℕ)
+after_said : (slots : SlotsAreKept) (Is : Event → Type 0) (P : AppliedState → Type 0) → Laws → (profile : Profile) → IsChecked profile → OfClients Is profile P → (first rest : List Event) (c : ℕ) (name : List ℕ)
     → AllByRecursion Is (first ++ events.RecordTo c name ∷ rest) → c < places
     → (kept_step (kept_then profile first) (events.RecordTo c name)).answer ≡ Given (handed.Record c (Ok tt)) → AllBefore P (noted_after profile first c name rest)
 unfolding kept_step line_of
-after_said Is P laws profile checked of first rest c name are lt answer =
+after_said slots Is P laws profile checked of first rest c name are lt answer =
     let kept = kept_then profile first in
     let line = events.RecordTo c name in
-    let stands = after_stands laws profile checked (opening_kept profile) first (opening_stands profile) in
+    let stands = after_stands slots laws profile checked (opening_kept profile) first (opening_stands slots profile) in
     let records = records_at kept.ends c name (place_at kept.ends c) refl answer in
     let sound = stands.sound c records.place records.at in
-    let goes = goes_on_at profile (client_laws laws profile checked) kept stands.have line c records.place records.at in
+    let goes = goes_on_at slots profile (client_laws laws profile checked) kept stands.have line c records.place records.at in
     let now = plays_on laws profile records.place.client goes.place.client None goes.becomes (record { sound = sound; begun = sound.begun records.game; has = records.game }) in
     let along = along_on Is profile kept line rest (record { done = first; is = refl; are = are }) in
-    all_said Is P laws profile checked of (kept_recording profile first c name) rest (have_slots kept line stands.have) along c goes.place lt goes.at now
+    all_said slots Is P laws profile checked of (kept_recording profile first c name) rest (slots.step kept line stands.have) along c goes.place lt goes.at now
 
 -- ---- the first that is recorded
 
@@ -171,17 +171,17 @@ begins_told (noted ∷ others) tell = first_told (note_of Waits noted).stage not
 within : (c : ℕ) (name : List ℕ) → IsScheduled (events.RecordTo c name) → c < places
 within c name is = let most = is.0.0 in omega (arith, most)
 
-own_plays : StringsTellId → AppliedWasServed → Laws → ReplayIsNoted → ReplayPlays → OwnReplayPlays
-own_plays law served laws noted plays profile first rest c name checked are answer few =
+own_plays : (slots : SlotsAreKept) → StringsTellId → AppliedWasServed → Laws → ReplayIsNoted → ReplayPlays → OwnReplayPlays
+own_plays slots law served laws noted plays profile first rest c name checked are answer few =
     let messages = noted_after profile first c name rest in
     let lt = within c name (all_next first (events.RecordTo c name) rest are) in
-    let tell = after_said IsScheduled Tells laws profile checked
+    let tell = after_said slots IsScheduled Tells laws profile checked
     (λ done c client are lt at has. told_by (server_id client.state.strings) client.state.id (law profile done c client checked are lt at has)) first rest c name are lt answer in
     let count = half_noted served profile first rest c name checked are (noted profile first rest c name checked answer) in
     plays profile first rest c name checked answer (begins_told messages tell) (inr (omega (arith, count, few))) (omega (arith, count, few))
 
-pub own_replay_plays : StringsTellId → AppliedWasServed → ReplayIsNoted → ReplayPlays → Laws → OwnReplayPlays
-own_replay_plays law served noted plays laws = own_plays law served laws noted plays
+pub own_replay_plays : (slots : SlotsAreKept) → StringsTellId → AppliedWasServed → ReplayIsNoted → ReplayPlays → Laws → OwnReplayPlays
+own_replay_plays slots law served noted plays laws = own_plays slots law served laws noted plays
 
 -- ---- it begins within no long string
 
@@ -213,10 +213,10 @@ say_none : (events : List Event) → AllByRecursion IsBoth events → AllByRecur
 say_none [] both = tt
 say_none (event ∷ events) both = (both.0.1, say_none events both.1)
 
-pub own_replay_begins_whole : NothingPends → Laws → OwnReplayBeginsWhole
-own_replay_begins_whole law laws profile first rest c name checked are say answer =
+pub own_replay_begins_whole : (slots : SlotsAreKept) → NothingPends → Laws → OwnReplayBeginsWhole
+own_replay_begins_whole slots law laws profile first rest c name checked are say answer =
     let lt = within c name (all_next first (events.RecordTo c name) rest are) in
     let both = both_are (first ++ events.RecordTo c name ∷ rest) are say in
-    let still = after_said IsBoth IsStill laws profile checked
+    let still = after_said slots IsBoth IsStill laws profile checked
     (λ done c client both lt at has. law profile done c client checked (scheduled_are done both) (say_none done both) lt at has) first rest c name both lt answer in
     begins_whole (noted_after profile first c name rest) still

@@ -2,6 +2,7 @@
 use Rattle.std.proofs.Common.{◌≡◌, ℕ, ◌<◌, Bool, true, false, List, [], ◌∷◌, ◌++◌, Option, Some, None, Result, Ok, Err, refl, sym, ap, subst, ◌∙◌, arith}
 use Rattle.std.specs.Prelude.{if◌then◌else◌}
 use Rattle.std.specs.Option.{is_some}
+use Rattle.q3_schedules.specs.Slots.{HaveSlots, SlotsAreKept}
 use Rattle.q3_profile.specs.declared.profile.Profile.{Profile}
 use Rattle.q3_svmsg.specs.Laws.{ReadIsSpelled}
 use Rattle.q3_clstate.specs.State.{AppliedState}
@@ -22,7 +23,6 @@ use Rattle.q3_world.specs.Kept.{Kept, kept_after, kept_step, opening_kept}
 use Rattle.q3_world.specs.ByTags.{kept_then}
 use Rattle.q3_world.specs.StandsFor.{IsChecked}
 use Rattle.q3_schedules.specs.Recorded.{applied_until, bytes_for, is_stop, noted_at}
-use Rattle.q3_schedules.proofs.SlotsStay.{HaveSlots, have_slots, nobody_yet}
 use Rattle.q3_recordings.specs.Plays.{AreNoted, AreBy, RecordingPlays}
 use Rattle.q3_recordings.specs.Replays.{ReplayPlays, ReplayIsNoted, noted_after}
 use Rattle.q3_recordings.proofs.Sound.{IsSound}
@@ -41,14 +41,14 @@ taking laws profile ends c place None others goes sound begun onward =
 taking laws profile ends c place (Some bytes) others goes sound begun onward =
     becomes_noted laws profile place.client goes.place.client (Some bytes) others goes.becomes sound begun (onward goes.place goes.at)
 
-are_noted : Laws → (profile : Profile) → IsChecked profile → (kept : Kept) (events : List Event) → HaveSlots kept.ends → (c : ℕ) → Onward profile kept.ends c (applied_until kept events c)
+are_noted : (slots : SlotsAreKept) → Laws → (profile : Profile) → IsChecked profile → (kept : Kept) (events : List Event) → HaveSlots kept.ends → (c : ℕ) → Onward profile kept.ends c (applied_until kept events c)
 unfolding applied_until
-are_noted laws profile checked kept [] have c place at sound begun = none_noted place.client.state
-are_noted laws profile checked kept (event ∷ events) have c place at sound begun =
+are_noted slots laws profile checked kept [] have c place at sound begun = none_noted place.client.state
+are_noted slots laws profile checked kept (event ∷ events) have c place at sound begun =
     let next = (kept_step kept event).kept in
-    let goes = goes_on_at profile (client_laws laws profile checked) kept have event c place at in
+    let goes = goes_on_at slots profile (client_laws laws profile checked) kept have event c place at in
     let rest = taking laws profile next.ends c place (bytes_for kept event c) (applied_until next events c) goes sound begun
-    (are_noted laws profile checked next events (have_slots kept event have) c) in
+    (are_noted slots laws profile checked next events (slots.step kept event have) c) in
     let found : AreNotedFrom place.client.state (noted_at (place_at kept.ends c) (bytes_for kept event c) ++ applied_until next events c) =
     subst (λ (found : Option Place). AreNotedFrom place.client.state (noted_at found (bytes_for kept event c) ++ applied_until next events c)) (sym at) rest in
     either (is_stop c event) found
@@ -73,22 +73,22 @@ no_place : (found : Option Place) (place : Place) → found ≡ None → found �
 no_place None place none some = absurd cc
 no_place (Some other) place none some = absurd cc
 
-pub opening_stands : (profile : Profile) → StandsSo profile (opening_kept profile)
-opening_stands profile = record {
+pub opening_stands : (slots : SlotsAreKept) (profile : Profile) → StandsSo profile (opening_kept profile)
+opening_stands slots profile = record {
   by = refl;
-  have = λ d is. absurd (nobody (place_at (opening_kept profile).ends d) (nobody_yet profile d) is);
-  sound = λ d place at. absurd (no_place (place_at (opening_kept profile).ends d) place (nobody_yet profile d) at);
+  have = λ d is. absurd (nobody (place_at (opening_kept profile).ends d) (slots.opening profile d) is);
+  sound = λ d place at. absurd (no_place (place_at (opening_kept profile).ends d) place (slots.opening profile d) at);
 }
 
-pub after_stands : Laws → (profile : Profile) → IsChecked profile → (kept : Kept) (events : List Event) → StandsSo profile kept → StandsSo profile (kept_after kept events)
+pub after_stands : (slots : SlotsAreKept) → Laws → (profile : Profile) → IsChecked profile → (kept : Kept) (events : List Event) → StandsSo profile kept → StandsSo profile (kept_after kept events)
 unfolding kept_after
-after_stands laws profile checked kept [] stands = stands
-after_stands laws profile checked kept (event ∷ events) stands =
-    after_stands laws profile checked (kept_step kept event).kept events
+after_stands slots laws profile checked kept [] stands = stands
+after_stands slots laws profile checked kept (event ∷ events) stands =
+    after_stands slots laws profile checked (kept_step kept event).kept events
     (record {
       by = profile_kept kept event ∙ stands.by;
-      have = have_slots kept event stands.have;
-      sound = all_sound profile (client_laws laws profile checked) kept stands.by stands.have event stands.sound;
+      have = slots.step kept event stands.have;
+      sound = all_sound slots profile (client_laws laws profile checked) kept stands.by stands.have event stands.sound;
     })
 
 -- ---- the `record` line
@@ -113,31 +113,31 @@ record NotedSo (profile : Profile) (messages : List Noted) : Type 0 where
   are : AreNoted messages
   by : AreBy profile messages
 
-noted_so : Laws → (profile : Profile) (first rest : List Event) (c : ℕ) (name : List ℕ) → IsChecked profile
+noted_so : (slots : SlotsAreKept) → Laws → (profile : Profile) (first rest : List Event) (c : ℕ) (name : List ℕ) → IsChecked profile
     → (kept_step (kept_then profile first) (events.RecordTo c name)).answer ≡ Given (handed.Record c (Ok tt)) → NotedSo profile (noted_after profile first c name rest)
 unfolding kept_step line_of
-noted_so laws profile first rest c name checked answer =
+noted_so slots laws profile first rest c name checked answer =
     let kept = kept_then profile first in
-    let stands = after_stands laws profile checked (opening_kept profile) first (opening_stands profile) in
+    let stands = after_stands slots laws profile checked (opening_kept profile) first (opening_stands slots profile) in
     let line = events.RecordTo c name in
     let records = records_at kept.ends c name (place_at kept.ends c) refl answer in
     let sound = stands.sound c records.place records.at in
     let begun = sound.begun records.game in
-    let goes = goes_on_at profile (client_laws laws profile checked) kept stands.have line c records.place records.at in
+    let goes = goes_on_at slots profile (client_laws laws profile checked) kept stands.have line c records.place records.at in
     let keeps = goes.becomes in
     let number : goes.place.client.state.number ≡ records.place.client.state.number = ap (λ (s : AppliedState). s.number) keeps.state in
     let now = keeps.sound sound in
-    let from = are_noted laws profile checked (kept_step kept line).kept rest (have_slots kept line stands.have) c goes.place goes.at now (omega (arith, number, begun)) in
+    let from = are_noted slots laws profile checked (kept_step kept line).kept rest (slots.step kept line stands.have) c goes.place goes.at now (omega (arith, number, begun)) in
     record { are = from.are; by = are_by profile goes.place.client.state (applied_until (kept_step kept line).kept rest c) now.by from.after }
 
-pub replay_is_noted : ReadIsSpelled → ApplyStays → AppliedIsContext → TakesMessages → ReplayIsNoted
-replay_is_noted read stays contexts takes profile first rest c name checked answer =
-    (noted_so (record { read = read; stays = stays; contexts = contexts; takes = takes }) profile first rest c name checked answer).are
+pub replay_is_noted : (slots : SlotsAreKept) → ReadIsSpelled → ApplyStays → AppliedIsContext → TakesMessages → ReplayIsNoted
+replay_is_noted slots read stays contexts takes profile first rest c name checked answer =
+    (noted_so slots (record { read = read; stays = stays; contexts = contexts; takes = takes }) profile first rest c name checked answer).are
 
-plays_so : Laws → RecordingPlays → ReplayPlays
-plays_so laws plays profile first rest c name checked answer told short few =
-    let so = noted_so laws profile first rest c name checked answer in
+plays_so : (slots : SlotsAreKept) → Laws → RecordingPlays → ReplayPlays
+plays_so slots laws plays profile first rest c name checked answer told short few =
+    let so = noted_so slots laws profile first rest c name checked answer in
     plays profile (noted_after profile first c name rest) true so.are so.by told short few
 
-pub replay_plays : RecordingPlays → ReadIsSpelled → ApplyStays → AppliedIsContext → TakesMessages → ReplayPlays
-replay_plays plays read stays contexts takes = plays_so (record { read = read; stays = stays; contexts = contexts; takes = takes }) plays
+pub replay_plays : (slots : SlotsAreKept) → RecordingPlays → ReadIsSpelled → ApplyStays → AppliedIsContext → TakesMessages → ReplayPlays
+replay_plays slots plays read stays contexts takes = plays_so slots (record { read = read; stays = stays; contexts = contexts; takes = takes }) plays

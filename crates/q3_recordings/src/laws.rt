@@ -26,6 +26,7 @@ pub fn whole_is_recorded()
 pub fn replay_is_noted()
     ensures { ReplayIsNoted }
 {
+    schedules::slots_are_kept();
     svmsg::read_is_spelled();
     clstate::apply_stays();
     clstate::applied_is_context();
@@ -63,6 +64,7 @@ pub fn recording_plays()
 pub fn replay_plays()
     ensures { ReplayPlays }
 {
+    schedules::slots_are_kept();
     recording_plays();
     svmsg::read_is_spelled();
     clstate::apply_stays();
@@ -76,6 +78,7 @@ pub fn replay_plays()
 pub fn own_replay_plays()
     ensures { OwnReplayPlays }
 {
+    schedules::slots_are_kept();
     replay_is_noted();
     replay_plays();
     schedules::strings_tell_id();
@@ -91,6 +94,7 @@ pub fn own_replay_plays()
 pub fn own_replay_begins_whole()
     ensures { OwnReplayBeginsWhole }
 {
+    schedules::slots_are_kept();
     schedules::nothing_pends();
     svmsg::read_is_spelled();
     clstate::apply_stays();

@@ -31,7 +31,8 @@ use Rattle.q3_schedules.specs.Recorded.{MakesOther}
 use Rattle.q3_schedules.specs.NodeRecorded.{NamesOnce, line_at}
 use Rattle.q3_schedules.specs.Early.{ReplayLeavesFront, NodeLeavesFront}
 use Rattle.q3_schedules.proofs.NamedFiles.{SparesAll}
-use Rattle.q3_schedules.proofs.SlotsStay.{HaveSlots, have_slots, nobody_yet, there}
+use Rattle.q3_schedules.specs.Slots.{HaveSlots}
+use Rattle.q3_schedules.proofs.SlotsStay.{have_slots, nobody_yet, there}
 use Rattle.q3_schedules.proofs.EventKinds.{Happens, by_kind}
 use Rattle.q3_schedules.proofs.NamedRecordings.{Gone, Unnamed, apart_put, begins_new, begins_nothing, gone_of}
 use Rattle.q3_schedules.proofs.Recorded.{ends_gone, gone_on}

@@ -2,7 +2,7 @@
 use Rattle.std.proofs.Common.{◌≡◌, ℕ, List, [], length, Option, Some, None, Result, Ok, Err, true, false, refl, sym, ap, ◌∙◌, inl, inr}
 use Rattle.std.specs.Prelude.{◌⊎◌, ◌==◌, ◌-◌, if◌then◌else◌, slice_get}
 use Rattle.std.specs.Option.{is_some}
-use Rattle.std.proofs.lemmas.Bool.{cases_eq}
+use Rattle.std.proofs.lemmas.Bool.{cases_eq, cases_lt}
 use Rattle.std.proofs.lemmas.List.{get_or-set_other, get_or-set_same}
 use Rattle.std.proofs.Math.ListN.{get_or-eq_default}
 use Rattle.std.proofs.Math.Seq.{set_out}
@@ -24,7 +24,8 @@ use Rattle.q3_world.specs.Kept.{Kept, SentBytes, arrive_at, deliver_at, kept_ste
 use Rattle.q3_world.specs.Files.{acts_of, place_acts, line_acts, arrive_acts, deliver_acts, take_acts}
 use Rattle.q3_world.proofs.Filing.{SameRecordings, quiet_client, same_client, same_handed, same_port, same_sent}
 use Rattle.q3_schedules.specs.Recorded.{bytes_for, is_stop, sent_for, sent_to}
-use Rattle.q3_schedules.proofs.SlotsStay.{HaveSlots, joins, within}
+use Rattle.q3_schedules.specs.Slots.{HaveSlots}
+use Rattle.q3_schedules.proofs.SlotsStay.{joins}
 
 -- ---- events that leave recordings, or of which a client takes bytes
 
@@ -74,7 +75,7 @@ joins_same ends server c place (Ok x) none free have = λ d. elim (cases_eq d c)
         both (Some x) at is = absurd cc
 
     nothing_put : recording_at (place_at (with_place ends c place) c) ≡ None
-    nothing_put = elim (within (length ends.clients) c) [
+    nothing_put = elim (cases_lt c (length ends.clients)) [
       | inl lt ↦ rw (get_or-set_same ends.clients c (Some place) None lt) none
       | inr ge ↦ rw (set_out ends.clients c (Some place) ge, get_or-eq_default ends.clients None ge) refl
     ]

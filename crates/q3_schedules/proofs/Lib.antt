@@ -1,6 +1,4 @@
--- exported: proofs of crates above may cite these
-pub mod SlotsStay
--- for this crate alone
+mod SlotsStay
 mod Stood
 mod EverySchedule
 mod GamesLaws

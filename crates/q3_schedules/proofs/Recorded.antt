@@ -27,7 +27,8 @@ use Rattle.q3_world.specs.Files.{acts_from, acts_of, place_acts, ending_acts, li
 use Rattle.q3_world.specs.ByTags.{kept_then}
 use Rattle.q3_schedules.specs.Recorded.{MakesOther, RecordingIsItsMessages, applied_until, bytes_for, is_stop, noted_at}
 use Rattle.q3_schedules.proofs.NamedFiles.{SparesAll, acts_over, extended, made, spared, spares_both}
-use Rattle.q3_schedules.proofs.SlotsStay.{HaveSlots, have_slots, nobody_yet}
+use Rattle.q3_schedules.specs.Slots.{HaveSlots}
+use Rattle.q3_schedules.proofs.SlotsStay.{have_slots, nobody_yet}
 use Rattle.q3_schedules.proofs.EventKinds.{Happens, by_kind}
 use Rattle.q3_schedules.proofs.NamedRecordings.{AtOne, Goes, GoesOn, Gone, IsSoFar, Unnamed, at_same, begins_at, begins_named, begun_named, gets_nothing, gone_at, goes_at, nobody, stops_at, stops_named, stops_one, takes_at, takes_named}
 

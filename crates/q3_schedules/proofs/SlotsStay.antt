@@ -1,8 +1,8 @@
 -- A client that is at its place has its slot at the server: no slot is ever given up.
 use Rattle.std.proofs.Common.{◌≡◌, ℕ, ◌<◌, ◌≤◌, List, length, get_or, set, map, Option, Some, None, Result, Ok, Err, true, refl, sym, subst, inl, inr}
-use Rattle.std.specs.Prelude.{◌⊎◌, ◌==◌, ◌-◌, nat_le, nat_lt, position, slice_get, option_map}
+use Rattle.std.specs.Prelude.{◌==◌, ◌-◌, nat_le, position, slice_get, option_map}
 use Rattle.std.specs.Option.{is_some}
-use Rattle.std.proofs.lemmas.Bool.{cases_Bool, cases_eq, cond_both, leb-false, ltb-false, ltb-true}
+use Rattle.std.proofs.lemmas.Bool.{cases_eq, cases_lt, cond_both, leb-false}
 use Rattle.std.proofs.lemmas.List.{get_or-replicate, get_or-set_other, get_or-set_same, length-replicate}
 use Rattle.std.proofs.Math.ListN.{get_or-eq_default, get_or-map}
 use Rattle.std.proofs.Math.Seq.{set_out}
@@ -47,18 +47,13 @@ use Rattle.q3_world.specs.declared.places.Place.{Place}
 use Rattle.q3_world.specs.Ends.{Ends, client_takes, hand_server_of, joined, line_of, new_ends, place_at, client_step_of, set_port_of, with_place}
 use Rattle.q3_ends.specs.ClientLine.{client_line, client_after, recording_after}
 use Rattle.q3_world.specs.Kept.{Kept, SentBytes, arrive_at, deliver_at, kept_send, kept_step}
+use Rattle.q3_schedules.specs.Slots.{HaveSlots, SlotsAreKept}
 
 -- ---- lists of slots
 
-pub within : (count c : ℕ) → (c < count) ⊎ (count ≤ c)
-within count c = elim (cases_Bool (nat_lt c count)) [
-  | inl lt ↦ inl (ltb-true c count lt)
-  | inr ge ↦ inr (ltb-false c count ge)
-]
-
 put_stays : (slots : List (Option SlotState)) (c : ℕ) (slot : SlotState) (d : ℕ) → is_some (get_or slots d None) ≡ true → is_some (get_or (set slots c (Some slot)) d None) ≡ true
 put_stays slots c slot d is = elim (cases_eq d c) [
-  | inl same ↦ elim (within (length slots) c) [
+  | inl same ↦ elim (cases_lt c (length slots)) [
     | inl lt ↦ rw (same, get_or-set_same slots c (Some slot) None lt) refl
     | inr ge ↦ rw (set_out slots c (Some slot) ge) is
   ]
@@ -167,16 +162,12 @@ joins server c challenge qport address =
 
 -- ---- both ends
 
--- a client that is at its place has its slot at the server
-abbrev pub HaveSlots : Ends → Type 0
-HaveSlots ends = (d : ℕ) → is_some (place_at ends d) ≡ true → is_some (slot_at ends.server d) ≡ true
-
 by_server : (ends : Ends) (server : ServerState) → SlotsStay ends.server server → HaveSlots ends → HaveSlots (record ends { server = server })
 by_server ends server stays have = λ d is. stays d (have d is)
 
 -- what stands at a place where a client was
 pub there : (ends : Ends) (c : ℕ) (place now : Place) → place_at ends c ≡ Some place → place_at (with_place ends c now) c ≡ Some now
-there ends c place now at = elim (within (length ends.clients) c) [
+there ends c place now at = elim (cases_lt c (length ends.clients)) [
   | inl lt ↦ get_or-set_same ends.clients c (Some now) None lt
   | inr ge ↦ absurd (nobody (place_at ends c) (get_or-eq_default ends.clients None ge) at)
 ]
@@ -275,10 +266,17 @@ have_slots kept event have = have
 
 -- in the beginning nobody is anywhere
 pub nobody_yet : (profile : Profile) (c : ℕ) → place_at (new_ends profile) c ≡ None
-nobody_yet profile c = elim (within (length (new_ends profile).clients) c) [
+nobody_yet profile c = elim (cases_lt c (length (new_ends profile).clients)) [
   | inl lt ↦ get_or-replicate places c empty empty (subst (λ (count : ℕ). c < count) (length-replicate places empty) lt)
   | inr ge ↦ get_or-eq_default (new_ends profile).clients None ge
 ]
   where
     empty : Option Place
     empty = None
+
+pub slots_are_kept : SlotsAreKept
+slots_are_kept = record {
+  opening = nobody_yet;
+  free = λ server c challenge qport address. (joins server c challenge qport address).free;
+  step = have_slots;
+}

@@ -3,3 +3,4 @@ pub mod Recorded
 pub mod ReportLines
 pub mod NodeRecorded
 pub mod Early
+pub mod Slots

@@ -5,6 +5,7 @@ ghost use Rattle.q3_schedules.specs.NodeRecorded.{NodeRecordsItsMessages};
 ghost use Rattle.q3_schedules.specs.Recorded.{RecordingIsItsMessages};
 ghost use Rattle.q3_schedules.specs.ReportLines.{CountsAreLines, ReplayIsCounted};
 ghost use Rattle.q3_schedules.specs.Schedules.{AlwaysLegible, UnknownWasNotMade, CommandsArePrefixes, KeysAgree, ExecutedGoesOn, AcceptedWereBuilt, ShownWasBuilt, ShownIsNewest, AsksForAccepted, AskedUnderGame, OneGamePerMap, BasesWereAccepted, HeldIsAccepted, ViewsWereBuilt, AppliedWasBuilt, AppliedWasServed, NewerIsAccepted, UsualNeverSkips, NewerIsRun, MovesWereIssued, EnteringIsNotRun, InOrderIsAccepted, ServedIsShown, StateIsOfGame, StringsTellId, StringsFollow, NothingPends};
+ghost use Rattle.q3_schedules.specs.Slots.{SlotsAreKept};
 
 use q3_bits::laws as bits;
 use q3_chan::laws as chan;
@@ -270,4 +271,10 @@ pub fn replay_leaves_front()
 /// And so it is where a client's node ends early.
 pub fn node_leaves_front()
     ensures { NodeLeavesFront }
+{}
+
+/// In a replay nobody is anywhere in the beginning, a client joins only where none was, and each that joined keeps its slot, whatever bytes
+/// arrive.
+pub fn slots_are_kept()
+    ensures { SlotsAreKept }
 {}

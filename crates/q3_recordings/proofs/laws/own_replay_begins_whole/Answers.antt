@@ -3,5 +3,5 @@ use Rattle.q3_recordings.proofs.laws.own_replay_begins_whole.Goals as goal
 
 pub returns : goal.returns
 returns c =
-    own_replay_begins_whole c.nothing_pends.ensures
+    own_replay_begins_whole c.slots_are_kept.ensures c.nothing_pends.ensures
     (record { read = c.read_is_spelled.ensures; stays = c.apply_stays.ensures; contexts = c.applied_is_context.ensures; takes = c.takes_messages.ensures })
