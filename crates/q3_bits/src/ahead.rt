@@ -64,13 +64,11 @@ impl<'a> Ahead<'a> {
         ensures bits { bits_ahead self.new ≡ bits_ahead self.old }
         ensures full { (56 ≤ self.new.count) ⊎ (length self.new.rest.now ≡ 0) }
     {
-        let room = self.room();
         // all but the last seven of a message's bytes have seven after them
-        if let Some(word) = first_eight(self.rest) {
-            *self = self.with(word, room);
-            return;
+        match first_eight(self.rest) {
+            Some(word) => *self = self.with(word, self.room()),
+            None => self.refill_last(),
         }
-        self.refill_last(room);
     }
 
     /// The same, with as many bytes more gathered as there is room for, where eight are left: the half of `refill` that is
@@ -79,9 +77,8 @@ impl<'a> Ahead<'a> {
     pub(crate) fn fuller(self) -> Ahead<'a>
         ensures { bits_ahead result ≡ bits_ahead self.entry }
     {
-        let room = self.room();
         match first_eight(self.rest) {
-            Some(word) => self.with(word, room),
+            Some(word) => self.with(word, self.room()),
             None => self,
         }
     }
@@ -89,13 +86,12 @@ impl<'a> Ahead<'a> {
     /// The same of fewer than eight bytes.
     #[cold]
     #[inline(never)]
-    fn refill_last(&mut self, room: u64)
-        requires room { room ≡ 7 - self.old.count / 8 }
+    fn refill_last(&mut self)
         requires last { length self.old.rest.now < 8 }
         ensures bits { bits_ahead self.new ≡ bits_ahead self.old }
         ensures full { (56 ≤ self.new.count) ⊎ (length self.new.rest.now ≡ 0) }
     {
-        let more = room.min(self.rest.len() as u64);
+        let more = self.room().min(self.rest.len() as u64);
         *self = self.with(last_seven(self.rest), more);
     }
 
