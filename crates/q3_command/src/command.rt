@@ -1,12 +1,11 @@
 //! The command lines, by position.
 
-ghost use Rattle.std.specs.Prelude.{◌≡◌, ◌-◌, ◌^◌, [], ◌∷◌, map, option_map, IfSome};
+ghost use Rattle.std.specs.Prelude.{◌≡◌, [], ◌∷◌, map, option_map, IfSome};
 ghost use Rattle.std.specs.String.{string_bytes};
-ghost use Rattle.q3_text.specs.Decimals.{number_at};
 ghost use Rattle.q3_command.specs.Command.{AreDraws, MayRun, command_of, command_value, draws_at, index_at};
 
 use q3_io::Address;
-use q3_text::decimal_within;
+use q3_text::{decimal_within, long_decimal};
 use q3_words::read_address;
 
 /// How many events the generator may draw.
@@ -215,28 +214,4 @@ fn draws_of(number: &str, seed: &str) -> Option<Draws>
     let number = decimal_within(number.as_bytes(), 1, MOST_DRAWN)?;
     let seed = long_decimal(seed.as_bytes())?;
     Some(Draws { number, seed })
-}
-
-/// The number below 2^64 that a word spells: digits alone, with no 0 before others.
-#[tactic(auto, using(q3_text::proofs::Decimals::none_at_empty, q3_text::proofs::Decimals::none_at_zero))]
-fn long_decimal(word: &[u8]) -> Option<u64>
-    ensures { result ≡ number_at 0 (2 ^ 64 - 1) word.now }
-{
-    if word.is_empty() {
-        return None;
-    }
-    if word.len() > 1 && word[0] == b'0' {
-        return None;
-    }
-    let mut value = 0;
-    for byte in word {
-        if !byte.is_ascii_digit() {
-            return None;
-        }
-        value = 10 * value + u128::from(byte - b'0');
-        if value > u128::from(u64::MAX) {
-            return None;
-        }
-    }
-    Some(value as u64)
 }

@@ -18,6 +18,7 @@ use Rattle.q3_config.specs.Laws.{IsChange, piece_texts}
 use Rattle.q3_config.proofs.Faults.{Fits, set_fault-within, Admitted, admitted}
 use Rattle.q3_config.proofs.Texts.{part, carried-part}
 use Rattle.q3_config.proofs.ReadTexts.{spelled-is-read}
+use Rattle.q3_text.specs.Laws.{TextLaws}
 
 -- ---- a text as it is kept
 
@@ -72,12 +73,12 @@ unfolding config_piece
 piece_is_change index text k within carried = record { index = within; no_quote = no_quotes (part text k) (carried-part text k carried) }
 
 -- what a piece does, as it is read
-step : (strings : Strings) (index : ℕ) (text : List ℕ) (k : ℕ) → index < places → All (λ byte. IsTrue (is_config_byte byte)) text
+step : (laws : TextLaws) (strings : Strings) (index : ℕ) (text : List ℕ) (k : ℕ) → index < places → All (λ byte. IsTrue (is_config_byte byte)) text
     → after_command strings (change_text (config_piece index text k)) ≡ after_change strings (word_of (piece_count (length text)) k) index (map translated (part text k))
 unfolding after_command config_piece
-step strings index text k within carried =
+step laws strings index text k within carried =
     let piece = config_piece index text k in
-    ap (λ (change : Option Change). after_shape strings change) (spelled-is-read piece (change_text piece) (piece_is_change index text k within carried) (inl refl))
+    ap (λ (change : Option Change). after_shape strings change) (spelled-is-read laws piece (change_text piece) (piece_is_change index text k within carried) (inl refl))
 
 -- the words of pieces, where there is more than one
 word-first : (count : ℕ) → 1 < count → word_of count 0 ≡ First
@@ -141,49 +142,49 @@ count_of text = piece_count (length text)
 abbrev piece_at : ℕ → List ℕ → ℕ → List ℕ
 piece_at index text k = change_text (config_piece index text k)
 
-first-step : (strings : Strings) (index : ℕ) (text : List ℕ) → Pieced strings index text → (after_command strings (piece_at index text 0)).strings ≡ state strings index text 1
-first-step strings index text is =
+first-step : (laws : TextLaws) (strings : Strings) (index : ℕ) (text : List ℕ) → Pieced strings index text → (after_command strings (piece_at index text 0)).strings ≡ state strings index text 1
+first-step laws strings index text is =
     let word = word-first (count_of text) (count-many (length text) is.many).0 in
-    ap (λ (a : Applied). a.strings) (step strings index text 0 is.may.within is.may.carried ∙ ap (λ (word : Word). after_change strings word index (map translated (part text 0))) word)
+    ap (λ (a : Applied). a.strings) (step laws strings index text 0 is.may.within is.may.carried ∙ ap (λ (word : Word). after_change strings word index (map translated (part text 0))) word)
     ∙ ap (λ (bytes : List ℕ). with_pending strings index bytes) (front-more text 0 is.many)
 
-middle-step : (strings : Strings) (index : ℕ) (text : List ℕ) (k : ℕ) → Pieced strings index text → 0 < k → k + 1 < count_of text
+middle-step : (laws : TextLaws) (strings : Strings) (index : ℕ) (text : List ℕ) (k : ℕ) → Pieced strings index text → 0 < k → k + 1 < count_of text
     → (after_command (state strings index text k) (piece_at index text k)).strings ≡ state strings index text (k + 1)
-middle-step strings index text k is after before =
+middle-step laws strings index text k is after before =
     let now = state strings index text k in
-    ap (λ (a : Applied). a.strings) (step now index text k is.may.within is.may.carried
+    ap (λ (a : Applied). a.strings) (step laws now index text k is.may.within is.may.carried
     ∙ ap (λ (word : Word). after_change now word index (map translated (part text k))) (word-middle (count_of text) k after before)
     ∙ pieces-grow strings index text Middle k is.many is.may.fits.short)
 
-last-step : (strings : Strings) (index : ℕ) (text : List ℕ) (k : ℕ) → Pieced strings index text → 0 < k → k + 1 ≡ count_of text
+last-step : (laws : TextLaws) (strings : Strings) (index : ℕ) (text : List ℕ) (k : ℕ) → Pieced strings index text → 0 < k → k + 1 ≡ count_of text
     → (after_command (state strings index text k) (piece_at index text k)).strings ≡ with_string (without_pending strings) index text
-last-step strings index text k is after end =
+last-step laws strings index text k is after end =
     let now = state strings index text k in
     let all : front text (k + 1) ≡ map translated text = take_all (999 * (k + 1)) (map translated text) (omega (arith, length-map text translated, (count-many (length text) is.many).1)) in
     let fit = is.may.fits in
-    ap (λ (a : Applied). a.strings) (step now index text k is.may.within is.may.carried
+    ap (λ (a : Applied). a.strings) (step laws now index text k is.may.within is.may.carried
     ∙ ap (λ (word : Word). after_change now word index (map translated (part text k))) (word-last (count_of text) k after end)
     ∙ pieces-grow strings index text Last k is.many fit.short)
     ∙ made (without_pending strings) index text (front text (k + 1)) all is.may.within (record { short = fit.short; room = fit.room })
 
 -- those from one on
-others : (strings : Strings) (index : ℕ) (text : List ℕ) (left k : ℕ) → Pieced strings index text → 0 < k → k + suc left ≡ count_of text
+others : (laws : TextLaws) (strings : Strings) (index : ℕ) (text : List ℕ) (left k : ℕ) → Pieced strings index text → 0 < k → k + suc left ≡ count_of text
     → after_commands (state strings index text k) (map (λ k. piece_at index text k) (range_with_len k (suc left))) ≡ with_string (without_pending strings) index text
 unfolding after_commands
-others strings index text zero k is after end = last-step strings index text k is after (omega arith)
-others strings index text (suc left) k is after end =
-    ap (λ (s : Strings). after_commands s (map (λ k. piece_at index text k) (range_with_len (k + 1) (suc left)))) (middle-step strings index text k is after (omega arith))
-    ∙ others strings index text left (k + 1) is (omega arith) (omega arith)
+others laws strings index text zero k is after end = last-step laws strings index text k is after (omega arith)
+others laws strings index text (suc left) k is after end =
+    ap (λ (s : Strings). after_commands s (map (λ k. piece_at index text k) (range_with_len (k + 1) (suc left)))) (middle-step laws strings index text k is after (omega arith))
+    ∙ others laws strings index text left (k + 1) is (omega arith) (omega arith)
 
 -- all of them
-several : (strings : Strings) (index : ℕ) (text : List ℕ) (count : ℕ) → Pieced strings index text → count ≡ count_of text → 1 < count
+several : (laws : TextLaws) (strings : Strings) (index : ℕ) (text : List ℕ) (count : ℕ) → Pieced strings index text → count ≡ count_of text → 1 < count
     → after_commands strings (map (λ k. piece_at index text k) (range_with_len 0 count)) ≡ with_string (without_pending strings) index text
 unfolding after_commands
-several strings index text zero is same more = absurd (omega arith)
-several strings index text (suc zero) is same more = absurd (omega arith)
-several strings index text (suc (suc left)) is same more =
-    ap (λ (s : Strings). after_commands s (map (λ k. piece_at index text k) (range_with_len 1 (suc left)))) (first-step strings index text is)
-    ∙ others strings index text left 1 is (omega arith) (omega arith)
+several laws strings index text zero is same more = absurd (omega arith)
+several laws strings index text (suc zero) is same more = absurd (omega arith)
+several laws strings index text (suc (suc left)) is same more =
+    ap (λ (s : Strings). after_commands s (map (λ k. piece_at index text k) (range_with_len 1 (suc left)))) (first-step laws strings index text is)
+    ∙ others laws strings index text left 1 is (omega arith) (omega arith)
 
 -- ---- a text that goes in one
 
@@ -194,26 +195,26 @@ word-whole count one = rw (eq-eqb count 1 one) refl
 part-whole : (text : List ℕ) → length text < 1000 → part text 0 ≡ text
 part-whole text few = rw (lt-ltb (length text) 1000 few) refl
 
-single : (strings : Strings) (index : ℕ) (text : List ℕ) (count : ℕ) → count ≡ 1 → length text < 1000 → Admitted strings index text
+single : (laws : TextLaws) (strings : Strings) (index : ℕ) (text : List ℕ) (count : ℕ) → count ≡ 1 → length text < 1000 → Admitted strings index text
     → after_commands strings (map (λ k. piece_at index text k) (range_with_len 0 count)) ≡ with_string strings index text
 unfolding after_commands
-single strings index text count one few may =
+single laws strings index text count one few may =
     ap (λ n. after_commands strings (map (λ k. piece_at index text k) (range_with_len 0 n))) one
-    ∙ ap (λ (a : Applied). a.strings) (step strings index text 0 may.within may.carried
+    ∙ ap (λ (a : Applied). a.strings) (step laws strings index text 0 may.within may.carried
     ∙ ap (λ (word : Word). after_change strings word index (map translated (part text 0))) (word-whole (count_of text) (count-one (length text) few)))
     ∙ made strings index text (map translated (part text 0)) (ap (λ (bytes : List ℕ). map translated bytes) (part-whole text few)) may.within may.fits
 
-pub pieces-make-change : (strings : Strings) (index : ℕ) (text : List ℕ) → AreStrings strings → admit_fault strings index text ≡ None
+pub pieces-make-change : (laws : TextLaws) (strings : Strings) (index : ℕ) (text : List ℕ) → AreStrings strings → admit_fault strings index text ≡ None
     → after_commands strings (piece_texts index text) ≡ record (with_string strings index text) { pending = cond (eqb (count_of text) 1) strings.pending None }
-pieces-make-change strings index text are none =
+pieces-make-change laws strings index text are none =
     let may = admitted strings index text none in
     elim (cases_Bool (ltb (length text) 1000)) [
       | inl few ↦
           let below = ltb-true _ _ few in
           let one = count-one (length text) below in
-          single strings index text (count_of text) one below may ∙ rw (eq-eqb (count_of text) 1 one) refl
+          single laws strings index text (count_of text) one below may ∙ rw (eq-eqb (count_of text) 1 one) refl
       | inr long ↦
           let many = ltb-false _ _ long in
           let more = (count-many (length text) many).0 in
-          several strings index text (count_of text) (record { many = many; may = may }) refl more ∙ rw (ne_eqb (count_of text) 1 (λ e. omega arith)) refl
+          several laws strings index text (count_of text) (record { many = many; may = may }) refl more ∙ rw (ne_eqb (count_of text) 1 (λ e. omega arith)) refl
     ]

@@ -10,13 +10,12 @@ use Rattle.std.proofs.lemmas.List.{append_cancel_right}
 use Rattle.std.proofs.lemmas.List.Elements.{All-head, All-tail}
 use Rattle.std.proofs.lemmas.Slice.Eq.{bytes_eq-Decides}
 use Rattle.q3_bits.specs.OptionBind.{◌>>=◌}
-use Rattle.q3_text.specs.Cuts.{cut_at}
+use Rattle.q3_text.specs.Cuts.{cut_at, lacks}
 use Rattle.q3_text.specs.Decimals.{number_at}
-use Rattle.q3_text.proofs.Cuts.{lacks, cut-spelled, cut-lacks, cut-again}
-use Rattle.q3_text.proofs.Numerals.{number_at-spelled, number_at-again, lacks-decimal}
 use Rattle.q3_config.specs.Commands.{Word, Whole, First, Middle, Last, Change, spelled, change_text, word_in, closed_in, quoted_in, change_in}
 use Rattle.q3_config.specs.Laws.{IsChange}
 use Rattle.q3_config.proofs.Texts.{lacks-space}
+use Rattle.q3_text.specs.Laws.{TextLaws}
 
 -- a text has a byte nowhere, so it lacks it
 pub lacks-none : (byte : ℕ) (text : List ℕ) → All (λ x. x ≢ byte) text → lacks byte text ≡ true
@@ -49,26 +48,26 @@ word-again First = refl
 word-again Middle = refl
 word-again Last = refl
 
-quoted-again : (text end : List ℕ) → is_end end ≡ true → All (λ x. x ≢ 34) text → quoted_in (34 ∷ (text ++ 34 ∷ end)) ≡ Some text
+quoted-again : (laws : TextLaws) (text end : List ℕ) → is_end end ≡ true → All (λ x. x ≢ 34) text → quoted_in (34 ∷ (text ++ 34 ∷ end)) ≡ Some text
 unfolding quoted_in
-quoted-again text end ends none = rw (cut-again 34 text end (lacks-none 34 text none), ends) refl
+quoted-again laws text end ends none = rw (laws.cuts.again 34 text end (lacks-none 34 text none), ends) refl
 
-shaped-again : (change : Change) (end : List ℕ) → IsChange change → is_end end ≡ true → change_in (shaped change end) ≡ Some change
+shaped-again : (laws : TextLaws) (change : Change) (end : List ℕ) → IsChange change → is_end end ≡ true → change_in (shaped change end) ≡ Some change
 unfolding change_in
-shaped-again change end is ends =
+shaped-again laws change end is ends =
     let within = is.index in
     rw (
-      cut-again 32 (spelled change.word) (decimal change.index ++ 32 ∷ (34 ∷ (change.text ++ 34 ∷ end))) (lacks-space change.word),
+      laws.cuts.again 32 (spelled change.word) (decimal change.index ++ 32 ∷ (34 ∷ (change.text ++ 34 ∷ end))) (lacks-space change.word),
       word-again change.word,
-      cut-again 32 (decimal change.index) (34 ∷ (change.text ++ 34 ∷ end)) (lacks-decimal 32 change.index refl (omega arith)),
-      number_at-again 0 1023 change.index (omega arith) (omega arith) (omega arith),
-      quoted-again change.text end ends is.no_quote,
+      laws.cuts.again 32 (decimal change.index) (34 ∷ (change.text ++ 34 ∷ end)) (laws.numbers.others 32 change.index refl (omega arith)),
+      laws.numbers.read 0 1023 change.index (omega arith) (omega arith) (omega arith),
+      quoted-again laws change.text end ends is.no_quote,
     ) refl
 
-pub spelled-is-read : (change : Change) (text : List ℕ) → IsChange change → (text ≡ change_text change) ⊎ (text ++ codes "\n" ≡ change_text change) → change_in text ≡ Some change
-spelled-is-read change text is spelt = elim spelt [
-  | inl whole ↦ ap change_in (whole ∙ shaped-newline change) ∙ shaped-again change (codes "\n") is refl
-  | inr short ↦ ap change_in (append_cancel_right text (shaped change []) (codes "\n") (short ∙ sym (shaped-more change))) ∙ shaped-again change [] is refl
+pub spelled-is-read : (laws : TextLaws) (change : Change) (text : List ℕ) → IsChange change → (text ≡ change_text change) ⊎ (text ++ codes "\n" ≡ change_text change) → change_in text ≡ Some change
+spelled-is-read laws change text is spelt = elim spelt [
+  | inl whole ↦ ap change_in (whole ∙ shaped-newline change) ∙ shaped-again laws change (codes "\n") is refl
+  | inr short ↦ ap change_in (append_cancel_right text (shaped change []) (codes "\n") (short ∙ sym (shaped-more change))) ∙ shaped-again laws change [] is refl
 ]
 
 -- ---- what is read was spelled so
@@ -108,22 +107,22 @@ record Quoted (text body : List ℕ) : Type 0 where
   ends : is_end end ≡ true
   none : All (λ x. x ≢ 34) body
 
-closed-spelled : (first : ℕ) (text body : List ℕ) (cut : Option (List ℕ × List ℕ)) → first ≡ 34 → cut_at 34 text ≡ cut → closed_in cut ≡ Some body → Quoted (first ∷ text) body
-closed-spelled first text body None quote is e = absurd cc
-closed-spelled first text body (Some cut) quote is e =
+closed-spelled : (laws : TextLaws) (first : ℕ) (text body : List ℕ) (cut : Option (List ℕ × List ℕ)) → first ≡ 34 → cut_at 34 text ≡ cut → closed_in cut ≡ Some body → Quoted (first ∷ text) body
+closed-spelled laws first text body None quote is e = absurd cc
+closed-spelled laws first text body (Some cut) quote is e =
     let parts = cond_some (is_end cut.1) cut.0 body e in
     record {
       end = cut.1;
-      is = rw (quote, cut-spelled 34 text cut is, parts.1) refl;
+      is = rw (quote, laws.cuts.parts 34 text cut is, parts.1) refl;
       ends = parts.0;
-      none = subst (λ (body : List ℕ). All (λ x. x ≢ 34) body) parts.1 (cut-lacks 34 text cut is);
+      none = subst (λ (body : List ℕ). All (λ x. x ≢ 34) body) parts.1 (laws.cuts.before 34 text cut is);
     }
 
-quoted-spelled : (text body : List ℕ) → quoted_in text ≡ Some body → Quoted text body
+quoted-spelled : (laws : TextLaws) (text body : List ℕ) → quoted_in text ≡ Some body → Quoted text body
 unfolding quoted_in
-quoted-spelled [] body e = absurd cc
-quoted-spelled (first ∷ text) body e = elim (cases_Bool (eqb first 34)) [
-  | inl quote ↦ let f : closed_in (cut_at 34 text) ≡ Some body = rw quote at e in closed-spelled first text body (cut_at 34 text) (eqb-true first 34 quote) refl f
+quoted-spelled laws [] body e = absurd cc
+quoted-spelled laws (first ∷ text) body e = elim (cases_Bool (eqb first 34)) [
+  | inl quote ↦ let f : closed_in (cut_at 34 text) ≡ Some body = rw quote at e in closed-spelled laws first text body (cut_at 34 text) (eqb-true first 34 quote) refl f
   | inr other ↦ let f : no_body ≡ some_body body = rw other at e in absurd cc
 ]
 
@@ -161,25 +160,25 @@ joined : (text first rest second after end : List ℕ) (change : Change) → tex
     → after ≡ 34 ∷ (change.text ++ 34 ∷ end) → text ≡ shaped change end
 joined text first rest second after end change at_first is_word at_second is_index is_body = rw (at_first, is_word, at_second, is_index, is_body) refl
 
-pub parts_of : (text : List ℕ) (change : Change) → change_in text ≡ Some change → Parts text change
+pub parts_of : (laws : TextLaws) (text : List ℕ) (change : Change) → change_in text ≡ Some change → Parts text change
 unfolding change_in
-parts_of text change e =
+parts_of laws text change e =
     let first = bind_some (cut_at 32 text) (λ first. with_parts first) change e in
     let word = bind_some (word_in first.0.0) (λ word. with_word first.0.1 word) change first.2 in
     let second = bind_some (cut_at 32 first.0.1) (λ second. with_index word.0 second) change word.2 in
     let index = bind_some (number_at 0 1023 second.0.0) (λ index. with_body word.0 index second.0.1) change second.2 in
     let body = bind_some (quoted_in second.0.1) (λ body. Some (record { word = word.0; index = index.0; text = body })) change index.2 in
-    let number = number_at-spelled 0 1023 second.0.0 index.0 (omega arith) index.1 in
-    let quoted = quoted-spelled second.0.1 body.0 body.1 in
+    let number = laws.numbers.written 0 1023 second.0.0 index.0 (omega arith) index.1 in
+    let quoted = quoted-spelled laws second.0.1 body.0 body.1 in
     let read : Change = record { word = word.0; index = index.0; text = body.0 } in
     let same : read ≡ change = same_Some read change body.2 in
     let fine : IsChange read = record { index = omega (arith, number.1); no_quote = quoted.none } in
-    let is : text ≡ shaped read quoted.end = joined text first.0.0 first.0.1 second.0.0 second.0.1 quoted.end read (cut-spelled 32 text first.0 first.1) (word-spelled first.0.0 word.0 word.1) (cut-spelled 32 first.0.1 second.0 second.1) number.2 quoted.is in
+    let is : text ≡ shaped read quoted.end = joined text first.0.0 first.0.1 second.0.0 second.0.1 quoted.end read (laws.cuts.parts 32 text first.0 first.1) (word-spelled first.0.0 word.0 word.1) (laws.cuts.parts 32 first.0.1 second.0 second.1) number.2 quoted.is in
     parts-same text read change same (record { end = quoted.end; is = is; ends = quoted.ends; fine = fine })
 
-pub read-is-spelled : (change : Change) (text : List ℕ) → change_in text ≡ Some change → IsChange change × ((text ≡ change_text change) ⊎ (text ++ codes "\n" ≡ change_text change))
-read-is-spelled change text e =
-    let parts = parts_of text change e in (
+pub read-is-spelled : (laws : TextLaws) (change : Change) (text : List ℕ) → change_in text ≡ Some change → IsChange change × ((text ≡ change_text change) ⊎ (text ++ codes "\n" ≡ change_text change))
+read-is-spelled laws change text e =
+    let parts = parts_of laws text change e in (
       parts.fine,
       elim (or_cases (bytes_eq parts.end []) (bytes_eq parts.end (codes "\n")) parts.ends) [
         | inl nothing ↦ inr (ap (λ (text : List ℕ). text ++ codes "\n") (parts.is ∙ ap (λ (end : List ℕ). shaped change end) ((bytes_eq-Decides parts.end []).0 nothing)) ∙ shaped-more change)

@@ -10,6 +10,7 @@ use Rattle.q3_config.specs.Laws.{StringsStay}
 use Rattle.q3_config.proofs.Faults.{after_set-stays}
 use Rattle.q3_config.proofs.Kept.{none-are, pending-stays, without_pending-stays, make_change-stays}
 use Rattle.q3_config.proofs.ReadTexts.{parts_of}
+use Rattle.q3_text.specs.Laws.{TextLaws}
 
 finish-stays : (strings : Strings) (word : Word) (index : ℕ) (text : List ℕ) → AreStrings strings → index < places → length text ≤ longest_string → AreStrings (finish strings word index text).strings
 finish-stays strings Whole index text are within short = pending-stays strings index text are within short
@@ -37,17 +38,17 @@ after_change-stays strings Last index text are within short = go_on-stays string
 length-body : (word number body end : List ℕ) → length body ≤ length (word ++ 32 ∷ (number ++ 32 ∷ (34 ∷ (body ++ 34 ∷ end))))
 length-body word number body end = omega (arith, length-append word (32 ∷ (number ++ 32 ∷ (34 ∷ (body ++ 34 ∷ end)))), length-append number (32 ∷ (34 ∷ (body ++ 34 ∷ end))), length-append body (34 ∷ end))
 
-after_shape-stays : (strings : Strings) (text : List ℕ) (change : Option Change) → change_in text ≡ change → AreStrings strings → IsText text → AreStrings (after_shape strings change).strings
-after_shape-stays strings text None is are is_text = are
-after_shape-stays strings text (Some change) is are is_text =
-    let parts = parts_of text change is in
+after_shape-stays : (laws : TextLaws) (strings : Strings) (text : List ℕ) (change : Option Change) → change_in text ≡ change → AreStrings strings → IsText text → AreStrings (after_shape strings change).strings
+after_shape-stays laws strings text None is are is_text = are
+after_shape-stays laws strings text (Some change) is are is_text =
+    let parts = parts_of laws text change is in
     let size = ap (λ (bytes : List ℕ). length bytes) parts.is in
     let few = is_text.short in
     after_change-stays strings change.word change.index change.text are parts.fine.index (omega (arith, length-body (spelled change.word) (decimal change.index) change.text parts.end))
 
-after_command-stays : (strings : Strings) (text : List ℕ) → AreStrings strings → IsText text → AreStrings (after_command strings text).strings
+after_command-stays : (laws : TextLaws) (strings : Strings) (text : List ℕ) → AreStrings strings → IsText text → AreStrings (after_command strings text).strings
 unfolding after_command
-after_command-stays strings text are is_text = after_shape-stays strings text (change_in text) refl are is_text
+after_command-stays laws strings text are is_text = after_shape-stays laws strings text (change_in text) refl are is_text
 
-pub strings-stay : StringsStay
-strings-stay = record { none = none-are; set = after_set-stays; command = after_command-stays }
+pub strings-stay : (laws : TextLaws) → StringsStay
+strings-stay laws = record { none = none-are; set = after_set-stays; command = after_command-stays laws }

@@ -10,19 +10,14 @@ use Rattle.std.proofs.lemmas.List.Folds.{list_all-append, map_fixed}
 use Rattle.std.proofs.lemmas.List.Elements.{All-head, All-tail, All-take, All-drop, All-weaker}
 use Rattle.std.proofs.lemmas.List.Sums.{AllPass-from_list_all}
 use Rattle.std.proofs.lemmas.Fmt.{digits_decimal}
-use Rattle.q3_text.specs.Texts.{most_bytes, translated, text_of, text_fault}
+use Rattle.q3_text.specs.Texts.{translated, text_of}
 use Rattle.q3_text.specs.Decimals.{is_digit}
-use Rattle.q3_text.proofs.Places.{none_passes}
-use Rattle.q3_text.proofs.Cuts.{lacks}
-use Rattle.q3_text.proofs.Numerals.{own, lacks-decimal}
+use Rattle.q3_text.specs.Cuts.{lacks}
 use Rattle.q3_config.specs.Strings.{places, is_config_byte}
 use Rattle.q3_config.specs.Commands.{Word, Whole, First, Middle, Last, spelled, piece_count, piece_size, change_text}
+use Rattle.q3_text.specs.Laws.{TextLaws}
 
 -- ---- what stands in a text
-
--- a text that lacks a byte has it nowhere
-All-lacks : (byte : ℕ) (text : List ℕ) → lacks byte text ≡ true → All (λ x. eqb x byte ≡ false) text
-All-lacks byte text none = All-weaker (λ x. not (eqb x byte) ≡ true) (λ x. eqb x byte ≡ false) (λ x e. not-true (eqb x byte) e) text (AllPass-from_list_all (λ x. not (eqb x byte)) text none)
 
 -- bytes that a config command may carry lack every other
 pub lacks-carried : (byte : ℕ) (text : List ℕ) → is_config_byte byte ≡ false → All (λ x. IsTrue (is_config_byte x)) text → lacks byte text ≡ true
@@ -66,8 +61,8 @@ fixed-digit byte digit =
     let other : eqb byte 37 ≡ false = ne_eqb byte 37 (λ same. omega arith) in
     rw (seven, other) refl
 
-fixed-decimal : (n : ℕ) → n < 2 ^ 64 → map translated (decimal n) ≡ decimal n
-fixed-decimal n small = map_fixed translated (decimal n) (All-weaker (λ x. is_digit x ≡ true) (λ x. translated x ≡ x) fixed-digit (decimal n) (AllPass-from_list_all is_digit (decimal n) (digits_decimal own n small)))
+fixed-decimal : (laws : TextLaws) (n : ℕ) → n < 2 ^ 64 → map translated (decimal n) ≡ decimal n
+fixed-decimal laws n small = map_fixed translated (decimal n) (All-weaker (λ x. is_digit x ≡ true) (λ x. translated x ≡ x) fixed-digit (decimal n) (AllPass-from_list_all is_digit (decimal n) (laws.numbers.digits n small)))
 
 mapped : (a b c d e f : List ℕ) → map translated (a ++ b ++ c ++ d ++ e ++ f) ≡ map translated a ++ map translated b ++ map translated c ++ map translated d ++ map translated e ++ map translated f
 mapped a b c d e f = simp map-append
@@ -81,11 +76,11 @@ regroup a b c d e f = simp (append_assoc, append-nil)
 abbrev pub raw : Word → ℕ → List ℕ → List ℕ
 raw word index text = spelled word ++ codes " " ++ decimal index ++ codes " \"" ++ text ++ codes "\"\n"
 
-translated-raw : (word : Word) (index : ℕ) (text : List ℕ) → index < 2 ^ 64 → map translated (raw word index text) ≡ change_text (record { word = word; index = index; text = map translated text })
+translated-raw : (laws : TextLaws) (word : Word) (index : ℕ) (text : List ℕ) → index < 2 ^ 64 → map translated (raw word index text) ≡ change_text (record { word = word; index = index; text = map translated text })
 unfolding change_text
-translated-raw word index text small =
+translated-raw laws word index text small =
     mapped (spelled word) (codes " ") (decimal index) (codes " \"") text (codes "\"\n")
-    ∙ rw (fixed-word word, fixed-decimal index small) (regroup (spelled word) (codes " ") (decimal index) (codes " \"") (map translated text) (codes "\"\n"))
+    ∙ rw (fixed-word word, fixed-decimal laws index small) (regroup (spelled word) (codes " ") (decimal index) (codes " \"") (map translated text) (codes "\"\n"))
 
 length-word : (word : Word) → length (spelled word) ≤ 4
 length-word Whole = omega arith
@@ -103,16 +98,14 @@ built which index empty one two three four five six all word number text is_word
     rw (is_all, is_six, is_five, is_four, is_three, is_two, is_one, is_empty, is_word, is_number) refl
 
 -- it is few enough bytes, none of them 0
-pub text_of-raw : (word : Word) (index : ℕ) (text : List ℕ) → index < places → length text ≤ piece_size → All (λ byte. IsTrue (is_config_byte byte)) text
+pub text_of-raw : (laws : TextLaws) (word : Word) (index : ℕ) (text : List ℕ) → index < places → length text ≤ piece_size → All (λ byte. IsTrue (is_config_byte byte)) text
     → text_of (raw word index text) ≡ Ok (change_text (record { word = word; index = index; text = map translated text }))
-unfolding text_of text_fault
-text_of-raw word index text within few carried =
+text_of-raw laws word index text within few carried =
     let digits = length-decimal-le 4 index (omega arith) (omega arith) (omega arith) in
     let size = length-joined (spelled word) (codes " ") (decimal index) (codes " \"") text (codes "\"\n") in
-    let short : ltb most_bytes (length (raw word index text)) ≡ false = le-ltb _ _ (omega (arith, length-word word)) in
-    let zeros : lacks 0 (raw word index text) ≡ true = lacks-joined 0 (spelled word) (codes " ") (decimal index) (codes " \"") text (codes "\"\n") (lacks-zero word) refl (lacks-decimal 0 index refl (omega arith)) refl (lacks-carried 0 text refl carried) refl in
-    let zero = none_passes (λ byte. eqb byte 0) (raw word index text) (All-lacks 0 (raw word index text) zeros) in
-    rw (short, zero) (ap (λ (text : List ℕ). Ok text) (translated-raw word index text (omega arith)))
+    let zeros : lacks 0 (raw word index text) ≡ true = lacks-joined 0 (spelled word) (codes " ") (decimal index) (codes " \"") text (codes "\"\n") (lacks-zero word) refl (laws.numbers.others 0 index refl (omega arith)) refl (lacks-carried 0 text refl carried) refl in
+    laws.made (raw word index text) (omega (arith, length-word word)) zeros
+    ∙ ap (λ (text : List ℕ). Ok text) (translated-raw laws word index text (omega arith))
 
 -- ---- its pieces
 

@@ -11,6 +11,7 @@ ghost use Rattle.q3_config.specs.Parts.{meant};
 use crate::shapes::Word;
 use arrayvec::ArrayVec;
 use itoa::Buffer;
+use q3_text::laws::text_laws;
 use q3_text::{LONGEST_TEXT, Text};
 
 /// A text below this length goes whole.
@@ -58,6 +59,7 @@ fn spell(word: Word, index: u32, text: &[u8]) -> Text
     extend(&mut bytes, b" \"");
     extend(&mut bytes, text);
     extend(&mut bytes, b"\"\n");
+    text_laws();
     Text::of(&bytes).unwrap()
 }
 

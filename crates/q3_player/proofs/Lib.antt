@@ -1,7 +1,5 @@
--- exported: proofs of crates above may cite these
-pub mod Kept
-pub mod Maps
--- for this crate alone
+mod Kept
+mod Maps
 mod Arrays
 mod Changes
 mod Normal

@@ -1,11 +1,13 @@
 -- Laws of the player delta.
-use Rattle.std.specs.Prelude.{◌≡◌, Bool, List, ◌++◌, Ok}
+use Rattle.std.specs.Prelude.{◌≡◌, ℕ, ℤ, ◌<◌, ◌^◌, Bool, List, ◌++◌, length, All, Ok}
 use Rattle.q3_bits.specs.ResultBind.{left_of}
 use Rattle.q3_bits.specs.Words.{IsCode}
 use Rattle.q3_fields.specs.declared.kind.Kind.{Kind}
 use Rattle.q3_fields.specs.Kinds.{AreKinds}
 use Rattle.q3_player.specs.declared.state.PlayerState.{PlayerState}
-use Rattle.q3_player.specs.State.{zero_player, normal_player, IsState, IsNormal}
+use Rattle.q3_fields.specs.Places.{AreRising, with_changes}
+use Rattle.q3_player.specs.Arrays.{changes_from}
+use Rattle.q3_player.specs.State.{zero_player, normal_player, IsState, IsNormal, IsShort, patterns_of, shorts_of}
 use Rattle.q3_player.specs.Delta.{player_delta, player_at}
 use Rattle.q3_player.specs.Spelling.{SpellsPlayer}
 
@@ -44,3 +46,12 @@ ZeroIsNormal = (table : List Kind) → AreKinds table → IsState zero_player ×
 abbrev pub PlayersEndAlike : Type 0
 PlayersEndAlike = (words : List (List Bool)) (table : List Kind) (from other : PlayerState) (bits : List Bool) → IsState from → IsState other
     → left_of (player_at words table from bits) ≡ left_of (player_at words table other bits)
+
+-- an array by its words, and by what changed of it
+pub record ArraysAreKept : Type 0 where
+  -- the words of signed values have 32 bits, and give the values back
+  pub words : (values : List ℤ) → All IsShort values → All (λ word. word < 2 ^ 32) (patterns_of values)
+  pub back : (values : List ℤ) → All IsShort values → shorts_of (patterns_of values) ≡ values
+  -- what changed has rising places, and put over the one array makes the other
+  pub rise : (from to : List ℕ) → AreRising (length from) 0 (changes_from 0 from to)
+  pub made : (from to : List ℕ) → length from ≡ length to → with_changes from (changes_from 0 from to) ≡ to

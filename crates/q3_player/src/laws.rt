@@ -1,6 +1,6 @@
 //! Laws of players and of their delta, each the contract of a call that does nothing but cite the laws below it.
 
-ghost use Rattle.q3_player.specs.Laws.{NormalIsNormal, WrittenIsSpelled, ReadIsSpelled, SpelledIsRead, WrittenIsRead, ZeroIsNormal, PlayersEndAlike};
+ghost use Rattle.q3_player.specs.Laws.{NormalIsNormal, WrittenIsSpelled, ReadIsSpelled, SpelledIsRead, WrittenIsRead, ZeroIsNormal, PlayersEndAlike, ArraysAreKept};
 ghost use Rattle.q3_player.specs.State.{IsState, AreShorts};
 
 use crate::state::PlayerState;
@@ -75,3 +75,8 @@ pub fn players_end_alike()
 {
     q3_fields::laws::words_end_alike();
 }
+
+/// An array of signed values is kept by words of 32 bits, and one of words by what changed of another.
+pub fn arrays_are_kept()
+    ensures { ArraysAreKept }
+{}

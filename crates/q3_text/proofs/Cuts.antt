@@ -8,11 +8,8 @@ use Rattle.std.proofs.lemmas.Option.{same_Some}
 use Rattle.std.proofs.lemmas.List.Sums.{split_at_first, passes_at_first, fails_before_first}
 use Rattle.std.proofs.lemmas.List.Elements.{All-from_get_or}
 use Rattle.std.proofs.lemmas.List.{length-append, length-take-le, get_or-take}
-use Rattle.q3_text.specs.Cuts.{cut_at}
-
--- a text without a byte
-abbrev pub lacks : ℕ → List ℕ → Bool
-lacks byte text = list_all (λ x. not (eqb x byte)) text
+use Rattle.q3_text.specs.Cuts.{cut_at, lacks}
+use Rattle.q3_text.specs.Laws.{CutsAreFirst}
 
 abbrev is_byte : ℕ → ℕ → Bool
 is_byte byte x = eqb x byte
@@ -24,7 +21,7 @@ abbrev no_parts : Option (List ℕ × List ℕ)
 no_parts = None
 
 -- a text that was cut is what stood before and after the byte
-pub cut-spelled : (byte : ℕ) (text : List ℕ) (parts : List ℕ × List ℕ) → cut_at byte text ≡ Some parts → text ≡ parts.0 ++ byte ∷ parts.1
+cut-spelled : (byte : ℕ) (text : List ℕ) (parts : List ℕ × List ℕ) → cut_at byte text ≡ Some parts → text ≡ parts.0 ++ byte ∷ parts.1
 unfolding cut_at
 cut-spelled byte text parts e =
     let place = position_or_len (is_byte byte) text in
@@ -39,7 +36,7 @@ cut-spelled byte text parts e =
     ]
 
 -- and what stood before it lacks the byte
-pub cut-lacks : (byte : ℕ) (text : List ℕ) (parts : List ℕ × List ℕ) → cut_at byte text ≡ Some parts → All (λ x. x ≢ byte) parts.0
+cut-lacks : (byte : ℕ) (text : List ℕ) (parts : List ℕ × List ℕ) → cut_at byte text ≡ Some parts → All (λ x. x ≢ byte) parts.0
 unfolding cut_at
 cut-lacks byte text parts e =
     let place = position_or_len (is_byte byte) text in
@@ -70,7 +67,7 @@ drop_past byte [] rest = refl
 drop_past byte (x ∷ front) rest = drop_past byte front rest
 
 -- and a byte after a text without it is where that is cut
-pub cut-again : (byte : ℕ) (front rest : List ℕ) → lacks byte front ≡ true → cut_at byte (front ++ byte ∷ rest) ≡ Some (front, rest)
+cut-again : (byte : ℕ) (front rest : List ℕ) → lacks byte front ≡ true → cut_at byte (front ++ byte ∷ rest) ≡ Some (front, rest)
 unfolding cut_at
 cut-again byte front rest none =
     let place = place-again byte front rest none in
@@ -78,3 +75,6 @@ cut-again byte front rest none =
     let before : take (length front) (front ++ byte ∷ rest) ≡ front = take-append_seam front (byte ∷ rest) in
     let after : drop (length front + 1) (front ++ byte ∷ rest) ≡ rest = rw add-one (drop_past byte front rest) in
     rw (place, inside, before, after) refl
+
+pub cuts-are-first : CutsAreFirst
+cuts-are-first = record { parts = cut-spelled; before = cut-lacks; again = cut-again }

@@ -8,7 +8,8 @@ use Rattle.std.proofs.lemmas.Option.{cond_some}
 use Rattle.std.proofs.lemmas.Fmt.{decimal-digits_value, digits_decimal, digits_value-decimal, decimal_nonempty, first_decimal, decimal_digit}
 use Rattle.std.proofs.lemmas.Str.Parse.{IsDigitsTest, IsNumeralModel, numerals_by_fold}
 use Rattle.q3_text.specs.Decimals.{is_digit, value_of, is_decimal, number_at}
-use Rattle.q3_text.proofs.Cuts.{lacks}
+use Rattle.q3_text.specs.Cuts.{lacks}
+use Rattle.q3_text.specs.Laws.{DecimalsAreNumbers}
 
 -- the digits of a decimal are those of std
 digits_test : IsDigitsTest (λ word. list_all is_digit word ≡ true)
@@ -22,7 +23,7 @@ digits_test = record {
 }
 
 -- and so is their value
-pub own : IsNumeralModel (λ word. list_all is_digit word ≡ true) (λ word. fold (λ value digit. 10 * value + (digit - 48)) 0 word)
+own : IsNumeralModel (λ word. list_all is_digit word ≡ true) (λ word. fold (λ value digit. 10 * value + (digit - 48)) 0 word)
 own = numerals_by_fold _ digits_test (λ start word. fold (λ value digit. 10 * value + (digit - 48)) start word) (record { empty = λ n. refl; more = λ n c cs range. ap (λ start. fold (λ value digit. 10 * value + (digit - 48)) start cs) (omega arith) })
 
 -- digits alone with no 0 before others are what is written of their value
@@ -49,7 +50,7 @@ is_decimal-decimal n small =
     and_from _ _ (and_from _ _ (lt-ltb _ _ some) digits) head
 
 -- a number was spelled in decimal
-pub number_at-spelled : (low high : ℕ) (word : List ℕ) (n : ℕ) → high < 2 ^ 64 → number_at low high word ≡ Some n → (low ≤ n) × (n ≤ high) × (word ≡ decimal n)
+number_at-spelled : (low high : ℕ) (word : List ℕ) (n : ℕ) → high < 2 ^ 64 → number_at low high word ≡ Some n → (low ≤ n) × (n ≤ high) × (word ≡ decimal n)
 unfolding number_at
 number_at-spelled low high word n small e =
     let both = cond_some (is_decimal word && leb low (value_of word) && leb (value_of word) high) (value_of word) n e in
@@ -61,7 +62,7 @@ number_at-spelled low high word n small e =
     (omega arith, omega arith, sym text ∙ ap decimal both.1)
 
 -- and what is spelled in decimal is a number
-pub number_at-again : (low high n : ℕ) → high < 2 ^ 64 → low ≤ n → n ≤ high → number_at low high (decimal n) ≡ Some n
+number_at-again : (low high n : ℕ) → high < 2 ^ 64 → low ≤ n → n ≤ high → number_at low high (decimal n) ≡ Some n
 unfolding number_at
 number_at-again low high n small lower upper =
     let value : value_of (decimal n) ≡ n = digits_value-decimal own n (omega arith) in
@@ -79,5 +80,8 @@ lacks-digits byte (x ∷ text) other digits =
     rw (differs, lacks-digits byte text other parts.1) refl
 
 -- decimals have only digits
-pub lacks-decimal : (byte n : ℕ) → is_digit byte ≡ false → n < 2 ^ 64 → lacks byte (decimal n) ≡ true
+lacks-decimal : (byte n : ℕ) → is_digit byte ≡ false → n < 2 ^ 64 → lacks byte (decimal n) ≡ true
 lacks-decimal byte n other small = lacks-digits byte (decimal n) other (digits_decimal own n small)
+
+pub decimals-are-numbers : DecimalsAreNumbers
+decimals-are-numbers = record { written = number_at-spelled; read = number_at-again; digits = digits_decimal own; others = lacks-decimal }

@@ -1,13 +1,16 @@
 -- Texts: what comes of bytes is one, and it stays as it is.
-use Rattle.std.proofs.Common.{◌≡◌, ◌≢◌, ℕ, ◌≤◌, Bool, false, eqb, ltb, List, length, get_or, map, Option, Some, None, Ok, refl, sym, arith, inl, inr}
-use Rattle.std.specs.List.{position}
-use Rattle.std.proofs.lemmas.Bool.{cases_Bool, ltb-false, le-ltb, eqb-false, ne_eqb}
+use Rattle.std.proofs.Common.{◌≡◌, ◌≢◌, ℕ, ◌≤◌, Bool, true, false, eqb, ltb, List, length, get_or, map, Option, Some, None, Ok, refl, sym, arith, inl, inr}
+use Rattle.std.specs.Prelude.{not}
+use Rattle.std.specs.List.{All, position}
+use Rattle.std.proofs.lemmas.Bool.{cases_Bool, ltb-false, le-ltb, eqb-false, ne_eqb, not-true}
 use Rattle.std.proofs.lemmas.List.{length-map}
 use Rattle.std.proofs.lemmas.List.Folds.{map_fixed}
-use Rattle.std.proofs.lemmas.List.Elements.{All-map, All-get_or, All-from_get_or}
+use Rattle.std.proofs.lemmas.List.Elements.{All-map, All-get_or, All-from_get_or, All-weaker}
+use Rattle.std.proofs.lemmas.List.Sums.{AllPass-from_list_all}
 use Rattle.q3_text.specs.declared.text.TextError.{TextError}
 use Rattle.q3_text.specs.declared.text.TextError.TheVariants.{Long}
 use Rattle.q3_text.specs.Texts.{most_bytes, translated, IsTextByte, IsText, zero_fault, text_fault, text_or, text_of}
+use Rattle.q3_text.specs.Cuts.{lacks}
 use Rattle.q3_text.proofs.Places.{no_place, none_pass, none_passes}
 
 abbrev is_zero : ℕ → Bool
@@ -80,3 +83,15 @@ stays text is =
     let zero : position is_zero text ≡ no_place = none_passes is_zero text (All-from_get_or (λ x. is_zero x ≡ false) text 0 (λ i lt. ne_eqb (get_or text i 0) 0 (let each = All-get_or IsTextByte text i 0 lt is.each in let some = each.some in omega arith))) in
     let same : map translated text ≡ text = map_fixed translated text (All-from_get_or (λ x. translated x ≡ x) text 0 (λ i lt. translated-same (get_or text i 0) (All-get_or IsTextByte text i 0 lt is.each))) in
     rw (short, zero, same) refl
+
+-- a text that lacks a byte has it nowhere
+All-lacks : (text : List ℕ) → lacks 0 text ≡ true → All (λ byte. is_zero byte ≡ false) text
+All-lacks text none = All-weaker (λ byte. not (is_zero byte) ≡ true) (λ byte. is_zero byte ≡ false) (λ byte e. not-true (is_zero byte) e) text (AllPass-from_list_all (λ byte. not (is_zero byte)) text none)
+
+-- few bytes, none of them 0, make a text
+pub made : (bytes : List ℕ) → length bytes ≤ most_bytes → lacks 0 bytes ≡ true → text_of bytes ≡ Ok (map translated bytes)
+unfolding text_of text_fault
+made bytes few none =
+    let short : ltb most_bytes (length bytes) ≡ false = le-ltb _ _ few in
+    let zero : position is_zero bytes ≡ no_place = none_passes is_zero bytes (All-lacks bytes none) in
+    rw (short, zero) refl

@@ -14,5 +14,5 @@ pub use commands::Commands;
 pub use cut::{cut_at, place_of};
 pub use info::info_value;
 pub use key::hash_key;
-pub use number::{decimal, decimal_within};
+pub use number::{decimal, decimal_within, long_decimal};
 pub use text::{Command, CommandRun, LONGEST_TEXT, Text, TextError, translate};

@@ -8,9 +8,10 @@ use Rattle.q3_io.specs.declared.address.Address.{Address}
 use Rattle.q3_bits.specs.OptionBind.{◌>>=◌}
 use Rattle.q3_text.specs.Cuts.{cut_at}
 use Rattle.q3_text.specs.Decimals.{number_at}
-use Rattle.q3_text.proofs.Cuts.{lacks, cut-spelled, cut-again}
-use Rattle.q3_text.proofs.Numerals.{number_at-spelled, number_at-again, lacks-decimal}
+use Rattle.q3_text.specs.Cuts.{lacks}
 use Rattle.q3_words.specs.Addresses.{host_of, address_at, SpellsAddress}
+use Rattle.q3_text.specs.Laws.{TextLaws}
+use Rattle.q3_words.specs.Laws.{WasAddress}
 
 -- the value of a step that found something
 pub bind_some : {A B : Type 0} (o : Option A) (f : A → Option B) (y : B) → (o >>= f) ≡ Some y → (x : A) × (o ≡ Some x) × (f x ≡ Some y)
@@ -119,20 +120,14 @@ parts_of word address e =
       whole = port.2;
     }
 
--- what was read as an address
-pub record WasAddress (word : List ℕ) (address : Address) : Type 0 where
-  pub spelled : SpellsAddress word address
-  pub least : 1 ≤ address.port
-  pub most : address.port < 2 ^ 16
-
 -- those parts spell it
-spelled_from : (word : List ℕ) (address : Address) (p : Parts word address) → WasAddress word (address_of p.a p.b p.c p.d p.port)
-spelled_from word address p =
-    let a_is = number_at-spelled 0 255 p.first.0 p.a (omega arith) p.a_read in
-    let b_is = number_at-spelled 0 255 p.second.0 p.b (omega arith) p.b_read in
-    let c_is = number_at-spelled 0 255 p.third.0 p.c (omega arith) p.c_read in
-    let d_is = number_at-spelled 0 255 p.third.1 p.d (omega arith) p.d_read in
-    let port_is = number_at-spelled 1 65535 p.ends.1 p.port (omega arith) p.port_read in
+spelled_from : (laws : TextLaws) (word : List ℕ) (address : Address) (p : Parts word address) → WasAddress word (address_of p.a p.b p.c p.d p.port)
+spelled_from laws word address p =
+    let a_is = laws.numbers.written 0 255 p.first.0 p.a (omega arith) p.a_read in
+    let b_is = laws.numbers.written 0 255 p.second.0 p.b (omega arith) p.b_read in
+    let c_is = laws.numbers.written 0 255 p.third.0 p.c (omega arith) p.c_read in
+    let d_is = laws.numbers.written 0 255 p.third.1 p.d (omega arith) p.d_read in
+    let port_is = laws.numbers.written 1 65535 p.ends.1 p.port (omega arith) p.port_read in
     record {
       spelled = record {
         a = p.a;
@@ -142,7 +137,7 @@ spelled_from word address p =
         bytes = (omega arith, omega arith, omega arith, omega arith);
         host = refl;
         whole = joined word p.ends p.first p.second p.third (decimal p.a) (decimal p.b) (decimal p.c) (decimal p.d) (decimal p.port)
-            (cut-spelled 58 word p.ends p.at_colon) (cut-spelled 46 p.ends.0 p.first p.at_first) (cut-spelled 46 p.first.1 p.second p.at_second) (cut-spelled 46 p.second.1 p.third p.at_third)
+            (laws.cuts.parts 58 word p.ends p.at_colon) (laws.cuts.parts 46 p.ends.0 p.first p.at_first) (laws.cuts.parts 46 p.first.1 p.second p.at_second) (laws.cuts.parts 46 p.second.1 p.third p.at_third)
             a_is.2 b_is.2 c_is.2 d_is.2 port_is.2;
       };
       least = omega arith;
@@ -150,33 +145,33 @@ spelled_from word address p =
     }
 
 -- what is read as an address was spelled so
-pub address_at-spelled : (word : List ℕ) (address : Address) → address_at word ≡ Some address → WasAddress word address
-address_at-spelled word address e =
+pub address_at-spelled : (laws : TextLaws) (word : List ℕ) (address : Address) → address_at word ≡ Some address → WasAddress word address
+address_at-spelled laws word address e =
     let p = parts_of word address e in
-    subst (λ (x : Address). WasAddress word x) (same_Some (address_of p.a p.b p.c p.d p.port) address p.whole) (spelled_from word address p)
+    subst (λ (x : Address). WasAddress word x) (same_Some (address_of p.a p.b p.c p.d p.port) address p.whole) (spelled_from laws word address p)
 
 -- and what is spelled so is read
-pub address_at-again : (word : List ℕ) (address : Address) → SpellsAddress word address → 1 ≤ address.port → address.port < 2 ^ 16 → address_at word ≡ Some address
+pub address_at-again : (laws : TextLaws) (word : List ℕ) (address : Address) → SpellsAddress word address → 1 ≤ address.port → address.port < 2 ^ 16 → address_at word ≡ Some address
 unfolding address_at
-address_at-again word address spelled least most =
+address_at-again laws word address spelled least most =
     let a = decimal spelled.a in
     let b = decimal spelled.b in
     let c = decimal spelled.c in
     let d = decimal spelled.d in
     let port = decimal address.port in
     let bytes = spelled.bytes in
-    let no_colon_d : lacks 58 d ≡ true = lacks-decimal 58 spelled.d refl (omega arith) in
-    let no_colon_c : lacks 58 (c ++ 46 ∷ d) ≡ true = lacks-append 58 46 c d (lacks-decimal 58 spelled.c refl (omega arith)) refl no_colon_d in
-    let no_colon_b : lacks 58 (b ++ 46 ∷ (c ++ 46 ∷ d)) ≡ true = lacks-append 58 46 b (c ++ 46 ∷ d) (lacks-decimal 58 spelled.b refl (omega arith)) refl no_colon_c in
-    let no_colon : lacks 58 (a ++ 46 ∷ (b ++ 46 ∷ (c ++ 46 ∷ d))) ≡ true = lacks-append 58 46 a (b ++ 46 ∷ (c ++ 46 ∷ d)) (lacks-decimal 58 spelled.a refl (omega arith)) refl no_colon_b in
+    let no_colon_d : lacks 58 d ≡ true = laws.numbers.others 58 spelled.d refl (omega arith) in
+    let no_colon_c : lacks 58 (c ++ 46 ∷ d) ≡ true = lacks-append 58 46 c d (laws.numbers.others 58 spelled.c refl (omega arith)) refl no_colon_d in
+    let no_colon_b : lacks 58 (b ++ 46 ∷ (c ++ 46 ∷ d)) ≡ true = lacks-append 58 46 b (c ++ 46 ∷ d) (laws.numbers.others 58 spelled.b refl (omega arith)) refl no_colon_c in
+    let no_colon : lacks 58 (a ++ 46 ∷ (b ++ 46 ∷ (c ++ 46 ∷ d))) ≡ true = lacks-append 58 46 a (b ++ 46 ∷ (c ++ 46 ∷ d)) (laws.numbers.others 58 spelled.a refl (omega arith)) refl no_colon_b in
     let is : address ≡ address_of spelled.a spelled.b spelled.c spelled.d address.port = ap (λ (host : ℕ). record { host = host; port = address.port }) spelled.host in
-    let ends = cut-again 58 (a ++ 46 ∷ (b ++ 46 ∷ (c ++ 46 ∷ d))) port no_colon in
-    let first = cut-again 46 a (b ++ 46 ∷ (c ++ 46 ∷ d)) (lacks-decimal 46 spelled.a refl (omega arith)) in
-    let second = cut-again 46 b (c ++ 46 ∷ d) (lacks-decimal 46 spelled.b refl (omega arith)) in
-    let third = cut-again 46 c d (lacks-decimal 46 spelled.c refl (omega arith)) in
-    let a_is = number_at-again 0 255 spelled.a (omega arith) (omega arith) (omega arith) in
-    let b_is = number_at-again 0 255 spelled.b (omega arith) (omega arith) (omega arith) in
-    let c_is = number_at-again 0 255 spelled.c (omega arith) (omega arith) (omega arith) in
-    let d_is = number_at-again 0 255 spelled.d (omega arith) (omega arith) (omega arith) in
-    let port_is = number_at-again 1 65535 address.port (omega arith) (omega arith) (omega arith) in
+    let ends = laws.cuts.again 58 (a ++ 46 ∷ (b ++ 46 ∷ (c ++ 46 ∷ d))) port no_colon in
+    let first = laws.cuts.again 46 a (b ++ 46 ∷ (c ++ 46 ∷ d)) (laws.numbers.others 46 spelled.a refl (omega arith)) in
+    let second = laws.cuts.again 46 b (c ++ 46 ∷ d) (laws.numbers.others 46 spelled.b refl (omega arith)) in
+    let third = laws.cuts.again 46 c d (laws.numbers.others 46 spelled.c refl (omega arith)) in
+    let a_is = laws.numbers.read 0 255 spelled.a (omega arith) (omega arith) (omega arith) in
+    let b_is = laws.numbers.read 0 255 spelled.b (omega arith) (omega arith) (omega arith) in
+    let c_is = laws.numbers.read 0 255 spelled.c (omega arith) (omega arith) (omega arith) in
+    let d_is = laws.numbers.read 0 255 spelled.d (omega arith) (omega arith) (omega arith) in
+    let port_is = laws.numbers.read 1 65535 address.port (omega arith) (omega arith) (omega arith) in
     ap address_at (spelled.whole ∙ regroup a b c d port) ∙ rw (ends, first, second, third, a_is, b_is, c_is, d_is, port_is) (ap (λ (x : Address). Some x) (sym is))

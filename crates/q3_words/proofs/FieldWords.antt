@@ -17,11 +17,11 @@ use Rattle.q3_bits.specs.OptionBind.{◌>>=◌}
 use Rattle.q3_words.specs.Words.{after_prefix}
 use Rattle.q3_text.specs.Cuts.{cut_at}
 use Rattle.q3_text.specs.Decimals.{is_digit, number_at}
-use Rattle.q3_text.proofs.Cuts.{cut-spelled, cut-again}
-use Rattle.q3_text.proofs.Numerals.{own, number_at-spelled, number_at-again, lacks-decimal}
 use Rattle.q3_words.specs.Fields.{field_at, Fields, fields_at, entity_of, entity_at, player_of, player_at, field_words, AreFields, SpellsEntity, SpellsPlayer}
 use Rattle.q3_words.proofs.Prefixes.{after_prefix-spelled, after_prefix-again}
 use Rattle.q3_words.proofs.Addresses.{bind_some}
+use Rattle.q3_text.specs.Laws.{TextLaws}
+use Rattle.q3_words.specs.Laws.{WasEntity}
 
 -- ---- one field
 
@@ -45,30 +45,30 @@ was_field letter limit least word field text parts index value at_letter at_colo
     subst (λ (x : Change). WasField letter limit least word x) (same_Some (index, value) field same) was
 
 -- was spelled so
-field_at-spelled : (letter : List ℕ) (limit least : ℕ) (word : List ℕ) (field : Change) → 1 ≤ limit → limit < 2 ^ 32 → field_at letter limit least word ≡ Some field → WasField letter limit least word field
+field_at-spelled : (laws : TextLaws) (letter : List ℕ) (limit least : ℕ) (word : List ℕ) (field : Change) → 1 ≤ limit → limit < 2 ^ 32 → field_at letter limit least word ≡ Some field → WasField letter limit least word field
 unfolding field_at
-field_at-spelled letter limit least word field some few e =
+field_at-spelled laws letter limit least word field some few e =
     let text = bind_some (after_prefix letter word) (λ text. cut_at 58 text >>= λ parts. number_at least (limit - 1) parts.0 >>= λ index. number_at 0 4294967295 parts.1 >>= λ value. Some (index, value)) field e in
     let parts = bind_some (cut_at 58 text.0) (λ parts. number_at least (limit - 1) parts.0 >>= λ index. number_at 0 4294967295 parts.1 >>= λ value. Some (index, value)) field text.2 in
     let index = bind_some (number_at least (limit - 1) parts.0.0) (λ index. number_at 0 4294967295 parts.0.1 >>= λ value. Some (index, value)) field parts.2 in
     let value = bind_some (number_at 0 4294967295 parts.0.1) (λ value. Some (index.0, value)) field index.2 in
-    let index_is = number_at-spelled least (limit - 1) parts.0.0 index.0 (omega arith) index.1 in
-    let value_is = number_at-spelled 0 4294967295 parts.0.1 value.0 (omega arith) value.1 in
-    was_field letter limit least word field text.0 parts.0 index.0 value.0 (after_prefix-spelled letter word text.0 text.1) (cut-spelled 58 text.0 parts.0 parts.1) index_is.2 value_is.2 index_is.0 (omega arith) (omega arith) value.2
+    let index_is = laws.numbers.written least (limit - 1) parts.0.0 index.0 (omega arith) index.1 in
+    let value_is = laws.numbers.written 0 4294967295 parts.0.1 value.0 (omega arith) value.1 in
+    was_field letter limit least word field text.0 parts.0 index.0 value.0 (after_prefix-spelled letter word text.0 text.1) (laws.cuts.parts 58 text.0 parts.0 parts.1) index_is.2 value_is.2 index_is.0 (omega arith) (omega arith) value.2
 
 -- and what is spelled so is read
-field_at-again : (letter : List ℕ) (limit least : ℕ) (field : Change) → limit < 2 ^ 32 → least ≤ field.0 → field.0 < limit → field.1 < 2 ^ 32 → field_at letter limit least (indexed_text letter field.0 field.1) ≡ Some field
+field_at-again : (laws : TextLaws) (letter : List ℕ) (limit least : ℕ) (field : Change) → limit < 2 ^ 32 → least ≤ field.0 → field.0 < limit → field.1 < 2 ^ 32 → field_at letter limit least (indexed_text letter field.0 field.1) ≡ Some field
 unfolding field_at
-field_at-again letter limit least field few lower upper small =
+field_at-again laws letter limit least field few lower upper small =
     let text : after_prefix letter (letter ++ (decimal field.0 ++ 58 ∷ decimal field.1)) ≡ Some (decimal field.0 ++ 58 ∷ decimal field.1) = after_prefix-again letter (decimal field.0 ++ 58 ∷ decimal field.1) in
-    let parts : cut_at 58 (decimal field.0 ++ 58 ∷ decimal field.1) ≡ Some (decimal field.0, decimal field.1) = cut-again 58 (decimal field.0) (decimal field.1) (lacks-decimal 58 field.0 refl (omega arith)) in
-    let index : number_at least (limit - 1) (decimal field.0) ≡ Some field.0 = number_at-again least (limit - 1) field.0 (omega arith) lower (omega arith) in
-    let value : number_at 0 4294967295 (decimal field.1) ≡ Some field.1 = number_at-again 0 4294967295 field.1 (omega arith) (omega arith) (omega arith) in
+    let parts : cut_at 58 (decimal field.0 ++ 58 ∷ decimal field.1) ≡ Some (decimal field.0, decimal field.1) = laws.cuts.again 58 (decimal field.0) (decimal field.1) (laws.numbers.others 58 field.0 refl (omega arith)) in
+    let index : number_at least (limit - 1) (decimal field.0) ≡ Some field.0 = laws.numbers.read least (limit - 1) field.0 (omega arith) lower (omega arith) in
+    let value : number_at 0 4294967295 (decimal field.1) ≡ Some field.1 = laws.numbers.read 0 4294967295 field.1 (omega arith) (omega arith) (omega arith) in
     ap (field_at letter limit least) (regroup letter field.0 field.1) ∙ rw (text, parts, index, value) refl
 
 -- a word that begins with no digit is no field without a letter
-no_digit : (n : ℕ) (rest : List ℕ) (x : ℕ) (text : List ℕ) → n < 2 ^ 64 → is_digit x ≡ false → x ∷ text ≡ decimal n ++ rest → ⊥
-no_digit n rest x text small other e = from_digits (decimal n) (decimal_nonempty n small) (digits_decimal own n small) e
+no_digit : (laws : TextLaws) (n : ℕ) (rest : List ℕ) (x : ℕ) (text : List ℕ) → n < 2 ^ 64 → is_digit x ≡ false → x ∷ text ≡ decimal n ++ rest → ⊥
+no_digit laws n rest x text small other e = from_digits (decimal n) (decimal_nonempty n small) (laws.numbers.digits n small) e
   where
     from_digits : (digits : List ℕ) → 0 < length digits → list_all is_digit digits ≡ true → x ∷ text ≡ digits ++ rest → ⊥
     from_digits [] some all e = absurd (omega arith)
@@ -85,13 +85,13 @@ option_cases (Some x) = inr (x, refl)
 abbrev IsOther : List ℕ → ℕ → List ℕ → Type 0
 IsOther letter limit word = (least : ℕ) → field_at letter limit least word ≡ None
 
-other_than_digits : (limit x : ℕ) (text : List ℕ) → 1 ≤ limit → limit < 2 ^ 32 → is_digit x ≡ false → IsOther [] limit (x ∷ text)
-other_than_digits limit x text some few other least =
+other_than_digits : (laws : TextLaws) (limit x : ℕ) (text : List ℕ) → 1 ≤ limit → limit < 2 ^ 32 → is_digit x ≡ false → IsOther [] limit (x ∷ text)
+other_than_digits laws limit x text some few other least =
     elim (option_cases (field_at [] limit least (x ∷ text))) [
       | inl none ↦ none
       | inr (field, read) ↦
-          let was = field_at-spelled [] limit least (x ∷ text) field some few read in
-          absurd (no_digit field.0 (58 ∷ decimal field.1) x text (let upper = was.upper in omega arith) other (was.whole ∙ regroup [] field.0 field.1))
+          let was = field_at-spelled laws [] limit least (x ∷ text) field some few read in
+          absurd (no_digit laws field.0 (58 ∷ decimal field.1) x text (let upper = was.upper in omega arith) other (was.whole ∙ regroup [] field.0 field.1))
     ]
 
 -- ---- fields
@@ -102,15 +102,15 @@ record WereFields (letter : List ℕ) (limit least : ℕ) (words : List (List �
   whole : words ≡ field_words letter read.fields ++ read.left
 
 -- were spelled so
-fields_at-spelled : (letter : List ℕ) (limit least : ℕ) (words : List (List ℕ)) → 1 ≤ limit → limit < 2 ^ 32 → WereFields letter limit least words (fields_at letter limit least words)
+fields_at-spelled : (laws : TextLaws) (letter : List ℕ) (limit least : ℕ) (words : List (List ℕ)) → 1 ≤ limit → limit < 2 ^ 32 → WereFields letter limit least words (fields_at letter limit least words)
 unfolding fields_at
-fields_at-spelled letter limit least [] some few = record { are = (tt, All-nil (λ (field : Change). field.1 < 2 ^ 32)); whole = refl }
-fields_at-spelled letter limit least (word ∷ words) some few =
+fields_at-spelled laws letter limit least [] some few = record { are = (tt, All-nil (λ (field : Change). field.1 < 2 ^ 32)); whole = refl }
+fields_at-spelled laws letter limit least (word ∷ words) some few =
     elim (option_cases (field_at letter limit least word)) [
       | inl none ↦ rw none (record { are = (tt, All-nil (λ (field : Change). field.1 < 2 ^ 32)); whole = refl })
       | inr (field, read) ↦
-          let was = field_at-spelled letter limit least word field some few read in
-          let others = fields_at-spelled letter limit (field.0 + 1) words some few in
+          let was = field_at-spelled laws letter limit least word field some few read in
+          let others = fields_at-spelled laws letter limit (field.0 + 1) words some few in
           rw read (record {
             are = ((was.lower, was.upper, others.are.0), All-cons (λ (field : Change). field.1 < 2 ^ 32) field (fields_at letter limit (field.0 + 1) words).fields was.small others.are.1);
             whole = ap (λ (w : List ℕ). w ∷ words) was.whole ∙ ap (λ (ws : List (List ℕ)). indexed_text letter field.0 field.1 ∷ ws) others.whole;
@@ -122,14 +122,14 @@ abbrev HasNone : List ℕ → ℕ → List (List ℕ) → Type 0
 HasNone letter limit words = (least : ℕ) → fields_at letter limit least words ≡ record { fields = []; left = words }
 
 -- and what is spelled so is read, with whatever follows it
-fields_at-again : (letter : List ℕ) (limit least : ℕ) (fields : List Change) (rest : List (List ℕ)) → limit < 2 ^ 32 → AreFields limit least fields → HasNone letter limit rest
+fields_at-again : (laws : TextLaws) (letter : List ℕ) (limit least : ℕ) (fields : List Change) (rest : List (List ℕ)) → limit < 2 ^ 32 → AreFields limit least fields → HasNone letter limit rest
     → fields_at letter limit least (field_words letter fields ++ rest) ≡ record { fields = fields; left = rest }
 unfolding fields_at
-fields_at-again letter limit least [] rest few are none = none least
-fields_at-again letter limit least (field ∷ fields) rest few are none =
+fields_at-again laws letter limit least [] rest few are none = none least
+fields_at-again laws letter limit least (field ∷ fields) rest few are none =
     rw (
-      field_at-again letter limit least field few are.0.0 are.0.1 (All-head (λ (field : Change). field.1 < 2 ^ 32) field fields are.1),
-      fields_at-again letter limit (field.0 + 1) fields rest few (are.0.2, All-tail (λ (field : Change). field.1 < 2 ^ 32) field fields are.1) none,
+      field_at-again laws letter limit least field few are.0.0 are.0.1 (All-head (λ (field : Change). field.1 < 2 ^ 32) field fields are.1),
+      fields_at-again laws letter limit (field.0 + 1) fields rest few (are.0.2, All-tail (λ (field : Change). field.1 < 2 ^ 32) field fields are.1) none,
     ) refl
 
 -- there is none where the words have other letters
@@ -143,8 +143,8 @@ other_letter : (x y limit : ℕ) (field : Change) → eqb y x ≡ false → IsOt
 unfolding field_at after_prefix
 other_letter x y limit field differs least = rw differs refl
 
-letter_other_than_digits : (limit x : ℕ) (field : Change) → 1 ≤ limit → limit < 2 ^ 32 → is_digit x ≡ false → IsOther [] limit (indexed_text (x ∷ []) field.0 field.1)
-letter_other_than_digits limit x field some few other = other_than_digits limit x (indexed_text [] field.0 field.1) some few other
+letter_other_than_digits : (laws : TextLaws) (limit x : ℕ) (field : Change) → 1 ≤ limit → limit < 2 ^ 32 → is_digit x ≡ false → IsOther [] limit (indexed_text (x ∷ []) field.0 field.1)
+letter_other_than_digits laws limit x field some few other = other_than_digits laws limit x (indexed_text [] field.0 field.1) some few other
 
 none_of_nothing : (letter : List ℕ) (limit : ℕ) → HasNone letter limit []
 unfolding fields_at
@@ -166,18 +166,13 @@ all_read {A} (word ∷ words) x y e =
     let nothing : refuse {A = A} ≡ accept y = rw some at (rw (← add-one) at e) in
     absurd cc
 
--- an entity that is read
-pub record WasEntity (number : ℕ) (words : List (List ℕ)) (entity : EntityState) : Type 0 where
-  pub is : entity.number ≡ number
-  pub spelled : SpellsEntity words entity
-
--- was spelled so
-pub entity_at-spelled : (number : ℕ) (words : List (List ℕ)) (entity : EntityState) → entity_at number words ≡ Ok entity → WasEntity number words entity
+-- an entity that is read was spelled so
+pub entity_at-spelled : (laws : TextLaws) (number : ℕ) (words : List (List ℕ)) (entity : EntityState) → entity_at number words ≡ Ok entity → WasEntity number words entity
 unfolding entity_at
-entity_at-spelled number words entity e =
+entity_at-spelled laws number words entity e =
     let read = fields_at [] 64 0 words in
     let ends = all_read read.left (entity_of number read.fields) entity e in
-    let were = fields_at-spelled [] 64 0 words (omega arith) (omega arith) in
+    let were = fields_at-spelled laws [] 64 0 words (omega arith) (omega arith) in
     record {
       is = ap (λ (state : EntityState). state.number) (sym ends.1);
       spelled = record {
@@ -189,10 +184,10 @@ entity_at-spelled number words entity e =
     }
 
 -- and what is spelled so is read
-pub entity_at-again : (words : List (List ℕ)) (entity : EntityState) → SpellsEntity words entity → entity_at entity.number words ≡ Ok entity
+pub entity_at-again : (laws : TextLaws) (words : List (List ℕ)) (entity : EntityState) → SpellsEntity words entity → entity_at entity.number words ≡ Ok entity
 unfolding entity_at
-entity_at-again words entity spelled =
-    let read = fields_at-again [] 64 0 spelled.fields [] (omega arith) spelled.are_fields (none_of_nothing [] 64) in
+entity_at-again laws words entity spelled =
+    let read = fields_at-again laws [] 64 0 spelled.fields [] (omega arith) spelled.are_fields (none_of_nothing [] 64) in
     ap (entity_at entity.number) (spelled.whole ∙ sym (append-nil (field_words [] spelled.fields))) ∙ rw read (ap (λ (words : List ℕ). accept (record { number = entity.number; words = words })) (sym spelled.state))
 
 -- ---- players
@@ -206,20 +201,20 @@ after_each : {words : List (List ℕ)} {after_a after_b after_c after_d : List (
 after_each a b c d e at_a at_b at_c at_d at_e = rw (at_a, at_b, at_c, at_d, at_e) (sym (grouped a b c d e))
 
 -- a player that is read was spelled so
-pub player_at-spelled : (words : List (List ℕ)) (player : PlayerState) → player_at words ≡ Ok player → SpellsPlayer words player
+pub player_at-spelled : (laws : TextLaws) (words : List (List ℕ)) (player : PlayerState) → player_at words ≡ Ok player → SpellsPlayer words player
 unfolding player_at
-player_at-spelled words player e =
+player_at-spelled laws words player e =
     let fields = fields_at [] 64 0 words in
     let stats = fields_at (codes "s") 16 0 fields.left in
     let persistant = fields_at (codes "p") 16 0 stats.left in
     let ammo = fields_at (codes "a") 16 0 persistant.left in
     let powerups = fields_at (codes "u") 16 0 ammo.left in
     let ends = all_read powerups.left (player_of fields.fields stats.fields persistant.fields ammo.fields powerups.fields) player e in
-    let one = fields_at-spelled [] 64 0 words (omega arith) (omega arith) in
-    let two = fields_at-spelled (codes "s") 16 0 fields.left (omega arith) (omega arith) in
-    let three = fields_at-spelled (codes "p") 16 0 stats.left (omega arith) (omega arith) in
-    let four = fields_at-spelled (codes "a") 16 0 persistant.left (omega arith) (omega arith) in
-    let five = fields_at-spelled (codes "u") 16 0 ammo.left (omega arith) (omega arith) in
+    let one = fields_at-spelled laws [] 64 0 words (omega arith) (omega arith) in
+    let two = fields_at-spelled laws (codes "s") 16 0 fields.left (omega arith) (omega arith) in
+    let three = fields_at-spelled laws (codes "p") 16 0 stats.left (omega arith) (omega arith) in
+    let four = fields_at-spelled laws (codes "a") 16 0 persistant.left (omega arith) (omega arith) in
+    let five = fields_at-spelled laws (codes "u") 16 0 ammo.left (omega arith) (omega arith) in
     record {
       fields = fields.fields;
       stats = stats.fields;
@@ -236,9 +231,9 @@ player_at-spelled words player e =
     }
 
 -- and what is spelled so is read
-pub player_at-again : (words : List (List ℕ)) (player : PlayerState) → SpellsPlayer words player → player_at words ≡ Ok player
+pub player_at-again : (laws : TextLaws) (words : List (List ℕ)) (player : PlayerState) → SpellsPlayer words player → player_at words ≡ Ok player
 unfolding player_at
-player_at-again words player spelled =
+player_at-again laws words player spelled =
     let stats = field_words (codes "s") spelled.stats in
     let persistant = field_words (codes "p") spelled.persistant in
     let ammo = field_words (codes "a") spelled.ammo in
@@ -248,17 +243,17 @@ player_at-again words player spelled =
     let third = persistant ++ fourth in
     let second = stats ++ third in
     let no_s : HasNone [] 64 second =
-    none_of_other [] (codes "s") 64 spelled.stats third (λ f. letter_other_than_digits 64 115 f (omega arith) (omega arith) refl) (none_of_other [] (codes "p") 64 spelled.persistant fourth (λ f. letter_other_than_digits 64 112 f (omega arith) (omega arith) refl)
-    (none_of_other [] (codes "a") 64 spelled.ammo fifth (λ f. letter_other_than_digits 64 97 f (omega arith) (omega arith) refl) (none_of_other [] (codes "u") 64 spelled.powerups [] (λ f. letter_other_than_digits 64 117 f (omega arith) (omega arith) refl) (none_of_nothing [] 64)))) in
+    none_of_other [] (codes "s") 64 spelled.stats third (λ f. letter_other_than_digits laws 64 115 f (omega arith) (omega arith) refl) (none_of_other [] (codes "p") 64 spelled.persistant fourth (λ f. letter_other_than_digits laws 64 112 f (omega arith) (omega arith) refl)
+    (none_of_other [] (codes "a") 64 spelled.ammo fifth (λ f. letter_other_than_digits laws 64 97 f (omega arith) (omega arith) refl) (none_of_other [] (codes "u") 64 spelled.powerups [] (λ f. letter_other_than_digits laws 64 117 f (omega arith) (omega arith) refl) (none_of_nothing [] 64)))) in
     let no_p : HasNone (codes "s") 16 third =
     none_of_other (codes "s") (codes "p") 16 spelled.persistant fourth (λ f. other_letter 115 112 16 f refl) (none_of_other (codes "s") (codes "a") 16 spelled.ammo fifth (λ f. other_letter 115 97 16 f refl)
     (none_of_other (codes "s") (codes "u") 16 spelled.powerups [] (λ f. other_letter 115 117 16 f refl) (none_of_nothing (codes "s") 16))) in
     let no_a : HasNone (codes "p") 16 fourth =
     none_of_other (codes "p") (codes "a") 16 spelled.ammo fifth (λ f. other_letter 112 97 16 f refl) (none_of_other (codes "p") (codes "u") 16 spelled.powerups [] (λ f. other_letter 112 117 16 f refl) (none_of_nothing (codes "p") 16)) in
     let no_u : HasNone (codes "a") 16 fifth = none_of_other (codes "a") (codes "u") 16 spelled.powerups [] (λ f. other_letter 97 117 16 f refl) (none_of_nothing (codes "a") 16) in
-    let one = fields_at-again [] 64 0 spelled.fields second (omega arith) spelled.are_fields no_s in
-    let two = fields_at-again (codes "s") 16 0 spelled.stats third (omega arith) spelled.are_stats no_p in
-    let three = fields_at-again (codes "p") 16 0 spelled.persistant fourth (omega arith) spelled.are_persistant no_a in
-    let four = fields_at-again (codes "a") 16 0 spelled.ammo fifth (omega arith) spelled.are_ammo no_u in
-    let five = fields_at-again (codes "u") 16 0 spelled.powerups [] (omega arith) spelled.are_powerups (none_of_nothing (codes "u") 16) in
+    let one = fields_at-again laws [] 64 0 spelled.fields second (omega arith) spelled.are_fields no_s in
+    let two = fields_at-again laws (codes "s") 16 0 spelled.stats third (omega arith) spelled.are_stats no_p in
+    let three = fields_at-again laws (codes "p") 16 0 spelled.persistant fourth (omega arith) spelled.are_persistant no_a in
+    let four = fields_at-again laws (codes "a") 16 0 spelled.ammo fifth (omega arith) spelled.are_ammo no_u in
+    let five = fields_at-again laws (codes "u") 16 0 spelled.powerups [] (omega arith) spelled.are_powerups (none_of_nothing (codes "u") 16) in
     ap player_at (spelled.whole ∙ grouped _ stats persistant ammo powerups) ∙ rw (one, two, three, four, five) (ap (λ (p : PlayerState). accept p) (sym spelled.state))

@@ -19,6 +19,7 @@ use Rattle.q3_io.specs.Print.{hex_word}
 use Rattle.q3_words.specs.Hex.{is_capital, hex_at, hex_within, most_area, area_at, SpellsHex}
 use Rattle.q3_words.proofs.Addresses.{bind_some}
 use Rattle.q3_words.proofs.Digits.{pairs_spelled, pairs_small}
+use Rattle.q3_words.specs.Laws.{WereFew}
 
 -- ---- words
 
@@ -83,13 +84,7 @@ hex_at-again (byte ∷ bytes) each =
 
 -- ---- bytes up to a limit
 
--- few enough bytes that a word spells
-pub record WereFew (limit : ℕ) (word bytes : List ℕ) : Type 0 where
-  pub spelled : SpellsHex word bytes
-  pub few : length bytes ≤ limit
-  pub each : All (λ byte. byte < 256) bytes
-
--- were spelled so
+-- few enough bytes that a word spells were spelled so
 pub hex_within-spelled : (limit : ℕ) (word bytes : List ℕ) → hex_within limit word ≡ Some bytes → WereFew limit word bytes
 unfolding hex_within
 hex_within-spelled limit word bytes e =

@@ -1,14 +1,12 @@
--- exported: proofs of crates above may cite these
-pub mod Prefixes
-pub mod Spaces
-pub mod NumberWords
-pub mod Addresses
-pub mod Digits
-pub mod FieldWords
-pub mod HexWords
-pub mod NameWords
-pub mod Unquoted
--- for this crate alone
+mod Prefixes
+mod Spaces
+mod NumberWords
+mod Addresses
+mod Digits
+mod FieldWords
+mod HexWords
+mod NameWords
+mod Unquoted
 mod Fronts
 mod Coming
 mod Rising

@@ -9,6 +9,7 @@ use Rattle.std.specs.Result.{IsOk, MatchResult}
 use Rattle.std.proofs.lemmas.Str.{IsUtf8-from_ascii}
 use Rattle.std.proofs.lemmas.Str.Ascii.{IsAscii-from_all}
 use Rattle.q3_words.specs.Names.{longest_name, IsName, is_name_byte, is_name, name_at}
+use Rattle.q3_words.specs.Laws.{WasName}
 
 abbrev IsByte : ℕ → Type 0
 IsByte byte = (33 ≤ byte) × (byte ≤ 126)
@@ -41,10 +42,6 @@ unfolding is_name
 passes word is = rw (le-leb 1 (length word) is.0, le-leb (length word) longest_name is.1) (bytes_pass word is.2)
 
 -- a word that is read as a name is that name
-pub record WasName (word name : List ℕ) : Type 0 where
-  pub same : word ≡ name
-  pub is : IsName name
-
 pub name_at-is : (word name : List ℕ) → name_at word ≡ Some name → WasName word name
 unfolding name_at
 name_at-is word name e =

@@ -5,8 +5,8 @@ use Rattle.std.specs.Option.{ok_or}
 use Rattle.q3_words.specs.declared.cause.LineCause.{LineCause}
 use Rattle.q3_words.specs.declared.cause.LineCause.TheVariants as causes
 use Rattle.q3_text.specs.Decimals.{number_at}
-use Rattle.q3_text.proofs.Numerals.{number_at-spelled, number_at-again}
 use Rattle.q3_words.specs.Numbers.{number_word}
+use Rattle.q3_text.specs.Laws.{TextLaws}
 
 -- an answer
 abbrev pub done : {A E : Type 0} → A → Result A E
@@ -22,9 +22,9 @@ ok_or-ok (Some y) cause x e = ap (λ z. Some z) (ok_is y x e)
 ok_or-ok None cause x e = absurd cc
 
 -- a word that is read as a number was spelled so
-pub number_word-spelled : (low high : ℕ) (word : List ℕ) (n : ℕ) → high < 2 ^ 64 → number_word low high word ≡ Ok n → (low ≤ n) × (n ≤ high) × (word ≡ decimal n)
-number_word-spelled low high word n small e = number_at-spelled low high word n small (ok_or-ok (number_at low high word) causes.Number n e)
+pub number_word-spelled : (laws : TextLaws) (low high : ℕ) (word : List ℕ) (n : ℕ) → high < 2 ^ 64 → number_word low high word ≡ Ok n → (low ≤ n) × (n ≤ high) × (word ≡ decimal n)
+number_word-spelled laws low high word n small e = laws.numbers.written low high word n small (ok_or-ok (number_at low high word) causes.Number n e)
 
 -- and what is spelled so is read
-pub number_word-again : (low high n : ℕ) → high < 2 ^ 64 → low ≤ n → n ≤ high → number_word low high (decimal n) ≡ Ok n
-number_word-again low high n small lower upper = rw (number_at-again low high n small lower upper) refl
+pub number_word-again : (laws : TextLaws) (low high n : ℕ) → high < 2 ^ 64 → low ≤ n → n ≤ high → number_word low high (decimal n) ≡ Ok n
+number_word-again laws low high n small lower upper = rw (laws.numbers.read low high n small lower upper) refl

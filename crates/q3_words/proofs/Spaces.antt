@@ -6,6 +6,7 @@ use Rattle.std.proofs.lemmas.Option.{same_Some}
 use Rattle.std.proofs.lemmas.List.{take_all, drop_all}
 use Rattle.std.proofs.lemmas.List.Splits.{join_with_byte-slice_split}
 use Rattle.q3_words.specs.Words.{words_of, words_left, next_of, only_of, text_from}
+use Rattle.q3_words.specs.Laws.{IsOfLine, AreLeft}
 
 -- the byte between two words
 abbrev pub is_space : ℕ → Bool
@@ -86,15 +87,7 @@ words_at_none text is =
 
 -- ---- words that come of a line
 
--- words that a line is cut into
-abbrev pub IsOfLine : List (List ℕ) → Type 0
-IsOfLine words = (line : List ℕ) × (words ≡ words_of line)
-
--- words in what is left of a line
-abbrev pub AreLeft : List (List ℕ) → Type 0
-AreLeft words = (left : List ℕ) × (words ≡ words_left left)
-
--- after the first of them others are left
+-- after the first of the words that are left others are left
 past_first : (left word : List ℕ) (others : List (List ℕ)) → word ∷ others ≡ words_left left → AreLeft others
 past_first [] word others e = absurd cc
 past_first (space ∷ text) word others e =

@@ -6,3 +6,4 @@ pub mod Names
 pub mod Quotes
 pub mod Fields
 pub mod Kept
+pub mod Laws

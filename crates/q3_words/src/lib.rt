@@ -10,6 +10,7 @@ pub mod kept_entity;
 pub mod kept_name;
 pub mod kept_player;
 pub mod kept_text;
+pub mod laws;
 pub mod name;
 mod numbers;
 mod quotes;

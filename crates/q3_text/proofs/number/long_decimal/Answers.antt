@@ -3,7 +3,7 @@ use Rattle.std.specs.Bool.{then_some}
 use Rattle.std.proofs.lemmas.Bool.{le-leb}
 use Rattle.q3_text.specs.Decimals.{number_at}
 use Rattle.q3_text.proofs.Decimals.{none_at_byte, none_above, some_at_digits, value_of_more}
-use Rattle.q3_command.proofs.command.long_decimal.Goals as goal
+use Rattle.q3_text.proofs.number.long_decimal.Goals as goal
 
 pub returns-then-not-is_ascii_digit : goal.returns-then-not-is_ascii_digit
 returns-then-not-is_ascii_digit c = none_at_byte _ _ c.args.word.now c.loop-byte.byte-index (omega arith) (cc)
