@@ -5,7 +5,7 @@ use Rattle.std.specs.Int.{cast_unsigned}
 use Rattle.std.proofs.lemmas.Bool.{cond_both, and_parts, leb-true}
 use Rattle.std.proofs.lemmas.Fmt.{digits_decimal}
 use Rattle.std.proofs.lemmas.Int.{ints}
-use Rattle.std.proofs.lemmas.List.{length-replicate}
+use Rattle.std.proofs.lemmas.List.{length-map, length-replicate}
 use Rattle.std.proofs.lemmas.List.Elements.{All-nil, All-cons, All-append, All-set, All-map, All-replicate, All-weaker}
 use Rattle.std.proofs.lemmas.List.Sums.{AllPass-from_list_all}
 use Rattle.rand_pcg.specs.Lcg.{Lcg}
@@ -19,10 +19,8 @@ use Rattle.q3_entity.specs.Entities.{zero_entity}
 use Rattle.q3_entity.specs.Report.{fields_text}
 use Rattle.q3_player.specs.Report.{player_text}
 use Rattle.q3_player.specs.State.{IsShort, AreShorts, IsState, zero_player, patterns_of}
-use Rattle.q3_player.proofs.Kept.{length-patterns}
 use Rattle.q3_text.specs.Texts.{IsTextByte, IsText}
 use Rattle.q3_text.specs.Decimals.{is_digit}
-use Rattle.q3_text.proofs.Numerals.{own}
 use Rattle.q3_script.specs.declared.event.Event.{Event}
 use Rattle.q3_script.specs.declared.event.Event.TheVariants.{Client, Map, Entity, Remove, Baseline, Player, Time, Config, Say, TypeText, Move, Serve, Send, Deliver, Show}
 use Rattle.q3_words.specs.Addresses.{host_of}
@@ -30,6 +28,7 @@ use Rattle.q3_script.specs.Grammar.{IsReplayEvent}
 use Rattle.q3_make.specs.Printed.{number_text, event_text, event_line}
 use Rattle.q3_make.specs.Generated.{draw, entity_with, player_with, walking, still, joins, time_at, entity_line, player_line, move_line, deliver_line, config_line, line_of, drawn_line}
 use Rattle.q3_make.proofs.Lengths.{ten, with_newline, number_short, numbers_short, quoted_short, spaced_short, words_short, zeros_none}
+use Rattle.q3_text.specs.Laws.{TextLaws}
 
 -- an event of a replay, with a short line
 pub record IsGood (event : Event) : Type 0 where
@@ -48,20 +47,20 @@ text_digit x e =
     let high = leb-true x 57 range.1 in
     record { some = omega arith; seven_bits = omega arith; no_percent = λ same. omega arith }
 
-decimal_is_text : (n : ℕ) → n < 2 ^ 32 → All IsTextByte (decimal n)
-decimal_is_text n small = All-weaker (λ x. is_digit x ≡ true) IsTextByte text_digit (decimal n) (AllPass-from_list_all is_digit (decimal n) (digits_decimal own n (omega arith)))
+decimal_is_text : (laws : TextLaws) (n : ℕ) → n < 2 ^ 32 → All IsTextByte (decimal n)
+decimal_is_text laws n small = All-weaker (λ x. is_digit x ≡ true) IsTextByte text_digit (decimal n) (AllPass-from_list_all is_digit (decimal n) (laws.numbers.digits n (omega arith)))
 
 -- a short word and a number are a text of at most 16 bytes
 pub record IsLabel (text : List ℕ) : Type 0 where
   pub is_text : IsText text
   pub few : length text ≤ 16
 
-pub label : (word : List ℕ) (n : ℕ) → All IsTextByte word → length word ≤ 6 → n < 2 ^ 32 → IsLabel (word ++ decimal n)
-label word n letters short small =
+pub label : (laws : TextLaws) (word : List ℕ) (n : ℕ) → All IsTextByte word → length word ≤ 6 → n < 2 ^ 32 → IsLabel (word ++ decimal n)
+label laws word n letters short small =
     let digits = ten n small in
     let e = length-append word (decimal n) in
     record {
-      is_text = record { short = omega arith; each = All-append IsTextByte word (decimal n) letters (decimal_is_text n small) };
+      is_text = record { short = omega arith; each = All-append IsTextByte word (decimal n) letters (decimal_is_text laws n small) };
       few = omega arith;
     }
 
@@ -164,7 +163,7 @@ unfolding player_text zero_player
 player_short place word stat value small few =
     let stats = set (replicate 16 (pos 0)) stat (pos value) in
     let shorts = stats_are_shorts stat value few in
-    let count : length (patterns_of stats) ≡ 16 = length-patterns stats ∙ shorts.count in
+    let count : length (patterns_of stats) ≡ 16 = length-map stats (cast_unsigned w32) ∙ shorts.count in
     let one = one_short [] 64 place word (omega arith) (omega arith) small in
     let two = words_short (codes "s") 0 (patterns_of stats) (omega arith) (omega arith) (one_stat stat value few) in
     let first = words_text [] 0 (set (replicate 64 0) place word) in
@@ -342,14 +341,14 @@ deliver_drawn made generator some few =
     let d = below (min made 24) generator (omega arith) in
     deliver_good (made - (draw (min made 24) generator).0) (omega arith) (omega arith)
 
-config_drawn : (i : ℕ) (generator : Lcg) → i < 2 ^ 32 → IsGood (config_line i generator).0
-config_drawn i generator small =
+config_drawn : (laws : TextLaws) (i : ℕ) (generator : Lcg) → i < 2 ^ 32 → IsGood (config_line i generator).0
+config_drawn laws i generator small =
     let d = below 40 generator (omega arith) in
-    config_good (2 + (draw 40 generator).0) (codes "value " ++ decimal i) (omega arith) (label (codes "value ") i value_letters (omega arith) small)
+    config_good (2 + (draw 40 generator).0) (codes "value " ++ decimal i) (omega arith) (label laws (codes "value ") i value_letters (omega arith) small)
 
 -- a drawn line of a kind
-of_kind : (kind i made : ℕ) (generator : Lcg) → i ≤ 65000 → 1 ≤ made → made ≤ 65536 → IsGood (line_of kind i made generator).0
-of_kind kind i made generator lines some few =
+of_kind : (laws : TextLaws) (kind i made : ℕ) (generator : Lcg) → i ≤ 65000 → 1 ≤ made → made ≤ 65536 → IsGood (line_of kind i made generator).0
+of_kind laws kind i made generator lines some few =
     let P : Event × Lcg → Type 0 = λ line. IsGood line.0 in
     let in_time : time_at i < 2 ^ 32 = omega arith in
     let in_line : i < 2 ^ 32 = omega arith in
@@ -358,13 +357,13 @@ of_kind kind i made generator lines some few =
     (λ _. cond_both (eqb kind 2) _ _ P (λ _. (let d = below 200 generator (omega arith) in remove_good (1 + (draw 200 generator).0) (omega arith)))
     (λ _. cond_both (eqb kind 3) _ _ P (λ _. player_drawn generator)
     (λ _. cond_both (eqb kind 4) _ _ P (λ _. time_good (time_at i) in_time)
-    (λ _. cond_both (eqb kind 5) _ _ P (λ _. say_good (draw 4 generator).0 (codes "chat " ++ decimal i) (client generator) (label (codes "chat ") i chat_letters (omega arith) in_line))
-    (λ _. cond_both (eqb kind 6) _ _ P (λ _. type_good (draw 4 generator).0 (codes "cmd " ++ decimal i) (client generator) (label (codes "cmd ") i cmd_letters (omega arith) in_line))
+    (λ _. cond_both (eqb kind 5) _ _ P (λ _. say_good (draw 4 generator).0 (codes "chat " ++ decimal i) (client generator) (label laws (codes "chat ") i chat_letters (omega arith) in_line))
+    (λ _. cond_both (eqb kind 6) _ _ P (λ _. type_good (draw 4 generator).0 (codes "cmd " ++ decimal i) (client generator) (label laws (codes "cmd ") i cmd_letters (omega arith) in_line))
     (λ _. cond_both (eqb kind 7) _ _ P (λ _. move_drawn i generator in_time)
     (λ _. cond_both (leb kind 11) _ _ P (λ _. serve_good (draw 4 generator).0 (client generator))
     (λ _. cond_both (leb kind 13) _ _ P (λ _. send_good (draw 4 generator).0 (client generator))
-    (λ _. cond_both (leb kind 16) _ _ P (λ _. deliver_drawn made generator some few) (λ _. config_drawn i generator in_line))))))))))
+    (λ _. cond_both (leb kind 16) _ _ P (λ _. deliver_drawn made generator some few) (λ _. config_drawn laws i generator in_line))))))))))
 
-pub drawn_good : (i made : ℕ) (generator : Lcg) → i ≤ 65000 → 1 ≤ made → made ≤ 65536 → IsGood (drawn_line i made generator).0
+pub drawn_good : (laws : TextLaws) (i made : ℕ) (generator : Lcg) → i ≤ 65000 → 1 ≤ made → made ≤ 65536 → IsGood (drawn_line i made generator).0
 unfolding drawn_line
-drawn_good i made generator lines some few = of_kind (draw 18 generator).0 i made (draw 18 generator).1 lines some few
+drawn_good laws i made generator lines some few = of_kind laws (draw 18 generator).0 i made (draw 18 generator).1 lines some few

@@ -11,6 +11,7 @@ use Rattle.q3_make.specs.Printed.{event_line, script_text}
 use Rattle.q3_make.specs.Generated.{generator_of, entity_with, still, joins, made_by, made_in, drawn_line, drawn_from, first_turns, last_turn, last_turns, opening, closing, generated, DrawnState, rest_of, IsMade}
 use Rattle.q3_make.proofs.Rows.{made_more, rest_none}
 use Rattle.q3_make.proofs.MadeLines.{IsGood, baseline_good, entity_good, still_good, serve_good, send_good, show_good, deliver_good, time_good, map_good, joins_good, drawn_good}
+use Rattle.q3_text.specs.Laws.{TextLaws}
 
 -- ---- lines for each number of a row
 
@@ -130,14 +131,14 @@ opening_put old =
 
 -- ---- drawn lines
 
-drawn_are_good : (left i made : ℕ) (generator : Lcg) → 1 ≤ made → made + left ≤ 65500 → i + left ≤ 65001 → All IsGood (drawn_from left i made generator)
+drawn_are_good : (laws : TextLaws) (left i made : ℕ) (generator : Lcg) → 1 ≤ made → made + left ≤ 65500 → i + left ≤ 65001 → All IsGood (drawn_from left i made generator)
 unfolding drawn_from
-drawn_are_good zero i made generator some few lines = All-nil IsGood
-drawn_are_good (suc left) i made generator some few lines =
+drawn_are_good laws zero i made generator some few lines = All-nil IsGood
+drawn_are_good laws (suc left) i made generator some few lines =
     let line = drawn_line i made generator in
     let one = made_by_few line.0 in
-    and_more line.0 _ (drawn_good i made generator (omega arith) some (omega arith))
-    (drawn_are_good left (i + 1) (made + made_by line.0) line.1 (omega arith) (omega arith) (omega arith))
+    and_more line.0 _ (drawn_good laws i made generator (omega arith) some (omega arith))
+    (drawn_are_good laws left (i + 1) (made + made_by line.0) line.1 (omega arith) (omega arith) (omega arith))
 
 drawn_length : (left i made : ℕ) (generator : Lcg) → length (drawn_from left i made generator) ≡ left
 unfolding drawn_from
@@ -198,9 +199,9 @@ is_made number events few count each =
 pub front_makes : (drawn : List Event) → made_in (opening ++ drawn) ≡ 16 + made_in drawn
 front_makes drawn = sum_by-append made_by opening drawn ∙ ap (λ (n : ℕ). n + made_in drawn) opening_makes
 
-pub generated_is_made : (number seed : ℕ) → number ≤ 65000 → IsMade number (generated number seed)
+pub generated_is_made : (laws : TextLaws) (number seed : ℕ) → number ≤ 65000 → IsMade number (generated number seed)
 unfolding generated
-generated_is_made number seed few =
+generated_is_made laws number seed few =
     let drawn = drawn_from number 1 (made_in opening) (generator_of seed) in
     let front = opening ++ drawn in
     let drawn_count = drawn_length number 1 (made_in opening) (generator_of seed) in
@@ -213,7 +214,7 @@ generated_is_made number seed few =
     let closes = closing_length (made_in front) in
     is_made number (front ++ closing (made_in front)) few (omega arith)
     (All-append IsGood front (closing (made_in front))
-    (All-append IsGood opening drawn opening_good (drawn_are_good number 1 (made_in opening) (generator_of seed) (omega arith) (omega arith) (omega arith)))
+    (All-append IsGood opening drawn opening_good (drawn_are_good laws number 1 (made_in opening) (generator_of seed) (omega arith) (omega arith) (omega arith)))
     (closing_good (made_in front) (omega arith)))
 
 -- the opening, the drawn lines and the closing one after another

@@ -6,7 +6,8 @@ use Rattle.std.specs.List.{flat_map}
 use Rattle.std.proofs.lemmas.Bool.{cases_Bool, and_parts, not-true, ne_eqb}
 use Rattle.std.proofs.lemmas.List.{append-nil, length-replicate}
 use Rattle.std.proofs.lemmas.List.Folds.{list_all-append}
-use Rattle.std.proofs.lemmas.List.Elements.{All-nil, All-cons, All-head, All-tail}
+use Rattle.std.proofs.lemmas.List.Elements.{All-nil, All-cons, All-head, All-tail, All-get_or}
+use Rattle.std.proofs.lemmas.List.Sums.{AllPass-from_list_all}
 use Rattle.std.proofs.lemmas.List.Splits.{slice_split_at, slice_split_none}
 use Rattle.hex.specs.Hex.{lower_digits, encode_with, encode_lower}
 use Rattle.q3_io.specs.Print.{indexed_text, words_text}
@@ -14,14 +15,13 @@ use Rattle.q3_io.specs.Quoted.{byte_spelling, quoted}
 use Rattle.q3_clmsg.specs.Report.{spaced}
 use Rattle.q3_fields.specs.Places.{Change, AreRising}
 use Rattle.q3_player.specs.Arrays.{changes_from}
-use Rattle.q3_player.proofs.Maps.{changes-rise, with_changes-changes}
-use Rattle.q3_text.proofs.Cuts.{lacks}
-use Rattle.q3_text.proofs.Numerals.{lacks-decimal}
+use Rattle.q3_text.specs.Cuts.{lacks}
 use Rattle.q3_words.specs.Words.{words_of}
 use Rattle.q3_io.specs.Print.{hex_word}
 use Rattle.q3_words.specs.Fields.{values_of, field_words, AreFields}
 use Rattle.q3_words.specs.Quotes.{is_printed}
-use Rattle.q3_words.proofs.Digits.{first_pass-at}
+use Rattle.q3_text.specs.Laws.{TextLaws}
+use Rattle.q3_player.specs.Laws.{ArraysAreKept}
 
 -- ---- bytes that a text lacks
 
@@ -42,8 +42,8 @@ pub record IsWord (word : List ℕ) : Type 0 where
 pub word_and : (front back : List ℕ) → IsWord front → IsWord back → IsWord (front ++ back)
 word_and front back is is' = record { no_space = lacks_both 32 front back is.no_space is'.no_space; no_newline = lacks_both 10 front back is.no_newline is'.no_newline }
 
-pub decimal_word : (n : ℕ) → n < 2 ^ 64 → IsWord (decimal n)
-decimal_word n small = record { no_space = lacks-decimal 32 n refl small; no_newline = lacks-decimal 10 n refl small }
+pub decimal_word : (laws : TextLaws) (n : ℕ) → n < 2 ^ 64 → IsWord (decimal n)
+decimal_word laws n small = record { no_space = laws.numbers.others 32 n refl small; no_newline = laws.numbers.others 10 n refl small }
 
 abbrev pub AreLineWords : List (List ℕ) → Type 0
 AreLineWords [] = Unit {0}
@@ -80,10 +80,10 @@ row word (next ∷ words) is are = before word (next ++ spaced words) (next ∷ 
 
 -- no digit of hex is a space or a newline
 no_space_digit : (value : ℕ) → value < 16 → eqb (slice_index lower_digits value) 32 ≡ false
-no_space_digit value lt = not-true _ (first_pass-at (λ v. not (eqb (slice_index lower_digits v) 32)) 16 value refl lt)
+no_space_digit value lt = not-true _ (All-get_or (λ digit. not (eqb digit 32) ≡ true) lower_digits value 0 lt (AllPass-from_list_all (λ digit. not (eqb digit 32)) lower_digits refl))
 
 no_newline_digit : (value : ℕ) → value < 16 → eqb (slice_index lower_digits value) 10 ≡ false
-no_newline_digit value lt = not-true _ (first_pass-at (λ v. not (eqb (slice_index lower_digits v) 10)) 16 value refl lt)
+no_newline_digit value lt = not-true _ (All-get_or (λ digit. not (eqb digit 10) ≡ true) lower_digits value 0 lt (AllPass-from_list_all (λ digit. not (eqb digit 10)) lower_digits refl))
 
 hex_is_word : (bytes : List ℕ) → All (λ byte. byte < 256) bytes → IsWord (encode_lower bytes)
 unfolding encode_with
@@ -147,21 +147,21 @@ quoted_prints bytes each = record {
 
 -- ---- fields
 
-field_is_word : (letter : List ℕ) (index value : ℕ) → IsWord letter → index < 2 ^ 64 → value < 2 ^ 64 → IsWord (indexed_text letter index value)
-field_is_word letter index value is small small' =
+field_is_word : (laws : TextLaws) (letter : List ℕ) (index value : ℕ) → IsWord letter → index < 2 ^ 64 → value < 2 ^ 64 → IsWord (indexed_text letter index value)
+field_is_word laws letter index value is small small' =
     let colon : IsWord (codes ":") = record { no_space = refl; no_newline = refl } in
     let nothing : IsWord [] = record { no_space = refl; no_newline = refl } in
     word_and letter (decimal index ++ (codes ":" ++ (decimal value ++ []))) is
-    (word_and (decimal index) (codes ":" ++ (decimal value ++ [])) (decimal_word index small)
-    (word_and (codes ":") (decimal value ++ []) colon (word_and (decimal value) [] (decimal_word value small') nothing)))
+    (word_and (decimal index) (codes ":" ++ (decimal value ++ [])) (decimal_word laws index small)
+    (word_and (codes ":") (decimal value ++ []) colon (word_and (decimal value) [] (decimal_word laws value small') nothing)))
 
-pub fields_are_words : (letter : List ℕ) (limit least : ℕ) (fields : List Change) → limit < 2 ^ 32 → IsWord letter → AreFields limit least fields → AreLineWords (field_words letter fields)
-fields_are_words letter limit least [] few is are = tt
-fields_are_words letter limit least (field ∷ fields) few is are =
+pub fields_are_words : (laws : TextLaws) (letter : List ℕ) (limit least : ℕ) (fields : List Change) → limit < 2 ^ 32 → IsWord letter → AreFields limit least fields → AreLineWords (field_words letter fields)
+fields_are_words laws letter limit least [] few is are = tt
+fields_are_words laws letter limit least (field ∷ fields) few is are =
     let value = All-head (λ (field : Change). field.1 < 2 ^ 32) field fields are.1 in
     let index = are.0.1 in (
-      field_is_word letter field.0 field.1 is (omega arith) (omega arith),
-      fields_are_words letter limit (field.0 + 1) fields few is (are.0.2, All-tail (λ (field : Change). field.1 < 2 ^ 32) field fields are.1),
+      field_is_word laws letter field.0 field.1 is (omega arith) (omega arith),
+      fields_are_words laws letter limit (field.0 + 1) fields few is (are.0.2, All-tail (λ (field : Change). field.1 < 2 ^ 32) field fields are.1),
     )
 
 -- words that are printed with their indexes are fields: those that aren't 0
@@ -193,14 +193,14 @@ pub record HasFields (letter : List ℕ) (count : ℕ) (words : List ℕ) : Type
   pub text : words_text letter 0 words ≡ spaced (field_words letter fields)
   pub values : words ≡ values_of count fields
 
-pub fields_of : (letter : List ℕ) (count : ℕ) (words : List ℕ) → length words ≡ count → All (λ word. word < 2 ^ 32) words → HasFields letter count words
-fields_of letter count words size each =
+pub fields_of : (arrays : ArraysAreKept) (letter : List ℕ) (count : ℕ) (words : List ℕ) → length words ≡ count → All (λ word. word < 2 ^ 32) words → HasFields letter count words
+fields_of arrays letter count words size each =
     subst (λ (n : ℕ). HasFields letter n words) size (record {
       fields = changes_from 0 (replicate (length words) 0) words;
       are = (
-        subst (λ (n : ℕ). AreRising n 0 (changes_from 0 (replicate (length words) 0) words)) (length-replicate (length words) 0) (changes-rise (replicate (length words) 0) words),
+        subst (λ (n : ℕ). AreRising n 0 (changes_from 0 (replicate (length words) 0) words)) (length-replicate (length words) 0) (arrays.rise (replicate (length words) 0) words),
         changes_small 0 (replicate (length words) 0) words each,
       );
       text = words_spaced letter 0 words;
-      values = sym (with_changes-changes (replicate (length words) 0) words (length-replicate (length words) 0));
+      values = sym (arrays.made (replicate (length words) 0) words (length-replicate (length words) 0));
     })

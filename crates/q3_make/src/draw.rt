@@ -70,7 +70,7 @@ fn text_with(word: &[u8], number: u32) -> Text
     requires letters { All IsTextByte word.now }
     ensures { result ≡ word.now ++ decimal number }
 {
-    q3_text::laws::texts_are_texts();
+    q3_text::laws::text_laws();
     Text::of(&numbered(word, number)).unwrap_or_default()
 }
 

@@ -8,6 +8,7 @@ ghost use Rattle.q3_make.specs.Generated as spec;
 use crate::draw::{drawn_line, made_by};
 use q3_bits::NoMemory;
 use q3_script::Event;
+use q3_text::laws::text_laws;
 use rand_core::SeedableRng;
 use rand_pcg::Lcg64Xsh32;
 use std::alloc::Global;
@@ -60,6 +61,7 @@ impl Drawn {
             (left + 1) self.old ≡ event ∷ rest_of left self.new) }
         ensures of_replay { IfOk result IsReplayEvent }
     {
+        text_laws();
         let event = drawn_line(alloc, self.drawn + 1, self.made, &mut self.generator)?;
         self.drawn += 1;
         self.made += made_by(&event);

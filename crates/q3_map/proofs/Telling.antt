@@ -14,12 +14,11 @@ use Rattle.std.proofs.lemmas.List.Sums.{AllPass-from_list_all}
 use Rattle.q3_text.specs.Texts.{translated}
 use Rattle.q3_text.specs.Decimals.{is_digit}
 use Rattle.q3_text.specs.Info.{parts_of, paired, info_pairs, value_in, info_of}
-use Rattle.q3_text.proofs.Numerals.{own, number_at-again}
-use Rattle.q3_text.proofs.Pairs.{value-next}
 use Rattle.q3_config.specs.Strings.{places, no_strings, with_string, string_at, server_id}
 use Rattle.q3_map.specs.Map.{id_text}
 use Rattle.q3_map.specs.Laws.{NewMapsTell}
 use Rattle.q3_map.proofs.Strings.{alone_fits}
+use Rattle.q3_text.specs.Laws.{TextLaws}
 
 abbrev AboveZero : ℕ → Type 0
 AboveZero byte = 0 < byte
@@ -76,47 +75,46 @@ digit_within byte digit =
     let high = leb-true byte 57 range.1 in
     ne_eqb byte 92 (λ same. omega arith)
 
-digits_of_decimal : (id : ℕ) → id < 2 ^ 31 → All (λ byte. is_digit byte ≡ true) (decimal id)
-digits_of_decimal id small = AllPass-from_list_all is_digit (decimal id) (digits_decimal own id (omega arith))
+digits_of_decimal : (laws : TextLaws) (id : ℕ) → id < 2 ^ 31 → All (λ byte. is_digit byte ≡ true) (decimal id)
+digits_of_decimal laws id small = AllPass-from_list_all is_digit (decimal id) (laws.numbers.digits id (omega arith))
 
 -- the text stays as it is
-id_text_kept : (id : ℕ) → id < 2 ^ 31 → map translated (id_text id) ≡ id_text id
-id_text_kept id small =
+id_text_kept : (laws : TextLaws) (id : ℕ) → id < 2 ^ 31 → map translated (id_text id) ≡ id_text id
+id_text_kept laws id small =
     map-append translated (codes "\\sv_serverid\\") (decimal id)
     ∙ ap (λ (digits : List ℕ). codes "\\sv_serverid\\" ++ digits)
-    (map_fixed translated (decimal id) (All-weaker (λ byte. is_digit byte ≡ true) (λ byte. translated byte ≡ byte) digit_kept (decimal id) (digits_of_decimal id small)))
+    (map_fixed translated (decimal id) (All-weaker (λ byte. is_digit byte ≡ true) (λ byte. translated byte ≡ byte) digit_kept (decimal id) (digits_of_decimal laws id small)))
 
 key_within : All (λ byte. eqb byte 92 ≡ false) (codes "sv_serverid")
 key_within = search rules
 
 -- it has one pair
-parts_of_id : (id : ℕ) → id < 2 ^ 31 → parts_of (codes "sv_serverid" ++ 92 ∷ decimal id) ≡ codes "sv_serverid" ∷ decimal id ∷ []
-parts_of_id id small =
+parts_of_id : (laws : TextLaws) (id : ℕ) → id < 2 ^ 31 → parts_of (codes "sv_serverid" ++ 92 ∷ decimal id) ≡ codes "sv_serverid" ∷ decimal id ∷ []
+parts_of_id laws id small =
     slice_split_at (λ byte. eqb byte 92) (codes "sv_serverid") 92 (decimal id) key_within refl
     ∙ ap (λ (parts : List (List ℕ)). codes "sv_serverid" ∷ parts)
     (slice_split_none (λ byte. eqb byte 92) (decimal id)
-    (All-weaker (λ byte. is_digit byte ≡ true) (λ byte. eqb byte 92 ≡ false) digit_within (decimal id) (digits_of_decimal id small)))
+    (All-weaker (λ byte. is_digit byte ≡ true) (λ byte. eqb byte 92 ≡ false) digit_within (decimal id) (digits_of_decimal laws id small)))
 
-info_of_id : (id : ℕ) → id < 2 ^ 31 → info_of (id_text id) (codes "sv_serverid") ≡ Some (decimal id)
-unfolding info_pairs
-info_of_id id small =
-    let said : value_in (paired (codes "sv_serverid" ∷ decimal id ∷ [])) (codes "sv_serverid") ≡ Some (decimal id) =
-    value-next (codes "sv_serverid") (decimal id) (codes "sv_serverid") [] in
-    ap (λ (parts : List (List ℕ)). value_in (paired parts) (codes "sv_serverid")) (parts_of_id id small) ∙ said
+info_of_id : (laws : TextLaws) (id : ℕ) → id < 2 ^ 31 → info_of (id_text id) (codes "sv_serverid") ≡ Some (decimal id)
+unfolding info_pairs paired value_in
+info_of_id laws id small =
+    let said : value_in (paired (codes "sv_serverid" ∷ decimal id ∷ [])) (codes "sv_serverid") ≡ Some (decimal id) = refl in
+    ap (λ (parts : List (List ℕ)). value_in (paired parts) (codes "sv_serverid")) (parts_of_id laws id small) ∙ said
 
-string_is : (id : ℕ) → id < 2 ^ 31 → string_at (with_string no_strings 1 (id_text id)) 1 ≡ id_text id
-string_is id small =
+string_is : (laws : TextLaws) (id : ℕ) → id < 2 ^ 31 → string_at (with_string no_strings 1 (id_text id)) 1 ≡ id_text id
+string_is laws id small =
     get_or-set_same (replicate places []) 1 (map translated (id_text id)) [] (omega (arith, length-replicate {A = List ℕ} places []))
-    ∙ id_text_kept id small
+    ∙ id_text_kept laws id small
 
-told_id : (id : ℕ) → id < 2 ^ 31 → server_id (with_string no_strings 1 (id_text id)) ≡ Some id
+told_id : (laws : TextLaws) (id : ℕ) → id < 2 ^ 31 → server_id (with_string no_strings 1 (id_text id)) ≡ Some id
 unfolding server_id
-told_id id small =
-    rw (string_is id small, info_of_id id small) (number_at-again 0 (2 ^ 31 - 1) id (omega arith) (omega arith) (omega arith))
+told_id laws id small =
+    rw (string_is laws id small, info_of_id laws id small) (laws.numbers.read 0 (2 ^ 31 - 1) id (omega arith) (omega arith) (omega arith))
 
-pub new_maps_tell : NewMapsTell
-new_maps_tell = record {
+pub new_maps_tell : (laws : TextLaws) → NewMapsTell
+new_maps_tell laws = record {
   bytes = id_text_some;
   fits = λ id small. alone_fits 1 (id_text id) (omega arith) (id_text_short id small);
-  told = told_id;
+  told = told_id laws;
 }

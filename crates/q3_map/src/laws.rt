@@ -2,6 +2,8 @@
 
 ghost use Rattle.q3_map.specs.Laws.{ListsStayHeld, NewMapsTell};
 
+use q3_text::laws::text_laws;
+
 /// Entities as a server holds them stay so where one is put in or taken away, and so are those of the lowest numbers.
 pub fn lists_stay_held()
     ensures { ListsStayHeld }
@@ -10,4 +12,6 @@ pub fn lists_stay_held()
 /// The strings of a new map tell its id.
 pub fn new_maps_tell()
     ensures { NewMapsTell }
-{}
+{
+    text_laws();
+}

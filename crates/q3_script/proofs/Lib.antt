@@ -1,6 +1,5 @@
--- exported: proofs of crates above may cite these
-pub mod InRange
--- for this crate alone
+mod Values
+mod InRange
 mod Gather
 mod Steps
 mod TurnLines

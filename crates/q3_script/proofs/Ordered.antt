@@ -13,7 +13,7 @@ use Rattle.q3_script.specs.declared.cause.ScriptKind.{ScriptKind}
 use Rattle.q3_script.specs.declared.cause.ScriptKind.TheVariants as kinds
 use Rattle.q3_script.specs.Script.{Course, no_course, timed, node_after, is_of, first_after, client_course_after, course_after, is_complete}
 use Rattle.q3_script.specs.Grammar.{TimesRise, EndsLast, IsOfClient, IsOneClient, AreOrdered}
-use Rattle.q3_words.proofs.NumberWords.{ok_is}
+use Rattle.q3_script.proofs.Values.{ok_is}
 
 -- from a course on, each event may stand where it does, and the script may end after the last
 abbrev pub Goes : ScriptKind → Course → List Event → Type 0

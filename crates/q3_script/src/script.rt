@@ -12,6 +12,7 @@ use crate::event::Event;
 use crate::line::read_line;
 use q3_bits::NoMemory;
 use q3_words::LineCause;
+use q3_words::laws::word_laws;
 use std::alloc::Global;
 
 /// The longest script, in bytes.
@@ -119,5 +120,6 @@ pub fn read_script(alloc: Global, kind: ScriptKind, bytes: &[u8]) -> Result<Vec<
     // Which line is the first bad one, and why.
     ensures exact { Reads (with_items result) (script_at kind bytes.now) }
 {
+    word_laws();
     read(alloc, kind, bytes)
 }

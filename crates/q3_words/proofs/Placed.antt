@@ -1,18 +1,19 @@
 -- Words that are mostly 0: those that aren't, put one after the other, and put over zeros again.
 use Rattle.std.proofs.Common.{◌≡◌, ◌≢◌, ℕ, zero, suc, ◌+◌, ◌-◌, ◌*◌, ◌<◌, ◌≤◌, List, [], ◌∷◌, ◌++◌, length, take, drop, set, get_or, replicate, eqb, refl, sym, ap, subst, ◌∙◌, append_assoc, arith, inl, inr}
 use lib.IntN.{ℤ}
+use mir.Syntax.{w32}
+use Rattle.std.specs.Int.{cast_unsigned}
 use Rattle.std.specs.List.{concat, All}
 use Rattle.std.proofs.lemmas.Bool.{eq-eqb, eqb-false, cases_Bool}
-use Rattle.std.proofs.lemmas.List.{append-nil, drop_more, drop_all, take_at, take_all, drop_at, length-replicate, replicate-append-replicate, length-append, drop-drop, length-drop, length-take-le, take-append-drop}
+use Rattle.std.proofs.lemmas.List.{length-map, append-nil, drop_more, drop_all, take_at, take_all, drop_at, length-replicate, replicate-append-replicate, length-append, drop-drop, length-drop, length-take-le, take-append-drop}
 use Rattle.std.proofs.lemmas.List.Elements.{All-nil, All-cons, All-get_or}
 use Rattle.q3_fields.specs.Places.{Change, with_changes, AreRising}
 use Rattle.q3_player.specs.Arrays.{changes_from}
 use Rattle.q3_player.specs.State.{IsState, patterns_of, shorts_of, arrays_of}
 use Rattle.q3_player.specs.declared.state.PlayerState.{PlayerState}
-use Rattle.q3_player.proofs.Kept.{shorts-back, length-patterns}
-use Rattle.q3_player.proofs.Maps.{changes-rise, with_changes-changes}
 use Rattle.q3_words.specs.Fields.{values_of}
 use Rattle.q3_words.specs.Kept.{player_of_words}
+use Rattle.q3_player.specs.Laws.{ArraysAreKept}
 
 -- the first word, and those after it
 changes-first : (place count word : ℕ) (words : List ℕ)
@@ -116,13 +117,13 @@ pub record Gives (count : ℕ) (kept : List Change) (words : List ℕ) : Type 0 
   pub values : values_of count kept ≡ words
   pub are_kept : AreRising count 0 kept × All (λ change. change.1 ≢ 0) kept
 
-pub gives : (count : ℕ) (kept : List Change) (words : List ℕ) → length words ≡ count → kept ≡ changes_from 0 (replicate (length words) 0) words → Gives count kept words
-gives count kept words long same =
+pub gives : (arrays : ArraysAreKept) (count : ℕ) (kept : List Change) (words : List ℕ) → length words ≡ count → kept ≡ changes_from 0 (replicate (length words) 0) words → Gives count kept words
+gives arrays count kept words long same =
     let is : kept ≡ changes_from 0 (replicate count 0) words = same ∙ ap (λ (n : ℕ). changes_from 0 (replicate n 0) words) long in
     let zeros : length (replicate count 0) ≡ count = length-replicate count 0 in
     record {
-      values = rw is (with_changes-changes (replicate count 0) words (zeros ∙ sym long));
-      are_kept = rw is (subst (λ (n : ℕ). AreRising n 0 (changes_from 0 (replicate count 0) words)) zeros (changes-rise (replicate count 0) words), changes-some 0 count words);
+      values = rw is (arrays.made (replicate count 0) words (zeros ∙ sym long));
+      are_kept = rw is (subst (λ (n : ℕ). AreRising n 0 (changes_from 0 (replicate count 0) words)) zeros (arrays.rise (replicate count 0) words), changes-some 0 count words);
     }
 
 -- ---- a player
@@ -209,20 +210,20 @@ player_of_parts player words stats persistant ammo powerups a b c d e = rw (a, b
 rows-of : (player : PlayerState) → IsState player → Rows player.words (patterns_of player.stats) (patterns_of player.persistant) (patterns_of player.ammo) player.powerups
 rows-of player state = record {
   of_words = state.words.count;
-  of_stats = length-patterns player.stats ∙ state.stats.count;
-  of_persistant = length-patterns player.persistant ∙ state.persistant.count;
-  of_ammo = length-patterns player.ammo ∙ state.ammo.count;
+  of_stats = length-map player.stats (cast_unsigned w32) ∙ state.stats.count;
+  of_persistant = length-map player.persistant (cast_unsigned w32) ∙ state.persistant.count;
+  of_ammo = length-map player.ammo (cast_unsigned w32) ∙ state.ammo.count;
   of_powerups = state.powerups.count;
 }
 
 -- a state is that of its words
-player_again : (player : PlayerState) → IsState player → player_of_words (player_words player) ≡ player
-player_again player state =
+player_again : (arrays : ArraysAreKept) (player : PlayerState) → IsState player → player_of_words (player_words player) ≡ player
+player_again arrays player state =
     let cut = rows-cut player.words (patterns_of player.stats) (patterns_of player.persistant) (patterns_of player.ammo) player.powerups (rows-of player state) in
     ap player_of_words (words-joined player) ∙ player_of_parts player _ _ _ _ _ cut.of_words
-    (ap shorts_of cut.of_stats ∙ shorts-back player.stats state.stats.each)
-    (ap shorts_of cut.of_persistant ∙ shorts-back player.persistant state.persistant.each)
-    (ap shorts_of cut.of_ammo ∙ shorts-back player.ammo state.ammo.each)
+    (ap shorts_of cut.of_stats ∙ arrays.back player.stats state.stats.each)
+    (ap shorts_of cut.of_persistant ∙ arrays.back player.persistant state.persistant.each)
+    (ap shorts_of cut.of_ammo ∙ arrays.back player.ammo state.ammo.each)
     cut.of_powerups
 
 -- what is kept of a state gives it
@@ -230,7 +231,7 @@ pub record GivesPlayer (kept : List Change) (player : PlayerState) : Type 0 wher
   pub is : player_of_words (values_of 128 kept) ≡ player
   pub are_kept : AreRising 128 0 kept × All (λ change. change.1 ≢ 0) kept
 
-pub gives_player : (player : PlayerState) (kept : List Change) → IsState player
+pub gives_player : (arrays : ArraysAreKept) (player : PlayerState) (kept : List Change) → IsState player
     → kept
     ≡ changes_from 0 (replicate (length player.words) 0) player.words
     ++ changes_from 64 (replicate (length (patterns_of player.stats)) 0) (patterns_of player.stats)
@@ -238,7 +239,7 @@ pub gives_player : (player : PlayerState) (kept : List Change) → IsState playe
     ++ changes_from 96 (replicate (length (patterns_of player.ammo)) 0) (patterns_of player.ammo)
     ++ changes_from 112 (replicate (length player.powerups) 0) player.powerups
     → GivesPlayer kept player
-gives_player player kept state same =
+gives_player arrays player kept state same =
     let stats = patterns_of player.stats in
     let persistant = patterns_of player.persistant in
     let ammo = patterns_of player.ammo in
@@ -248,8 +249,8 @@ gives_player player kept state same =
     same ∙ lengths player.words stats persistant ammo player.powerups _ _ _ _ _ rows.of_words rows.of_stats rows.of_persistant rows.of_ammo rows.of_powerups
     ∙ rows-kept player.words stats persistant ammo player.powerups rows
     ∙ ap (λ (ws : List ℕ). changes_from 0 (replicate 128 0) ws) (sym (words-joined player)) in
-    let given = gives 128 kept (player_words player) long (is ∙ ap (λ (n : ℕ). changes_from 0 (replicate n 0) (player_words player)) (sym long)) in
-    record { is = ap player_of_words given.values ∙ player_again player state; are_kept = given.are_kept } where
+    let given = gives arrays 128 kept (player_words player) long (is ∙ ap (λ (n : ℕ). changes_from 0 (replicate n 0) (player_words player)) (sym long)) in
+    record { is = ap player_of_words given.values ∙ player_again arrays player state; are_kept = given.are_kept } where
       lengths : (words stats persistant ammo powerups : List ℕ) (a b c d e : ℕ) → a ≡ 64 → b ≡ 16 → c ≡ 16 → d ≡ 16 → e ≡ 16
           → changes_from 0 (replicate a 0) words ++ changes_from 64 (replicate b 0) stats ++ changes_from 80 (replicate c 0) persistant ++ changes_from 96 (replicate d 0) ammo ++ changes_from 112 (replicate e 0) powerups
           ≡ changes_from 0 (replicate 64 0) words ++ changes_from 64 (replicate 16 0) stats ++ changes_from 80 (replicate 16 0) persistant ++ changes_from 96 (replicate 16 0) ammo ++ changes_from 112 (replicate 16 0) powerups

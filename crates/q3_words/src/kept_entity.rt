@@ -7,6 +7,7 @@ ghost use Rattle.std.specs.Cmp.Rules.{comparing};
 use crate::sparse::{Places, count_words, push_words, put};
 use q3_bits::NoMemory;
 use q3_entity::EntityState;
+use q3_player::laws::arrays_are_kept;
 use std::alloc::Global;
 use std::marker::Model;
 
@@ -54,6 +55,7 @@ impl KeptEntity {
     pub fn of(alloc: Global, state: &EntityState) -> Result<KeptEntity, NoMemory>
         ensures { IfOk result (λ kept. kept ≡ state.now) }
     {
+        arrays_are_kept();
         let mut words = Vec::with_capacity(alloc, count_words(&state.words))?;
         push_words(&mut words, 0, &state.words)?;
         Ok(KeptEntity {

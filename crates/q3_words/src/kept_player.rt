@@ -10,6 +10,7 @@ ghost use Rattle.q3_words.specs.Kept as spec;
 use crate::sparse::{Places, count_words, patterns, push_words, put};
 use q3_bits::NoMemory;
 use q3_player::PlayerState;
+use q3_player::laws::{arrays_are_kept, is_state};
 use q3_player::state::shorts;
 use std::alloc::Global;
 use std::marker::Model;
@@ -60,7 +61,8 @@ fn places(alloc: Global, player: &PlayerState) -> Result<Places, NoMemory>
     ensures player { IfOk result (λ kept. spec.player_of_words (values_of 128 kept.items) ≡ player.now) }
     ensures kept { IfOk result (λ kept. AreRising 128 0 kept.items × All (λ change. change.1 ≢ 0) kept.items) }
 {
-    q3_player::laws::is_state(player);
+    is_state(player);
+    arrays_are_kept();
     let stats = patterns(&player.stats);
     let persistant = patterns(&player.persistant);
     let ammo = patterns(&player.ammo);

@@ -15,4 +15,4 @@ pub returns-clause-of_replay : goal.returns-clause-of_replay
 returns-clause-of_replay c =
     let is : c.in_ok-event.event ≡ _ = ap (λ (p : Event × Lcg). p.0) c.in_ok-event.ensures in
     let few : c.self.inside.drawn < 65000 = search rules in
-    subst IsReplayEvent (sym is) (drawn_good (c.self.inside.drawn + 1) c.self.inside.made c.self.inside.generator (omega arith) (omega arith) (omega arith)).of_replay
+    subst IsReplayEvent (sym is) (drawn_good c.text_laws.ensures (c.self.inside.drawn + 1) c.self.inside.made c.self.inside.generator (omega arith) (omega arith) (omega arith)).of_replay
