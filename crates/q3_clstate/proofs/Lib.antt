@@ -1,6 +1,4 @@
--- exported: proofs of crates above may cite these
-pub mod HeldStays
--- for this crate alone
+mod HeldStays
 mod Lines
 mod Accepting
 mod Commands

@@ -9,6 +9,7 @@ use Rattle.std.proofs.lemmas.List.Elements.{All-set, All-nil, All-cons, All-weak
 use Rattle.q3_text.specs.Texts.{translated}
 use Rattle.q3_config.specs.declared.error.ConfigError.{ConfigError}
 use Rattle.q3_config.specs.declared.error.ConfigError.TheVariants.{Index, Long, Full}
+use Rattle.q3_config.specs.Laws.{Fits, Admitted}
 use Rattle.q3_config.specs.Strings.{Strings, AreStrings, places, longest_string, most_size, config_size, with_string, is_config_byte, chars_fault, fits, room_fault, set_fault, admit_fault, refused, after_set}
 
 abbrev pub no_fault : Option ConfigError
@@ -39,10 +40,6 @@ unfolding admit_fault
 admit_fault-carried strings index text lt none = rw (lt-ltb index places lt, none) refl
 
 -- a text that is neither too long nor too large with the others
-pub record Fits (strings : Strings) (index : ℕ) (text : List ℕ) : Type 0 where
-  pub short : length text ≤ longest_string
-  pub room : config_size (with_string strings index text).texts ≤ most_size
-
 pub fits_room : (strings : Strings) (index : ℕ) (text : List ℕ) → room_fault strings index text ≡ None → Fits strings index text
 fits_room strings index text none =
     elim (cases_Bool (ltb longest_string (length text))) [
@@ -83,11 +80,6 @@ on_ok (Ok x) P p = p
 on_ok (Err fault) P p = tt
 
 -- a text that may go out as commands
-pub record Admitted (strings : Strings) (index : ℕ) (text : List ℕ) : Type 0 where
-  pub within : index < places
-  pub carried : All (λ byte. IsTrue (is_config_byte byte)) text
-  pub fits : Fits strings index text
-
 admitted-chars : (strings : Strings) (index : ℕ) (text : List ℕ) (byte : Option ℕ) → index < places → find (λ byte. not (is_config_byte byte)) text ≡ byte → chars_fault strings index text byte ≡ None → Admitted strings index text
 admitted-chars strings index text None within found none = record {
   within = within;

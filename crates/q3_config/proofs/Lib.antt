@@ -1,8 +1,6 @@
--- exported: proofs of crates above may cite these
-pub mod Sizes
-pub mod Faults
-pub mod Makes
--- for this crate alone
+mod Sizes
+mod Faults
+mod Makes
 mod Places
 mod Kept
 mod Texts

@@ -14,8 +14,8 @@ use Rattle.q3_config.specs.declared.error.ConfigError.{ConfigError}
 use Rattle.q3_config.specs.Strings.{Strings, AreStrings, places, longest_string, most_size, config_size, is_config_byte, string_at, with_string, fits, set_fault, admit_fault}
 use Rattle.q3_config.specs.Commands.{Word, Whole, First, Middle, Last, Change, piece_count, word_of, change_text, config_piece}
 use Rattle.q3_config.specs.Changes.{Applied, without_pending, with_pending, change_or, make_change, go_on, finish, after_change, after_shape, after_command, after_commands}
-use Rattle.q3_config.specs.Laws.{IsChange, piece_texts}
-use Rattle.q3_config.proofs.Faults.{Fits, set_fault-within, Admitted, admitted}
+use Rattle.q3_config.specs.Laws.{IsChange, piece_texts, Fits, Admitted}
+use Rattle.q3_config.proofs.Faults.{set_fault-within, admitted}
 use Rattle.q3_config.proofs.Texts.{part, carried-part}
 use Rattle.q3_config.proofs.ReadTexts.{spelled-is-read}
 use Rattle.q3_text.specs.Laws.{TextLaws}

@@ -1,9 +1,9 @@
 -- Laws of config strings and of the commands that change them.
-use Rattle.std.specs.Prelude.{◌≡◌, ◌≢◌, ◌⊎◌, ℕ, ◌<◌, ◌==◌, if◌then◌else◌, List, ◌++◌, length, map, codes, Option, All, IfSome, None, Some}
+use Rattle.std.specs.Prelude.{◌≡◌, ◌≢◌, ◌⊎◌, ℕ, ◌+◌, ◌<◌, ◌≤◌, ◌==◌, if◌then◌else◌, List, [], ◌++◌, length, map, set, slice_index_or, replicate, codes, Option, All, IfSome, IsTrue, None, Some}
 use Rattle.std.specs.List.{range_with_len}
-use Rattle.q3_text.specs.Texts.{IsText, IsTextByte}
+use Rattle.q3_text.specs.Texts.{IsText, IsTextByte, translated}
 use Rattle.q3_config.specs.declared.error.ConfigError.{ConfigError}
-use Rattle.q3_config.specs.Strings.{Strings, AreStrings, places, no_strings, with_string, set_fault, admit_fault, after_set}
+use Rattle.q3_config.specs.Strings.{Strings, AreStrings, places, longest_string, most_size, size_of, config_size, is_config_byte, no_strings, with_string, set_fault, admit_fault, after_set}
 use Rattle.q3_config.specs.Commands.{Change, change_text, change_in, config_piece, piece_count}
 use Rattle.q3_config.specs.Changes.{after_command, after_commands}
 
@@ -21,6 +21,31 @@ SpelledIsRead = (change : Change) (text : List ℕ) → IsChange change → (tex
 abbrev pub ReadIsSpelled : Type 0
 ReadIsSpelled = (change : Change) (text : List ℕ) → change_in text ≡ Some change
     → IsChange change × ((text ≡ change_text change) ⊎ (text ++ codes "\n" ≡ change_text change))
+
+-- a text that is neither too long nor too large with the others
+pub record Fits (strings : Strings) (index : ℕ) (text : List ℕ) : Type 0 where
+  pub short : length text ≤ longest_string
+  pub room : config_size (with_string strings index text).texts ≤ most_size
+
+-- a text that may go out as commands
+pub record Admitted (strings : Strings) (index : ℕ) (text : List ℕ) : Type 0 where
+  pub within : index < places
+  pub carried : All (λ byte. IsTrue (is_config_byte byte)) text
+  pub fits : Fits strings index text
+
+-- where nothing is wrong with a text, it is one
+abbrev pub AdmittedMayGo : Type 0
+AdmittedMayGo = (strings : Strings) (index : ℕ) (text : List ℕ) → admit_fault strings index text ≡ None → Admitted strings index text
+
+-- a piece of a text in bytes that a command may carry is a change as a text may carry it
+abbrev pub PiecesAreChanges : Type 0
+PiecesAreChanges = (index : ℕ) (text : List ℕ) (k : ℕ) → index < places → All (λ byte. IsTrue (is_config_byte byte)) text → IsChange (config_piece index text k)
+
+-- the size of empty strings, and of strings with another at an index
+pub record SizesAddUp : Type 0 where
+  pub empty : (count : ℕ) → config_size (replicate count []) ≡ 1
+  pub set : (texts : List (List ℕ)) (index : ℕ) (text : List ℕ) → index < length texts
+      → config_size (set texts index (map translated text)) + size_of (slice_index_or texts index []) ≡ config_size texts + size_of text
 
 -- the texts of a change that goes out, piece by piece
 abbrev pub piece_texts : ℕ → List ℕ → List (List ℕ)

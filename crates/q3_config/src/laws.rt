@@ -1,6 +1,6 @@
 //! Laws of config strings and their commands, each the contract of a call that does nothing.
 
-ghost use Rattle.q3_config.specs.Laws.{SpelledIsRead, ReadIsSpelled, PiecesAreTexts, PiecesMakeChange, StringsStay, TextsStay};
+ghost use Rattle.q3_config.specs.Laws.{SpelledIsRead, ReadIsSpelled, PiecesAreTexts, PiecesMakeChange, AdmittedMayGo, PiecesAreChanges, SizesAddUp, StringsStay, TextsStay};
 
 use q3_text::laws::text_laws;
 
@@ -17,6 +17,21 @@ pub fn read_is_spelled()
 {
     text_laws();
 }
+
+/// A text with which nothing is wrong may go out: in bytes that a command may carry, and with room for it.
+pub fn admitted_may_go()
+    ensures { AdmittedMayGo }
+{}
+
+/// The pieces of a text in such bytes are changes as a text may carry them.
+pub fn pieces_are_changes()
+    ensures { PiecesAreChanges }
+{}
+
+/// What empty strings take, and what another string adds.
+pub fn sizes_add_up()
+    ensures { SizesAddUp }
+{}
 
 /// The pieces of a text that may go out are texts of commands.
 pub fn pieces_are_texts()

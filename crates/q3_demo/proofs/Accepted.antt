@@ -23,10 +23,10 @@ use Rattle.q3_entity_ring.specs.Snapshot.{Snapshot}
 use Rattle.q3_rings.specs.declared.rings.NoBase.{NoBase}
 use Rattle.q3_rings.specs.Laws.{AcceptedIsHeld}
 use Rattle.q3_rings.specs.Rings.{AreHeldSnapshots, held_snapshot, view_at, accept_at}
+use Rattle.q3_clstate.specs.Laws.{AppliedIsContext}
 use Rattle.q3_clstate.specs.declared.applied.SnapOutcome.TheVariants.{Stale, Skipped}
 use Rattle.q3_clstate.specs.State.{AppliedState, Application, context_of, passes, accepts, is_stale, skipped_for, apply_section, apply_read, apply_at, hearing}
 use Rattle.q3_clstate.specs.Standing.{IsApplied}
-use Rattle.q3_clstate.proofs.HeldStays.{context_is}
 use Rattle.q3_demo.specs.declared.recorder.Stage.TheVariants.{Waits, Runs, Ended}
 use Rattle.q3_demo.specs.Recording.{Front, front_at, is_before}
 use Rattle.q3_demo.specs.Recorder.{IsAcceptedLast}
@@ -154,14 +154,14 @@ was_read state number message applied e =
       does = ap (λ (m : Message). apply_read state number m) (same_read after.0.0 read.0 after.2) ∙ same_applied (apply_read state number read.0) applied read.2;
     }
 
-accepted_last : ReadIsSpelled → AcceptedIsHeld → (state : AppliedState) (number first : ℕ) (message : List ℕ) (applied : Application) → IsApplied state → number < 2 ^ 32
+accepted_last : ReadIsSpelled → AppliedIsContext → AcceptedIsHeld → (state : AppliedState) (number first : ℕ) (message : List ℕ) (applied : Application) → IsApplied state → number < 2 ^ 32
     → WasRead state number message applied → is_before first applied.answer.snap ≡ true → IsAcceptedLast applied.state applied.answer message
-accepted_last spelled law state number first message applied is fits was =
+accepted_last spelled contexts law state number first message applied is fits was =
     let read = was.read in
     let context = context_of state.held state.baselines in
     let now = hearing state read.commands in
     let of_number = section_is_of now number read.section in
-    let is_read = (spelled state.profile context number read (bits_of message) was.left is.profile (context_is state is) was.by).0 fits in
+    let is_read = (spelled state.profile context number read (bits_of message) was.left is.profile (contexts state is) was.by).0 fits in
     subst (λ (a : Application). is_before first a.answer.snap ≡ true → IsAcceptedLast a.state a.answer message) was.does (λ before. record {
       number = of_number.state ∙ sym of_number.answer;
       front = subst (λ (p : Profile). IsOk (front_at p.code message)) (sym of_number.profile_is) (is_front state.profile context number message (read, was.left) was.by);
@@ -169,8 +169,8 @@ accepted_last spelled law state number first message applied is fits was =
           (section_holds law now number first read.section is.held is_read.number_is (few_read state.profile context read.section is_read.section) before);
     })
 
-pub may_note : ReadIsSpelled → AcceptedIsHeld → AppliedMayBeNoted
-may_note spelled law state number message applied Waits is fits e = tt
-may_note spelled law state number message applied (Runs first) is fits e =
-    accepted_last spelled law state number first message applied is fits (was_read state number message applied e)
-may_note spelled law state number message applied Ended is fits e = tt
+pub may_note : ReadIsSpelled → AppliedIsContext → AcceptedIsHeld → AppliedMayBeNoted
+may_note spelled contexts law state number message applied Waits is fits e = tt
+may_note spelled contexts law state number message applied (Runs first) is fits e =
+    accepted_last spelled contexts law state number first message applied is fits (was_read state number message applied e)
+may_note spelled contexts law state number message applied Ended is fits e = tt

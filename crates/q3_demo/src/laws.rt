@@ -2,6 +2,7 @@
 
 ghost use Rattle.q3_demo.specs.Laws.{APrefixPlaysAPrefix, AppliedMayBeNoted, FirstRecordsLeave, PlayingTellsRecords, RecordingGoesOn, RefusedForItsBytes};
 
+use q3_clstate::laws as clstate;
 use q3_rings::laws as rings;
 use q3_svmsg::laws as svmsg;
 
@@ -17,6 +18,7 @@ pub fn applied_may_be_noted()
     ensures { AppliedMayBeNoted }
 {
     svmsg::read_is_spelled();
+    clstate::applied_is_context();
     rings::accepted_is_held();
 }
 

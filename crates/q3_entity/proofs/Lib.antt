@@ -1,7 +1,5 @@
--- exported: proofs of crates above may cite these
-pub mod Risen
-pub mod SetBaselines
--- for this crate alone
+mod Risen
+mod SetBaselines
 mod DeltaTexts
 mod Gone
 mod Near

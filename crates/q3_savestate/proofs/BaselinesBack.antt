@@ -13,14 +13,18 @@ use Rattle.q3_fields.specs.States.{AreWords}
 use Rattle.q3_entity.specs.declared.state.EntityState.{EntityState}
 use Rattle.q3_entity.specs.Entities.{IsNormal, RiseFrom, AreStates, AreNormal}
 use Rattle.q3_entity.specs.Baselines.{Baselines, AreBaselines, most_baselines, no_baselines, set_at as baseline_at, with_baseline, set_baselines}
-use Rattle.q3_entity.proofs.Risen.{rise-lower}
-use Rattle.q3_entity.proofs.SetBaselines.{none_are_baselines, baseline_is_added}
 use Rattle.q3_savestate.specs.Cursor.{Cursor, number_at}
 use Rattle.q3_savestate.specs.Entities.{entity_bytes, entities_at, baselines_bytes, baselines_of, baselines_at}
 use Rattle.q3_savestate.proofs.Fields.{Took, carried, number_back, numbered, took_counted}
 use Rattle.q3_savestate.proofs.Gaps.{set_in_gap}
 use Rattle.q3_savestate.proofs.EntitiesBack.{ends_within, entities_back}
 use Rattle.q3_savestate.proofs.EntitiesWere.{ReadsEntities, reads_entities}
+use Rattle.q3_entity.specs.Laws.{NoneAreBaselines, BaselineIsAdded}
+
+-- numbers that rise from one on rise from a lower one too
+rise-lower : (limit most least : ℕ) (entities : List EntityState) → least ≤ most → RiseFrom limit most entities → RiseFrom limit least entities
+rise-lower limit most least [] le rise = tt
+rise-lower limit most least (entity ∷ others) le rise = (omega (arith, le, rise.0), rise.1, rise.2)
 
 -- ---- baselines that stand under their numbers
 
@@ -123,12 +127,12 @@ set_after limit front count least (entity ∷ others) long rise wide =
     ∙ append_assoc (set_baselines front) (entity ∷ []) others
 
 -- states that rise make baselines
-are_baselines : (table : Layout) (baselines : Baselines) (least : ℕ) (entities : List EntityState) → AreBaselines table baselines → RiseFrom (end_mark table) least entities → AreStates entities → AreNormal table entities
+are_baselines : (adds : BaselineIsAdded) (table : Layout) (baselines : Baselines) (least : ℕ) (entities : List EntityState) → AreBaselines table baselines → RiseFrom (end_mark table) least entities → AreStates entities → AreNormal table entities
     → AreBaselines table (fold with_baseline baselines entities)
-are_baselines table baselines least [] are rise states normal = are
-are_baselines table baselines least (entity ∷ others) are rise states normal =
-    are_baselines table (with_baseline baselines entity) (entity.number + 1) others
-    (baseline_is_added table baselines entity are rise.1 (All-head (λ entity. AreWords 64 entity.words) entity others states) (All-head (IsNormal table) entity others normal)) rise.2
+are_baselines adds table baselines least [] are rise states normal = are
+are_baselines adds table baselines least (entity ∷ others) are rise states normal =
+    are_baselines adds table (with_baseline baselines entity) (entity.number + 1) others
+    (adds table baselines entity are rise.1 (All-head (λ entity. AreWords 64 entity.words) entity others states) (All-head (IsNormal table) entity others normal)) rise.2
     (All-tail (λ entity. AreWords 64 entity.words) entity others states) (All-tail (IsNormal table) entity others normal)
 
 -- baselines that are read
@@ -137,30 +141,30 @@ pub record ReadsLines (table : Layout) (cursor : Cursor) (baselines : Baselines)
   pub are : AreBaselines table baselines
 
 -- by their number and the states
-counted_lines : (table : Layout) (count : ℕ) (cursor next rest : Cursor) (entities : List EntityState) → end_mark table ≤ most_baselines → Took cursor (little_bytes 2 count) next
+counted_lines : (adds : BaselineIsAdded) (bare : NoneAreBaselines) (table : Layout) (count : ℕ) (cursor next rest : Cursor) (entities : List EntityState) → end_mark table ≤ most_baselines → Took cursor (little_bytes 2 count) next
     → ReadsEntities table count 0 next entities rest → ReadsLines table cursor (baselines_of entities) rest
-counted_lines table count cursor next rest entities few one more =
+counted_lines adds bare table count cursor next rest entities few one more =
     let same : set_baselines (baselines_of entities) ≡ entities = set_after (end_mark table) [] most_baselines 0 entities refl more.rise few in
     record {
       took = rw same (took_counted (entity_bytes table) count cursor next rest entities one more.took more.long);
-      are = are_baselines table no_baselines 0 entities (none_are_baselines table) more.rise more.are more.normal;
+      are = are_baselines adds table no_baselines 0 entities (bare table) more.rise more.are more.normal;
     }
 
 -- they stood there
-pub reads_baselines : (table : Layout) (cursor : Cursor) (baselines : Baselines) (rest : Cursor) → IsTable table → end_mark table ≤ most_baselines → All (λ byte. byte < 256) cursor.bytes
+pub reads_baselines : (adds : BaselineIsAdded) (bare : NoneAreBaselines) (table : Layout) (cursor : Cursor) (baselines : Baselines) (rest : Cursor) → IsTable table → end_mark table ≤ most_baselines → All (λ byte. byte < 256) cursor.bytes
     → baselines_at table cursor ≡ Ok (baselines, rest) → ReadsLines table cursor baselines rest
 unfolding baselines_at
-reads_baselines table cursor baselines rest is few fit e =
+reads_baselines adds bare table cursor baselines rest is few fit e =
     let count = bind_ok (number_at 2 0 (end_mark table) cursor) (λ count. entities_at table count.0 0 count.1 >>= λ entities. Ok (baselines_of entities.0, entities.1)) (baselines, rest) e in
     let entities = bind_ok (entities_at table count.0.0 0 count.0.1) (λ entities. Ok (baselines_of entities.0, entities.1)) (baselines, rest) count.2 in
     let number = numbered 2 0 (end_mark table) cursor count.0.0 count.0.1 fit count.1 in
     let were = reads_entities table count.0.0 0 count.0.1 entities.0.0 entities.0.1 is number.took.fit entities.1 in
-    carried (ReadsLines table cursor) (baselines_of entities.0.0) baselines entities.0.1 rest entities.2 (counted_lines table count.0.0 cursor count.0.1 entities.0.1 entities.0.0 few number.took were)
+    carried (ReadsLines table cursor) (baselines_of entities.0.0) baselines entities.0.1 rest entities.2 (counted_lines adds bare table count.0.0 cursor count.0.1 entities.0.1 entities.0.0 few number.took were)
 
 -- their parts
-pub lines_were : (table : Layout) (cursor : Cursor) (baselines : Baselines) (rest : Cursor) → IsTable table → end_mark table ≤ most_baselines → All (λ byte. byte < 256) cursor.bytes
+pub lines_were : (adds : BaselineIsAdded) (bare : NoneAreBaselines) (table : Layout) (cursor : Cursor) (baselines : Baselines) (rest : Cursor) → IsTable table → end_mark table ≤ most_baselines → All (λ byte. byte < 256) cursor.bytes
     → baselines_at table cursor ≡ Ok (baselines, rest)
     → AreBaselines table baselines × (cursor.bytes ≡ baselines_bytes table baselines ++ rest.bytes) × (rest.at ≡ cursor.at + length (baselines_bytes table baselines)) × All (λ byte. byte < 256) rest.bytes
-lines_were table cursor baselines rest is few fit e =
-    let were = reads_baselines table cursor baselines rest is few fit e in
+lines_were adds bare table cursor baselines rest is few fit e =
+    let were = reads_baselines adds bare table cursor baselines rest is few fit e in
     (were.are, were.took.stood, were.took.place, were.took.fit)

@@ -14,7 +14,7 @@ use Rattle.q3_entity.specs.Entities.{RiseFrom, AreStates, AreNormal}
 use Rattle.q3_entity.specs.Baselines.{Baselines, AreBaselines, most_baselines}
 use Rattle.q3_text.specs.Texts.{IsTextByte}
 use Rattle.q3_config.specs.Strings.{Pending, Strings, AreStrings, places, longest_string, most_size, config_size}
-use Rattle.q3_config.specs.Laws.{HoldTexts}
+use Rattle.q3_config.specs.Laws.{HoldTexts, SizesAddUp}
 use Rattle.q3_savestate.specs.Cursor.{field_at, number_at, text_at}
 use Rattle.q3_savestate.specs.Entities.{words_bytes, state_words_at, entity_bytes, entities_at, baselines_bytes, baselines_at}
 use Rattle.q3_savestate.specs.Texts.{strings_bytes, strings_at, pending_bytes, pending_at}
@@ -25,6 +25,7 @@ use Rattle.q3_savestate.proofs.EntitiesWere.{reads_entities}
 use Rattle.q3_savestate.proofs.BaselinesBack.{baselines_back, reads_baselines}
 use Rattle.q3_savestate.proofs.TextsBack.{strings_back, reads_strings, pending_back, reads_pending}
 use Rattle.q3_savestate.proofs.Rows.{IsByte, ReadsBack, reads_back, WasRead}
+use Rattle.q3_entity.specs.Laws.{NoneAreBaselines, BaselineIsAdded}
 
 -- ---- fields
 
@@ -152,10 +153,10 @@ pub record MayBeStrings (texts : List (List ℕ)) : Type 0 where
   pub each : All (All IsTextByte) texts
 
 -- and what is read may be config strings
-pub strings_were_read : WasRead strings_at strings_bytes MayBeStrings
-strings_were_read = record {
+pub strings_were_read : (sizes : SizesAddUp) → WasRead strings_at strings_bytes MayBeStrings
+strings_were_read sizes = record {
   was = λ cursor texts left bytes e.
-      let was = reads_strings cursor texts left bytes e in
+      let was = reads_strings sizes cursor texts left bytes e in
       (record { count = was.long; size = was.fits; short = was.short; each = was.each }, was.took);
 }
 
@@ -165,7 +166,7 @@ baselines_read table baselines is are =
     reads_back (baselines_at table) (baselines_bytes table baselines) baselines (length (baselines_bytes table baselines)) (λ at rest. baselines_back table baselines at rest is are)
 
 -- and what is read are baselines, where no number is above the last place
-pub baselines_were_read : (table : Layout) → IsTable table → end_mark table ≤ most_baselines → WasRead (baselines_at table) (baselines_bytes table) (AreBaselines table)
-baselines_were_read table is few = record {
-  was = λ cursor baselines left bytes e. let was = reads_baselines table cursor baselines left is few bytes e in (was.are, was.took);
+pub baselines_were_read : (adds : BaselineIsAdded) (bare : NoneAreBaselines) (table : Layout) → IsTable table → end_mark table ≤ most_baselines → WasRead (baselines_at table) (baselines_bytes table) (AreBaselines table)
+baselines_were_read adds bare table is few = record {
+  was = λ cursor baselines left bytes e. let was = reads_baselines adds bare table cursor baselines left is few bytes e in (was.are, was.took);
 }

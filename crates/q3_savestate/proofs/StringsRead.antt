@@ -5,10 +5,10 @@ use Rattle.std.specs.List.{list_all}
 use Rattle.std.proofs.lemmas.Bool.{and_parts, lt-ltb, le-ltb, le-leb, ltb-true, not-true}
 use Rattle.q3_text.specs.Texts.{translated}
 use Rattle.q3_config.specs.Strings.{Strings, AreStrings, places, longest_string, most_size, size_of, config_size, fits, set_fault, after_set}
-use Rattle.q3_config.proofs.Sizes.{sized}
 use Rattle.q3_savestate.specs.Cursor.{Cursor, is_text_byte, number_at, text_at}
 use Rattle.q3_savestate.specs.Texts.{room_in, strings_after}
 use Rattle.q3_savestate.proofs.Ranges.{in_range, text_told}
+use Rattle.q3_config.specs.Laws.{SizesAddUp}
 
 -- ---- a string that is set
 
@@ -31,14 +31,14 @@ size_of-most [] = omega arith
 size_of-most (byte ∷ text) = omega arith
 
 -- a string of which there is room for the length is set where none is
-pub no_fault : (strings : Strings) (index : ℕ) (text : List ℕ) → AreStrings strings → index < places → get_or strings.texts index [] ≡ [] → 1 ≤ length text → length text ≤ room_in strings.texts
+pub no_fault : (sizes : SizesAddUp) (strings : Strings) (index : ℕ) (text : List ℕ) → AreStrings strings → index < places → get_or strings.texts index [] ≡ [] → 1 ≤ length text → length text ≤ room_in strings.texts
     → set_fault strings index text ≡ None
 unfolding set_fault
-no_fault strings index text are within empty some short =
+no_fault sizes strings index text are within empty some short =
     let place : nat_lt index places ≡ true = lt-ltb index places within in
     let long : nat_lt longest_string (length text) ≡ false = le-ltb longest_string (length text) (omega arith) in
     let size : config_size (set strings.texts index (map translated text)) ≤ most_size =
-    omega (arith, sized strings.texts index text (omega (arith, are.count)), ap size_of empty, size_of-most text, are.size) in
+    omega (arith, sizes.set strings.texts index text (omega (arith, are.count)), ap size_of empty, size_of-most text, are.size) in
     let room : fits strings index text ≡ true = le-leb (config_size (set strings.texts index (map translated text))) most_size size in
     rw (place, long, room) refl
 
@@ -55,22 +55,22 @@ pub record ReadsString (strings : Strings) (least room taken : ℕ) (cursor seco
   pub text_read : Ok (text, next) ≡ text_at taken third
 
 -- it is set as it is
-pub is_set : {strings : Strings} {least room taken : ℕ} {cursor second third next : Cursor} {index count : ℕ} {text : List ℕ} → ReadsString strings least room taken cursor second third next index count text
+pub is_set : {strings : Strings} {least room taken : ℕ} {cursor second third next : Cursor} {index count : ℕ} {text : List ℕ} → (sizes : SizesAddUp) → ReadsString strings least room taken cursor second third next index count text
     → (set_fault strings index text ≡ None) × (map translated text ≡ text)
-is_set {strings} {least} {room} {taken} {cursor} {second} {third} {next} {index} {count} {text} reads =
+is_set {strings} {least} {room} {taken} {cursor} {second} {third} {next} {index} {count} {text} sizes reads =
     let place = in_range 2 least (places - 1) cursor second index (sym reads.index_read) in
     let long = in_range 2 1 room second third count (sym reads.count_read) in
     let told = text_told taken third next text (sym reads.text_read) in
     let short : length text ≤ room_in strings.texts = omega (arith, reads.taken_is, reads.room_is, long.1, told.1) in (
-      no_fault strings index text reads.are (omega (arith, place.1)) (reads.empty index place.0) (omega (arith, reads.taken_is, long.0, told.1)) short,
+      no_fault sizes strings index text reads.are (omega (arith, place.1)) (reads.empty index place.0) (omega (arith, reads.taken_is, long.0, told.1)) short,
       same_bytes text told.0,
     )
 
 -- so it stands at its index
-pub stands : {strings : Strings} {least room taken : ℕ} {cursor second third next : Cursor} {index count : ℕ} {text : List ℕ} → ReadsString strings least room taken cursor second third next index count text
+pub stands : {strings : Strings} {least room taken : ℕ} {cursor second third next : Cursor} {index count : ℕ} {text : List ℕ} → (sizes : SizesAddUp) → ReadsString strings least room taken cursor second third next index count text
     → (place : ℕ) (after : Strings) → place ≡ index → after ≡ after_set strings place text (set_fault strings place text) → set strings.texts index text ≡ after.texts
-stands {strings} {index = index} {text = text} reads place after same is =
-    let set_is = is_set reads in
+stands {strings} {index = index} {text = text} sizes reads place after same is =
+    let set_is = is_set sizes reads in
     sym (ap (λ strings. strings.texts) is ∙ rw (same, set_is.0) (ap (λ text. set strings.texts index text) set_is.1))
 
 -- and is one step

@@ -12,8 +12,7 @@ use Rattle.q3_bits.specs.ResultBind.{◌>>=◌}
 use Rattle.q3_bits.proofs.Binds.{bind_ok}
 use Rattle.q3_text.specs.Texts.{IsTextByte}
 use Rattle.q3_config.specs.Strings.{Pending, Strings, AreStrings, places, longest_string, most_size, size_of, config_size}
-use Rattle.q3_config.specs.Laws.{HoldTexts}
-use Rattle.q3_config.proofs.Sizes.{config_size-empty}
+use Rattle.q3_config.specs.Laws.{HoldTexts, SizesAddUp}
 use Rattle.q3_savestate.specs.Cursor.{Cursor, Field, number_at, text_at}
 use Rattle.q3_savestate.specs.Texts.{set_strings, string_bytes, strings_bytes, room_in, strings_after, strings_at, pending_bytes, some_pending_at, pending_at}
 use Rattle.q3_savestate.proofs.Fields.{Took, took_none, took_both, took_counted, carried, number_back, numbered, text_back, worded}
@@ -264,20 +263,20 @@ counted_strings count cursor next rest texts one more = rw more.is (record {
 })
 
 -- they stood there
-pub reads_strings : (cursor : Cursor) (texts : List (List ℕ)) (rest : Cursor) → All (λ byte. byte < 256) cursor.bytes → strings_at cursor ≡ Ok (texts, rest) → ReadsStrings cursor texts rest
+pub reads_strings : (sizes : SizesAddUp) (cursor : Cursor) (texts : List (List ℕ)) (rest : Cursor) → All (λ byte. byte < 256) cursor.bytes → strings_at cursor ≡ Ok (texts, rest) → ReadsStrings cursor texts rest
 unfolding strings_at
-reads_strings cursor texts rest fit e =
+reads_strings sizes cursor texts rest fit e =
     let count = bind_ok (number_at 2 0 places cursor) (λ count. strings_after count.0 0 (replicate places []) count.1) (texts, rest) e in
     let number = numbered 2 0 places cursor count.0.0 count.0.1 fit count.1 in
     counted_strings count.0.0 cursor count.0.1 rest texts number.took
-    (after_were count.0.0 0 places [] (replicate places []) count.0.1 texts rest refl refl refl (omega (arith, config_size-empty places)) number.took.fit count.2)
+    (after_were count.0.0 0 places [] (replicate places []) count.0.1 texts rest refl refl refl (omega (arith, sizes.empty places)) number.took.fit count.2)
 
 -- their parts
-pub strings_were : (cursor : Cursor) (texts : List (List ℕ)) (rest : Cursor) → All (λ byte. byte < 256) cursor.bytes → strings_at cursor ≡ Ok (texts, rest)
+pub strings_were : (sizes : SizesAddUp) (cursor : Cursor) (texts : List (List ℕ)) (rest : Cursor) → All (λ byte. byte < 256) cursor.bytes → strings_at cursor ≡ Ok (texts, rest)
     → (length texts ≡ places) × (config_size texts ≤ most_size) × All (λ text. length text ≤ longest_string) texts × All (All IsTextByte) texts
     × (cursor.bytes ≡ strings_bytes texts ++ rest.bytes) × (rest.at ≡ cursor.at + length (strings_bytes texts)) × All (λ byte. byte < 256) rest.bytes
-strings_were cursor texts rest fit e =
-    let were = reads_strings cursor texts rest fit e in
+strings_were sizes cursor texts rest fit e =
+    let were = reads_strings sizes cursor texts rest fit e in
     (were.long, were.fits, were.short, were.each, were.took.stood, were.took.place, were.took.fit)
 
 -- ---- the text that is pending

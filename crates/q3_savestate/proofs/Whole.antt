@@ -25,6 +25,8 @@ use Rattle.q3_savestate.proofs.Rows.{ReadsBack, back_then, back_last, back_end, 
 use Rattle.q3_savestate.proofs.PartsRead.{MayPend, MayBeStrings, number_read, number_was_read, text_read, text_was_read, pending_read, pending_was_read, strings_read, strings_were_read, baselines_read, baselines_were_read}
 use Rattle.q3_savestate.proofs.SnapshotsBack.{snapshots_read}
 use Rattle.q3_savestate.proofs.SnapshotsWere.{snapshots_were_read}
+use Rattle.q3_config.specs.Laws.{SizesAddUp}
+use Rattle.q3_entity.specs.Laws.{NoneAreBaselines, BaselineIsAdded}
 
 -- ---- what stands in front
 
@@ -190,19 +192,19 @@ abbrev IsWritten : Profile → Saved → List ℕ → Type 0
 IsWritten profile saved text = IsSaved profile saved × (text ≡ state_bytes profile saved)
 
 -- and what is read is one, and its text
-whole_was_read : (profile : Profile) → SnapshotsStay → IsCodec profile → 512 ≤ profile.parse_ring → profile.entity.number_bits ≤ most_number_bits
+whole_was_read : (adds : BaselineIsAdded) (bare : NoneAreBaselines) (sizes : SizesAddUp) (profile : Profile) → SnapshotsStay → IsCodec profile → 512 ≤ profile.parse_ring → profile.entity.number_bits ≤ most_number_bits
     → HasReadAll (whole_at profile) (IsWritten profile)
-whole_was_read profile stay codec room few =
+whole_was_read adds bare sizes profile stay codec room few =
     all_were_then _ start_was_read (λ start first.
     all_were_then _ pending_was_read (λ pending second.
     all_were_then _ flag_was_read (λ has_game any.
-    all_were_then _ strings_were_read (λ texts third.
-    all_were_then _ (baselines_were_read profile.entity codec.entity (few_baselines profile.entity few)) (λ baselines fourth.
+    all_were_then _ (strings_were_read sizes) (λ texts third.
+    all_were_then _ (baselines_were_read adds bare profile.entity codec.entity (few_baselines profile.entity few)) (λ baselines fourth.
     all_were_then _ (snapshots_were_read profile codec stay room) (λ held fifth.
     end_was_read _ (is_saved profile start pending has_game texts baselines held first second third fourth fifth, refl)))))))
 
 -- what is read was written so
-pub read_is_written : SnapshotsStay → ReadIsWritten
+pub read_is_written : (adds : BaselineIsAdded) (bare : NoneAreBaselines) (sizes : SizesAddUp) → SnapshotsStay → ReadIsWritten
 unfolding state_at
-read_is_written stay profile bytes saved codec room each e =
-    (whole_was_read profile stay codec room codec.numbers.1).has (record { at = 0; bytes = bytes }) saved each e
+read_is_written adds bare sizes stay profile bytes saved codec room each e =
+    (whole_was_read adds bare sizes profile stay codec room codec.numbers.1).has (record { at = 0; bytes = bytes }) saved each e

@@ -3,6 +3,8 @@
 ghost use Rattle.q3_savestate.specs.Laws.{WrittenIsRead, ReadIsWritten, SavedIsApplied};
 ghost use Rattle.q3_savestate.specs.Laws.{WrittenStateIsRead, ReadStateIsWritten};
 
+use q3_config::laws as config;
+use q3_entity::laws as entity;
 use q3_rings::laws as rings;
 
 /// What is written of a state is read as that state.
@@ -14,6 +16,9 @@ pub fn written_is_read()
 pub fn read_is_written()
     ensures { ReadIsWritten }
 {
+    config::sizes_add_up();
+    entity::none_are_baselines();
+    entity::baseline_is_added();
     rings::snapshots_stay();
 }
 

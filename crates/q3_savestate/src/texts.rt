@@ -11,6 +11,7 @@ ghost use Rattle.q3_savestate.specs.Texts as spec;
 use crate::cursor::Cursor;
 use crate::writing::{write_byte, write_long, write_short};
 use q3_config::Configs;
+use q3_config::laws::sizes_add_up;
 use q3_io::{Failed, Sink, laws};
 
 /// How many config strings there are.
@@ -89,6 +90,7 @@ fn read_string(cursor: &mut Cursor, least: u16, configs: &mut Configs) -> Result
         → slice_index_or configs.new.texts index [] ≡ []) }
     ensures pending { configs.new.pending ≡ configs.old.pending }
 {
+    sizes_add_up();
     let index = cursor.short(least, STRINGS - 1)?;
     let length = cursor.short(1, room_in(configs))?;
     let text = cursor.text(usize::from(length))?;

@@ -309,7 +309,7 @@ module _ (profile : Profile) (whole : Whole) (old : History) (c : ℕ) (lt : c <
           cond_both (is_connected slot.stage) [] (piece_texts index text)
           (λ (texts : List (List ℕ)). Of old (with_config map index text) (place_at whole.ends c) (record history { server_commands = history.server_commands ++ texts }))
           (λ e. silent (untold profile whole c slot lt holds at e))
-          (λ e. follows_issued map.id map.strings old.built old.server_commands (state_in (place_at whole.ends c)) history.built history.games history.server_commands now (piece_texts index text) makes (pieces_leave laws.read map.strings index text may) is)
+          (λ e. follows_issued map.id map.strings old.built old.server_commands (state_in (place_at whole.ends c)) history.built history.games history.server_commands now (piece_texts index text) makes (pieces_leave laws map.strings index text may) is)
 
   config_changes : ConfigLaws → (index : ℕ) (text : List ℕ) → admit_fault whole.ends.server.map.strings index text ≡ None → has_string whole.ends.server.map.strings index text ≡ false → (full : Option ℕ)
       → ConfigSo old c whole index text (change_unless whole.ends.server index text full)

@@ -7,17 +7,16 @@ use Rattle.std.proofs.Math.Seq.{drop-length}
 use Rattle.std.proofs.lemmas.Bool.{cases_lt, cond_both, eq-eqb, eqb-false, ne_eqb}
 use Rattle.std.proofs.lemmas.List.{drop-append-le, length-append, length_push, take-append-le, take_all}
 use Rattle.q3_built.specs.Built.{Built}
-use Rattle.q3_config.proofs.Faults.{admitted}
 use Rattle.q3_config.specs.Changes.{Applied, after_change, after_command, after_commands, after_shape, change_or, finish, go_on, grow, make_change, unchanged, without_pending}
-use Rattle.q3_config.proofs.Makes.{piece_is_change}
 use Rattle.q3_config.specs.Commands.{Change, First, Last, Middle, Whole, Word, change_text, config_piece, piece_count, word_of}
-use Rattle.q3_config.specs.Laws.{SpelledIsRead, piece_texts}
+use Rattle.q3_config.specs.Laws.{piece_texts}
 use Rattle.q3_config.specs.Strings.{Pending, Strings, admit_fault, is_config_byte, longest_string, places, set_fault, string_at}
 use Rattle.q3_config.specs.declared.error.ConfigError.{ConfigError}
 use Rattle.q3_gamestate.specs.Values.{Gamestate}
 use Rattle.q3_svmsg.specs.Values as told
 use Rattle.q3_text.specs.Texts.{translated}
 use Rattle.q3_world.specs.Games.{Carries}
+use Rattle.q3_world.specs.Layers.{ConfigLaws}
 use Rattle.q3_world.specs.World.{built_at}
 use Rattle.q3_world.proofs.GamesParts.{built_end, built_front, carries_cases}
 use Rattle.q3_world.proofs.GamesTexts.{after_commands-append}
@@ -97,14 +96,14 @@ word_last : (count k : ℕ) → 0 < k → k + 1 ≡ count → word_of count k �
 unfolding word_of
 word_last count k after end = rw (ne_eqb count 1 (λ e. omega (arith, e, after, end)), ne_eqb k 0 (λ e. omega (arith, e, after)), eq-eqb (k + 1) count end) refl
 
-module _ (law : SpelledIsRead) (index : ℕ) (text : List ℕ) (within : index < places) (carried : All (λ byte. is_config_byte byte ≡ true) text) where
+module _ (laws : ConfigLaws) (index : ℕ) (text : List ℕ) (within : index < places) (carried : All (λ byte. is_config_byte byte ≡ true) text) where
   -- what one does, by its word
   does : (strings : Strings) (k : ℕ) (word : Word) → word_of (piece_count (length text)) k ≡ word
       → after_command strings (change_text (config_piece index text k)) ≡ after_change strings word index (config_piece index text k).text
   unfolding after_command
   does strings k word is =
       let piece = config_piece index text k in
-      ap (λ (found : Option Change). after_shape strings found) (law piece (change_text piece) (piece_is_change index text k within carried) (inl refl))
+      ap (λ (found : Option Change). after_shape strings found) (laws.read piece (change_text piece) (laws.changes index text k within carried) (inl refl))
       ∙ (ap (λ (w : Word). after_change strings w piece.index piece.text) (piece_word index text k ∙ is)
       ∙ ap (λ (i : ℕ). after_change strings word i piece.text) (piece_index index text k))
 
@@ -134,10 +133,10 @@ module _ (law : SpelledIsRead) (index : ℕ) (text : List ℕ) (within : index <
       (subst (λ (a : Applied). OfIndex index a.strings.pending) (sym first) refl)
 
 -- all pieces of a change that may go out
-pub pieces_leave : SpelledIsRead → (strings : Strings) (index : ℕ) (text : List ℕ) → admit_fault strings index text ≡ None → LeaveNone (piece_texts index text)
-pieces_leave law strings index text may now none =
-    let goes = admitted strings index text may in
-    all_end law index text goes.within goes.carried now (piece_count (length text)) refl none
+pub pieces_leave : ConfigLaws → (strings : Strings) (index : ℕ) (text : List ℕ) → admit_fault strings index text ≡ None → LeaveNone (piece_texts index text)
+pieces_leave laws strings index text may now none =
+    let goes = laws.admitted strings index text may in
+    all_end laws index text goes.within goes.carried now (piece_count (length text)) refl none
 
 -- ---- where messages were begun
 

@@ -58,8 +58,8 @@ pub fn read_string<const N: usize>(
     Ok(())
 }
 
-/// Reads a string of at most 1,023 bytes into its place. After a refusal `into` may hold any. `Err` comes as in
-/// `read_string`.
+/// Reads a string of at most 1,023 bytes over the one that stands in its place. After a refusal `into` may hold any, and the
+/// reader stand anywhere. `Err` comes as in `read_string`.
 #[inline(always)]
 pub fn read_text(r: &mut Reader, into: &mut Text) -> Result<(), StringError>
     ensures { Reads r.old r.new (bounded_string_at r.old.words most_bytes r.old.left) (holding into.new result) }
@@ -91,8 +91,8 @@ pub fn read_text(r: &mut Reader, into: &mut Text) -> Result<(), StringError>
     Ok(())
 }
 
-/// Reads a command after its operation into its place. After a refusal `into` may hold any. `Err` comes as in
-/// `read_string`.
+/// Reads a command after its operation into its place. After a refusal it and the reader are as after `read_text`. `Err` comes
+/// as in `read_string`.
 #[tactic(auto, unfolding(crate::specs::Reading::command_at))]
 #[inline(always)]
 pub fn read_command(r: &mut Reader, into: &mut Command) -> Result<(), StringError>

@@ -19,8 +19,7 @@ use Rattle.q3_entity.specs.Baselines.{with_baseline}
 use Rattle.q3_text.specs.Texts.{IsText}
 use Rattle.q3_config.specs.declared.error.ConfigError.{ConfigError}
 use Rattle.q3_config.specs.Strings.{with_string, admit_fault, has_string}
-use Rattle.q3_config.specs.Laws.{piece_texts}
-use Rattle.q3_config.proofs.Faults.{Admitted, admitted}
+use Rattle.q3_config.specs.Laws.{piece_texts, Admitted}
 use Rattle.q3_window.specs.Outgoing.{IsOutgoing, fits as has_room, total_of, with_texts}
 use Rattle.q3_clmsg.specs.declared.moves.Move.{Move}
 use Rattle.q3_clmsg.specs.Moves.{IsHeldMove}
@@ -377,7 +376,7 @@ holds_config profile whole index text cited bytes holds =
         (record {
           room = λ c lt. none_passes (lacks_room (piece_texts index text)) whole.ends.server.slots none c None (omega (arith, lt, holds.facts.slots));
           are = cited.below.configs.pieces whole.ends.server.map.strings index text fault;
-          own = pieces_own cited.below.configs.read index text other may.within may.carried;
+          own = pieces_own cited.below.configs.read cited.below.configs.changes index text other may.within may.carried;
         }) holds
 
     of_place : (index ≡ 1 → ⊥) → Admitted whole.ends.server.map.strings index text → admit_fault whole.ends.server.map.strings index text ≡ None → has_string whole.ends.server.map.strings index text ≡ false → (found : Option ℕ)
@@ -390,7 +389,7 @@ holds_config profile whole index text cited bytes holds =
     of_fault other None none =
         elim (cases_Bool (has_string whole.ends.server.map.strings index text)) [
           | inl same ↦ rw same (rw same holds)
-          | inr changed ↦ rw changed (of_place other (admitted whole.ends.server.map.strings index text none) none changed (position (lacks_room (piece_texts index text)) whole.ends.server.slots) refl)
+          | inr changed ↦ rw changed (of_place other (cited.below.configs.admitted whole.ends.server.map.strings index text none) none changed (position (lacks_room (piece_texts index text)) whole.ends.server.slots) refl)
         ]
 
 -- ---- moves

@@ -5,7 +5,7 @@ use Rattle.q3_chan.specs.Senders.{QportIsTold}
 use Rattle.q3_chan.specs.Laws.{SentIsTagged, TaggedDoes, EndsGather, EndsSend}
 use Rattle.q3_frames.specs.Laws.{NothingIsHeld, HeldWasBuilt, BuildKeeps, BaseIsNear}
 use Rattle.q3_map.specs.Laws.{ListsStayHeld}
-use Rattle.q3_config.specs.Laws.{PiecesAreTexts, PiecesMakeChange, SpelledIsRead}
+use Rattle.q3_config.specs.Laws.{AdmittedMayGo, PiecesAreChanges, PiecesAreTexts, PiecesMakeChange, SpelledIsRead}
 use Rattle.q3_window.specs.Flow.{FlowLaws}
 use Rattle.q3_window.specs.Laws.{StaysOutgoing}
 use Rattle.q3_rings.specs.Laws.{AcceptedIsHeld, NothingStands, AcceptIsAdded, BaseIsOfList, HeldWasAccepted, NearIsHeldByAge, UsualRingHolds}
@@ -33,8 +33,10 @@ pub record RingLaws : Type 0 where
   pub by_age : NearIsHeldByAge
   pub usual : UsualRingHolds
 
--- that the pieces of a change are texts of commands, which make the change
+-- what may go out as commands, and that its pieces are changes and texts of commands, which make the change
 pub record ConfigLaws : Type 0 where
+  pub admitted : AdmittedMayGo
+  pub changes : PiecesAreChanges
   pub pieces : PiecesAreTexts
   pub make : PiecesMakeChange
   pub read : SpelledIsRead

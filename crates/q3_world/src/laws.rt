@@ -37,6 +37,8 @@ pub fn layers()
     chan::ends_gather();
     chan::ends_send();
     map::lists_stay_held();
+    config::admitted_may_go();
+    config::pieces_are_changes();
     config::pieces_are_texts();
     config::pieces_make_change();
     config::spelled_is_read();

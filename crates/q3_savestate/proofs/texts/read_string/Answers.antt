@@ -14,7 +14,7 @@ unwrap-requires c =
       count_read = c.in_ok-length.ensures;
       text_read = c.in_ok-text.ensures;
     } in
-    let is = is_set reads in
+    let is = is_set c.sizes_add_up.ensures reads in
     rw (c.set.ensures.answer, c.from-2.ensures, is.0) refl
 
 pub returns-clause-step : goal.returns-clause-step
@@ -28,4 +28,4 @@ returns-clause-step c = λ count.
       count_read = c.in_ok-length.ensures;
       text_read = c.in_ok-text.ensures;
     } in
-    is_step reads count ∙ ap (λ texts. strings_after count (c.in_ok-index.index + 1) texts c.text.new.self) (stands reads c.from-2.result c.set.new.self c.from-2.ensures c.set.ensures.strings)
+    is_step reads count ∙ ap (λ texts. strings_after count (c.in_ok-index.index + 1) texts c.text.new.self) (stands c.sizes_add_up.ensures reads c.from-2.result c.set.new.self c.from-2.ensures c.set.ensures.strings)

@@ -36,6 +36,8 @@ returns c = record {
     usual = c.usual_ring_holds.ensures;
   };
   configs = record {
+    admitted = c.admitted_may_go.ensures;
+    changes = c.pieces_are_changes.ensures;
     pieces = c.pieces_are_texts.ensures;
     make = c.pieces_make_change.ensures;
     read = c.spelled_is_read.ensures;
