@@ -1,4 +1,4 @@
-mod Applies
+mod Numbered
 mod Begins
 mod Stays
 mod Received

@@ -34,30 +34,27 @@ pub record ClientStays : Type 0 where
   pub receives : (client : ClientState) (number : ℕ) (bytes : List ℕ) (received : Reception) → number < 2 ^ 32 → IsApplied client.state → IsOutgoing client.issued
       → receive_bytes client number bytes ≡ Ok received → IsApplied received.application.state
 
--- what a client with this state, where the newest message taken had a number, made of a message that it applied: it keeps its bytes, cleared,
--- and they do under its number, which is newer, what was answered, accepted and executed
-pub record WasApplied (before : AppliedState) (last : ℕ) (taken : Taken) (applied : Applied) : Type 0 where
+-- what a client made of a message that it applied: it keeps its bytes, cleared, and they do under its number what was answered, accepted and
+-- executed. The number is newer than all before, and from then on the newest; no command was issued
+pub record WasApplied (client : ClientState) (taken : Taken) (applied : Applied) : Type 0 where
   pub application : Application
-  pub does : apply_at before applied.number taken.client.message ≡ Ok application
+  pub does : apply_at client.state applied.number taken.client.message ≡ Ok application
   pub state : application.state ≡ taken.client.state
   pub answer : application.answer ≡ applied
   pub accepted : application.accepted ≡ taken.accepted
   pub heard : application.heard ≡ taken.heard
-  pub newer : last < applied.number
-  pub fits : applied.number < 2 ^ 32
-
--- a message that was applied is from then on the newest that was taken, and as short as messages are; no command was issued
-pub record WasNewest (client : ClientState) (taken : Taken) (applied : Applied) : Type 0 where
-  pub answer : taken.answer ≡ took.Applied applied
-  pub number : taken.client.gathering.taken ≡ applied.number
+  pub newer : client.gathering.taken < applied.number
+  pub newest : taken.client.gathering.taken ≡ applied.number
   pub fits : applied.number < 2 ^ 31
   pub short : length taken.client.message ≤ longest_message
   pub issued : issued_of taken.client.issued ≡ issued_of client.issued
 
--- where none was applied, what the messages before left stays, and so does the window; the number of the newest doesn't fall
+-- where none was applied, what the messages before left stays, and so do the last one's bytes and the window; the number of the newest
+-- doesn't fall
 pub record WasLeft (client : ClientState) (taken : Taken) : Type 0 where
   pub none : (applied : Applied) → taken.answer ≡ took.Applied applied → ⊥
   pub state : taken.client.state ≡ client.state
+  pub message : taken.client.message ≡ client.message
   pub issued : taken.client.issued ≡ client.issued
   pub rises : client.gathering.taken ≤ taken.client.gathering.taken
   pub fits : client.gathering.taken < 2 ^ 31 → taken.client.gathering.taken < 2 ^ 31
@@ -65,6 +62,6 @@ pub record WasLeft (client : ClientState) (taken : Taken) : Type 0 where
 -- a datagram brings a message that is applied, or leaves what messages left
 pub record TakesMessages : Type 0 where
   pub applies : (client : ClientState) (datagram : List ℕ) (applied : Applied)
-      → (take_at client datagram).answer ≡ took.Applied applied → WasApplied client.state client.gathering.taken (take_at client datagram) applied
+      → (take_at client datagram).answer ≡ took.Applied applied → WasApplied client (take_at client datagram) applied
   pub leaves : (client : ClientState) (datagram : List ℕ)
-      → ((applied : Applied) × WasNewest client (take_at client datagram) applied) ⊎ WasLeft client (take_at client datagram)
+      → ((applied : Applied) × ((take_at client datagram).answer ≡ took.Applied applied)) ⊎ WasLeft client (take_at client datagram)

@@ -25,9 +25,10 @@ pub fn client_stays()
     window::stays_outgoing();
 }
 
-/// A datagram brings a message that is applied, or leaves what messages left. The bytes of one that is applied are kept, cleared, and do under
-/// its number, which is newer than all before, what was answered.
-#[tactic(auto, using(crate::proofs::Applies::was_applied, crate::proofs::Leaves::taken_did))]
+/// A datagram brings a message that is applied, or leaves what messages left. The bytes of one that is applied are kept, cleared, and
+/// do under its number, which is newer than all before and the newest from then on, what was answered, accepted and executed. Neither
+/// issues a command.
+#[tactic(auto, using(crate::proofs::Leaves::takes))]
 pub fn takes_messages()
     ensures { TakesMessages }
 {}

@@ -1,5 +1,5 @@
 -- What a recording has of what its client took.
-use Rattle.std.proofs.Common.{◌≡◌, ℕ, [], false, refl, subst}
+use Rattle.std.proofs.Common.{◌≡◌, ◌<◌, ◌^◌, [], false, refl, subst, arith}
 use Rattle.q3_clstate.specs.declared.applied.Applied.{Applied as AppliedSo}
 use Rattle.q3_clstate.specs.State.{AppliedState}
 use Rattle.q3_clstate.specs.Standing.{IsApplied}
@@ -27,9 +27,9 @@ nothing_noted Says stage client taken took.Partial not says = says
 nothing_noted Says stage client taken (took.Illegible cause) not says = says
 
 -- what was applied may be noted
-pub may_note : AppliedMayBeNoted → (stage : Stage) (before : AppliedState) (last : ℕ) (taken : Taken) (applied : AppliedSo) → IsApplied before → WasApplied before last taken applied
+pub may_note : AppliedMayBeNoted → (stage : Stage) (client : ClientState) (taken : Taken) (applied : AppliedSo) → IsApplied client.state → WasApplied client taken applied
     → MayNote stage taken.client.state applied taken.client.message
-may_note law stage before last taken applied stands was =
+may_note law stage client taken applied stands was =
     subst (λ (state : AppliedState). MayNote stage state applied taken.client.message) was.state
     (subst (λ (answer : AppliedSo). MayNote stage was.application.state answer taken.client.message) was.answer
-    (law before applied.number taken.client.message was.application stage stands was.fits was.does))
+    (law client.state applied.number taken.client.message was.application stage stands (let fits = was.fits in omega (arith, fits)) was.does))

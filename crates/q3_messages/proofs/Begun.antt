@@ -20,15 +20,11 @@ use Rattle.q3_frames.specs.Frames.{FramesState}
 use Rattle.q3_built.specs.Built.{Built, IsBuilt, built_bits, built_bytes, is_unclear}
 use Rattle.q3_slot.specs.Slot.{SlotState}
 use Rattle.q3_slot.specs.Emitting.{SlotEmission, next_frames, begun_next, next_game_built, is_overlong, most_placed, emit_built, emit_game, emit_new, emit_slot}
-use Rattle.q3_slot.specs.Standing.{IsSlot}
 use Rattle.q3_server.specs.Server.{ServerState, slot_at, emit_from, emit_at}
-use Rattle.q3_server.specs.Standing.{IsServerState}
-use Rattle.q3_server.specs.Laws.{BeginsAsBuilt}
+use Rattle.q3_server.specs.Standing.{BeginsBuilt}
 use Rattle.q3_client.specs.Client.{ClientState}
 use Rattle.q3_client.specs.Sending as says
 use Rattle.q3_client.specs.Sending.{Said, IsSaid, Emission, next_message, next_said, said_bits, said_bytes}
-use Rattle.q3_client.specs.Standing.{IsClient}
-use Rattle.q3_client.specs.Laws.{BeginsSaid}
 use Rattle.q3_messages.specs.MessageLaws.{MayBeSent, BegunMayBeSent}
 
 -- ---- its bytes
@@ -135,10 +131,10 @@ module _ (profile : Profile) (map : MapState) (slot : SlotState) where
     sendable = of_built laws profile slot.challenge (slot.sending.number + 1) built is (ltb-false _ _ short.short);
   }
 
-server_may : Scrambling → BeginsAsBuilt → (server : ServerState) (c : ℕ) → c < 2 ^ 32 → IfSome (slot_at server c) IsSlot → IsServerState server
+server_may : Scrambling → (server : ServerState) (c : ℕ) → BeginsBuilt server c
     → IfSome (slot_at server c) (λ slot. IfSome (emit_at server c).began (λ built. MayBeSent (slot.sending.number + 1) (built_bytes server.profile built)))
 unfolding emit_at
-server_may laws begins server c lt here is = of_slot (slot_at server c) (begins.began server c lt here is)
+server_may laws server c began = of_slot (slot_at server c) began
   where
     of_slot : (found : Option SlotState) → IfSome found (λ slot. IfSome (emit_from server c found).began (IsBuilt server.profile slot.challenge (slot.sending.number + 1)))
         → IfSome found (λ slot. IfSome (emit_from server c found).began (λ built. MayBeSent (slot.sending.number + 1) (built_bytes server.profile built)))
@@ -185,12 +181,12 @@ said_may : Scrambling → (client : ClientState) (began : Option Said) → IfSom
 said_may laws client None short is = tt
 said_may laws client (Some said) short is = record { fits = short.fits; sendable = of_said laws client.state.profile client.challenge said is (ltb-false _ _ short.short) }
 
-client_may : Scrambling → BeginsSaid → (client : ClientState) → IsClient client
+client_may : Scrambling → (client : ClientState) → IfSome (says.emit_at client).began (IsSaid client.state.profile client.challenge)
     → IfSome (says.emit_at client).began (λ said. MayBeSent (client.sending.number + 1) (said_bytes client.state.profile said))
 unfolding says.emit_at
-client_may laws begins client is = said_may laws client (says.emit_unless client client.dropped).began (said_unless client client.dropped) (begins.began client is)
+client_may laws client began = said_may laws client (says.emit_unless client client.dropped).began (said_unless client client.dropped) began
 
-pub begun_may_be_sent : MessageIsBytes → SideFrontStays → SideBytesStay → BeginsAsBuilt → BeginsSaid → BegunMayBeSent
-begun_may_be_sent bits front bytes server client =
+pub begun_may_be_sent : MessageIsBytes → SideFrontStays → SideBytesStay → BegunMayBeSent
+begun_may_be_sent bits front bytes =
     let laws : Scrambling = record { bits = bits; front = front; bytes = bytes } in
-    record { of_built = of_built laws; of_said = of_said laws; built = server_may laws server; said = client_may laws client }
+    record { of_built = of_built laws; of_said = of_said laws; built = server_may laws; said = client_may laws }

@@ -18,13 +18,12 @@ use Rattle.q3_window.specs.Outgoing.{acknowledge_at, text_at}
 use Rattle.q3_slot.specs.declared.taking.ServerTook.TheVariants.{Partial as SlotPartial}
 use Rattle.q3_built.specs.Built.{Built, IsBuilt, built_bits, built_bytes, plain_bytes}
 use Rattle.q3_slot.specs.Slot.{SlotState}
-use Rattle.q3_slot.specs.Standing.{IsSlot}
 use Rattle.q3_slot.specs.Taking.{came_as, run_read, said_by}
 use Rattle.q3_slot.specs.Taking as by_slot
 use Rattle.q3_server.specs.Server.{ServerState, slot_at, emit_at}
 use Rattle.q3_server.specs.Taking.{sender_of, taken_at}
 use Rattle.q3_server.specs.Taking as hears
-use Rattle.q3_server.specs.Standing.{IsServerState}
+use Rattle.q3_server.specs.Standing.{BeginsBuilt, IsServerState}
 use Rattle.q3_clstate.specs.Standing.{IsApplied}
 use Rattle.q3_client.specs.declared.client.ClientTook.TheVariants.{Partial}
 use Rattle.q3_client.specs.Client.{ClientState, Taken, answers, receive_message, receive_bytes, applies, take_at}
@@ -67,15 +66,17 @@ pub record MayBeSent (number : ℕ) (message : List ℕ) : Type 0 where
   pub fits : number < sequence_end
   pub sendable : IsSendable message
 
--- a message as an end begins it has bytes that may be sent, where it isn't too long; so what either end begins may be sent, in every state
+-- a message as an end begins it has bytes that may be sent, where it isn't too long; so what either end begins may be sent, where it is such
+-- a message, as the `emit` of each end says of what it begins
 pub record BegunMayBeSent : Type 0 where
   pub of_built : (profile : Profile) (challenge n : ℕ) (built : Built) → IsBuilt profile challenge n built
       → message_length (length (built_bits profile built)) ≤ longest_message → IsSendable (built_bytes profile built)
   pub of_said : (profile : Profile) (challenge : ℕ) (said : Said) → IsSaid profile challenge said
       → message_length (length (said_bits profile said)) ≤ longest_message → IsSendable (said_bytes profile said)
-  pub built : (server : ServerState) (c : ℕ) → c < 2 ^ 32 → IfSome (slot_at server c) IsSlot → IsServerState server
+  pub built : (server : ServerState) (c : ℕ) → BeginsBuilt server c
       → IfSome (slot_at server c) (λ slot. IfSome (emit_at server c).began (λ built. MayBeSent (slot.sending.number + 1) (built_bytes server.profile built)))
-  pub said : (client : ClientState) → IsClient client → IfSome (says.emit_at client).began (λ said. MayBeSent (client.sending.number + 1) (said_bytes client.state.profile said))
+  pub said : (client : ClientState) → IfSome (says.emit_at client).began (IsSaid client.state.profile client.challenge)
+      → IfSome (says.emit_at client).began (λ said. MayBeSent (client.sending.number + 1) (said_bytes client.state.profile said))
 
 -- a message may come to an end that gathers: its number is above every number taken, nothing was gathered under it, and it may be
 -- sent

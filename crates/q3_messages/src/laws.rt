@@ -4,21 +4,17 @@ ghost use Rattle.q3_messages.specs.MessageLaws.{BegunMayBeSent, BuiltIsRead, Bui
 
 use q3_bits::laws as bits;
 use q3_chan::laws as chan;
-use q3_client::laws as client;
 use q3_clmsg::laws as clmsg;
 use q3_clstate::laws as clstate;
-use q3_server::laws as server;
 use q3_svmsg::laws as svmsg;
 
-/// A message as an end begins it has bytes that may be sent, where it isn't too long; so what either end begins may be sent, in every
-/// state: its number is below 2^30, and it has 1 to 16,384 bytes.
+/// A message as an end begins it has bytes that may be sent, where it isn't too long. So whatever `emit` of either end begins may be
+/// sent, since `emit` says that it is such a message: its number is below 2^30, and it has 1 to 16,384 bytes.
 pub fn begun_may_be_sent()
     ensures { BegunMayBeSent }
 {
     bits::message_holds_bits();
     chan::ends_scramble();
-    server::begins_built();
-    client::begins_said();
 }
 
 /// A message that was built is read back from its bytes, whole, or as skipped where its base isn't held.

@@ -31,7 +31,7 @@ use Rattle.q3_client.specs.declared.client.Sent.TheVariants as sent
 use Rattle.q3_client.specs.Client.{ClientState, Taken, new_client, type_at, take_at}
 use Rattle.q3_client.specs.Moves.{Handed, is_issuable, issue, add_move_at}
 use Rattle.q3_client.specs.Sending.{Said, Emission, next_message, next_said, said_bits, is_unclear, nothing, hand_out, emit_bits, emit_new, emit_left, emit_unless, emit_at}
-use Rattle.q3_client.specs.Laws.{WasApplied, WasNewest, WasLeft, TakesMessages}
+use Rattle.q3_client.specs.Laws.{WasApplied, WasLeft, TakesMessages}
 use Rattle.q3_demo.specs.Records.{number_end}
 use Rattle.q3_demo.specs.Recording.{Noted}
 use Rattle.q3_schedules.specs.Recorded.{noted_of}
@@ -211,26 +211,27 @@ record Laws : Type 0 where
   contexts : AppliedIsContext
   takes : TakesMessages
 
-was_leaving : Laws → (profile : Profile) (client : ClientState) (taken : Taken) (applied : Applied) (was : WasApplied client.state client.gathering.taken taken applied) → IsSound profile client
+was_leaving : Laws → (profile : Profile) (client : ClientState) (taken : Taken) (applied : Applied) (was : WasApplied client taken applied) → IsSound profile client
     → Leaves client.state applied.number was.application
 was_leaving laws profile client taken applied was is =
     let newest = is.newest in
     let number = is.number in
     let newer = was.newer in
-    leaves laws.read laws.contexts client.state applied.number taken.client.message was.application is.applied (omega (arith, newest, number, newer)) was.fits was.does
+    let fits = was.fits in
+    leaves laws.read laws.contexts client.state applied.number taken.client.message was.application is.applied (omega (arith, newest, number, newer)) (omega (arith, fits)) was.does
 
-applied_sound : Laws → (profile : Profile) (client : ClientState) (taken : Taken) (applied : Applied) → WasNewest client taken applied
-    → WasApplied client.state client.gathering.taken taken applied → IsSound profile client → IsSound profile taken.client
-applied_sound laws profile client taken applied did was is =
+applied_sound : Laws → (profile : Profile) (client : ClientState) (taken : Taken) (applied : Applied)
+    → WasApplied client taken applied → IsSound profile client → IsSound profile taken.client
+applied_sound laws profile client taken applied was is =
     let new = was_leaving laws profile client taken applied was is in
     let left : IsApplied was.application.state =
-    subst (λ (result : Result Application Illegible). IsApplied (state_after_message client.state result)) was.does (laws.stays.apply client.state applied.number taken.client.message was.fits is.applied) in
+    subst (λ (result : Result Application Illegible). IsApplied (state_after_message client.state result)) was.does (laws.stays.apply client.state applied.number taken.client.message (let fits = was.fits in omega (arith, fits)) is.applied) in
     let numbered : taken.client.state.number ≡ applied.number = subst (λ (state : AppliedState). state.number ≡ applied.number) was.state new.numbered in
     let newest : taken.client.state.held.newest ≤ applied.number = subst (λ (state : AppliedState). state.held.newest ≤ applied.number) was.state new.newest in
-    let number = did.number in
-    let fits = did.fits in
+    let number = was.newest in
+    let fits = was.fits in
     let newer = was.newer in
-    let issued = did.issued in
+    let issued = was.issued in
     let before = is.issued in
     record {
       applied = subst IsApplied was.state left;
@@ -243,9 +244,9 @@ applied_sound laws profile client taken applied did was is =
     }
 
 did_sound : Laws → (profile : Profile) (client : ClientState) (datagram : List ℕ) → IsSound profile client
-    → ((applied : Applied) × WasNewest client (take_at client datagram) applied) ⊎ WasLeft client (take_at client datagram) → IsSound profile (take_at client datagram).client
+    → ((applied : Applied) × ((take_at client datagram).answer ≡ took.Applied applied)) ⊎ WasLeft client (take_at client datagram) → IsSound profile (take_at client datagram).client
 did_sound laws profile client datagram is (inl did) =
-    applied_sound laws profile client (take_at client datagram) did.0 did.1 (laws.takes.applies client datagram did.0 did.1.answer) is
+    applied_sound laws profile client (take_at client datagram) did.0 (laws.takes.applies client datagram did.0 did.1) is
 did_sound laws profile client datagram is (inr did) =
     sound_as profile client (take_at client datagram).client did.state did.rises (did.fits is.taken) (subst (λ (window : OutgoingState). issued_of window < 2 ^ 32) (sym did.issued) is.issued) is
 
@@ -281,24 +282,24 @@ noted_with client taken applied = record {
   applied = record { state = taken.client.state; answer = applied; accepted = taken.accepted; heard = taken.heard };
 }
 
-application_is : (state : AppliedState) (last : ℕ) (taken : Taken) (applied : Applied) (was : WasApplied state last taken applied)
+application_is : (client : ClientState) (taken : Taken) (applied : Applied) (was : WasApplied client taken applied)
     → was.application ≡ record { state = taken.client.state; answer = applied; accepted = taken.accepted; heard = taken.heard }
-application_is state last taken applied was =
+application_is client taken applied was =
     let one = was.application in
     ap (λ (state : AppliedState). record one { state = state }) was.state
     ∙ ap (λ (answer : Applied). record one { state = taken.client.state; answer = answer }) was.answer
     ∙ ap (λ accepted. record one { state = taken.client.state; answer = applied; accepted = accepted }) was.accepted
     ∙ ap (λ heard. record one { state = taken.client.state; answer = applied; accepted = taken.accepted; heard = heard }) was.heard
 
-applied_notes : Laws → (profile : Profile) (client : ClientState) (taken : Taken) (applied : Applied) → WasNewest client taken applied
-    → WasApplied client.state client.gathering.taken taken applied → IsSound profile client → NotesOne client taken (noted_with client taken applied)
-applied_notes laws profile client taken applied did was is =
+applied_notes : Laws → (profile : Profile) (client : ClientState) (taken : Taken) (applied : Applied) → taken.answer ≡ took.Applied applied
+    → WasApplied client taken applied → IsSound profile client → NotesOne client taken (noted_with client taken applied)
+applied_notes laws profile client taken applied answered was is =
     let new = was_leaving laws profile client taken applied was is in
     let numbered : taken.client.state.number ≡ applied.number = subst (λ (state : AppliedState). state.number ≡ applied.number) was.state new.numbered in
     let number = is.number in
     let newer = was.newer in
     record {
-      notes = ap (noted_of client taken) did.answer;
+      notes = ap (noted_of client taken) answered;
       before = refl;
       after = refl;
       begun = omega (arith, numbered, newer);
@@ -307,10 +308,10 @@ applied_notes laws profile client taken applied did was is =
         begun = begun;
         newest = is.newest;
         newer = omega (arith, number, newer);
-        number = did.fits;
-        short = did.short;
+        number = was.fits;
+        short = was.short;
         issued = is.issued;
-        applies = subst (λ (application : Application). apply_at client.state applied.number taken.client.message ≡ Ok application) (application_is client.state client.gathering.taken taken applied was) was.does;
+        applies = subst (λ (application : Application). apply_at client.state applied.number taken.client.message ≡ Ok application) (application_is client taken applied was) was.does;
       };
     }
 
@@ -328,9 +329,9 @@ notes_nothing client taken took.Partial none = refl
 notes_nothing client taken (took.Illegible cause) none = refl
 
 did_notes : Laws → (profile : Profile) (client : ClientState) (datagram : List ℕ) → IsSound profile client
-    → ((applied : Applied) × WasNewest client (take_at client datagram) applied) ⊎ WasLeft client (take_at client datagram) → Notes client (take_at client datagram)
+    → ((applied : Applied) × ((take_at client datagram).answer ≡ took.Applied applied)) ⊎ WasLeft client (take_at client datagram) → Notes client (take_at client datagram)
 did_notes laws profile client datagram is (inl did) =
-    inl (noted_with client (take_at client datagram) did.0, applied_notes laws profile client (take_at client datagram) did.0 did.1 (laws.takes.applies client datagram did.0 did.1.answer) is)
+    inl (noted_with client (take_at client datagram) did.0, applied_notes laws profile client (take_at client datagram) did.0 did.1 (laws.takes.applies client datagram did.0 did.1) is)
 did_notes laws profile client datagram is (inr did) = inr (record { notes = notes_nothing client (take_at client datagram) (take_at client datagram).answer did.none; same = did.state })
 
 pub taken_notes : ReadIsSpelled → ApplyStays → AppliedIsContext → TakesMessages → (profile : Profile) (client : ClientState) (bytes : List ℕ)

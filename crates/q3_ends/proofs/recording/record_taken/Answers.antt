@@ -14,4 +14,4 @@ note-requires-clause-applied g c =
     let taken = take_at c.args.client.now c.args.bytes.now in
     let was = c.takes_messages.ensures.applies c.args.client.now c.args.bytes.now c.in-Applied.applied (sym c.take-took.ensures.answer ∙ c.in-Applied.is) in
     rw (c.state-2.ensures, c.message.ensures.message, c.take-took.ensures.client)
-    (may_note c.applied_may_be_noted.ensures c.prepare.new.recorder.stage c.args.client.now.state _ taken c.in-Applied.applied (subst IsApplied c.state.ensures c.stands.ensures) was)
+    (may_note c.applied_may_be_noted.ensures c.prepare.new.recorder.stage c.args.client.now taken c.in-Applied.applied (subst IsApplied c.state.ensures c.stands.ensures) was)
