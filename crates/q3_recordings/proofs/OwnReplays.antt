@@ -29,7 +29,7 @@ use Rattle.q3_world.specs.StandsFor.{IsChecked}
 use Rattle.q3_schedules.specs.Recorded.{applied_until, bytes_for, is_stop, noted_at, noted_of}
 use Rattle.q3_schedules.specs.Schedules.{AppliedWasServed, IsScheduled, NothingPends, SaysNoChange, StringsTellId}
 use Rattle.q3_recordings.specs.Plays.{recorded_with, recorded_from, BeginsTold, BeginsWhole}
-use Rattle.q3_recordings.specs.Replays.{ReplayIsNoted, ReplayPlays, OwnReplayPlays, OwnReplayBeginsWhole, kept_recording, noted_after}
+use Rattle.q3_recordings.specs.Replays.{ReplayIsNoted, ReplayPlays, OwnReplayTells, OwnReplayPlays, OwnReplayBeginsWhole, kept_recording, noted_after}
 use Rattle.q3_recordings.proofs.PlaysAs.{has_read}
 use Rattle.q3_recordings.proofs.Recorded.{recorded_none}
 use Rattle.q3_recordings.proofs.Sound.{IsSound, taken_notes}
@@ -171,17 +171,17 @@ begins_told (noted ∷ others) tell = first_told (note_of Waits noted).stage not
 within : (c : ℕ) (name : List ℕ) → IsScheduled (events.RecordTo c name) → c < places
 within c name is = let most = is.0.0 in omega (arith, most)
 
-own_plays : (slots : SlotsAreKept) → StringsTellId → AppliedWasServed → Laws → ReplayIsNoted → ReplayPlays → OwnReplayPlays
-own_plays slots law served laws noted plays profile first rest c name checked are answer few =
-    let messages = noted_after profile first c name rest in
+pub own_replay_tells : (slots : SlotsAreKept) → StringsTellId → Laws → OwnReplayTells
+own_replay_tells slots law laws profile first rest c name checked are answer =
     let lt = within c name (all_next first (events.RecordTo c name) rest are) in
     let tell = after_said slots IsScheduled Tells laws profile checked
     (λ done c client are lt at has. told_by (server_id client.state.strings) client.state.id (law profile done c client checked are lt at has)) first rest c name are lt answer in
-    let count = half_noted served profile first rest c name checked are (noted profile first rest c name checked answer) in
-    plays profile first rest c name checked answer (begins_told messages tell) (inr (omega (arith, count, few))) (omega (arith, count, few))
+    begins_told (noted_after profile first c name rest) tell
 
-pub own_replay_plays : (slots : SlotsAreKept) → StringsTellId → AppliedWasServed → ReplayIsNoted → ReplayPlays → Laws → OwnReplayPlays
-own_replay_plays slots law served noted plays laws = own_plays slots law served laws noted plays
+pub own_replay_plays : OwnReplayTells → AppliedWasServed → ReplayIsNoted → ReplayPlays → OwnReplayPlays
+own_replay_plays tells served noted plays profile first rest c name checked are answer few =
+    let count = half_noted served profile first rest c name checked are (noted profile first rest c name checked answer) in
+    plays profile first rest c name checked answer (tells profile first rest c name checked are answer) (inr (omega (arith, count, few))) (omega (arith, count, few))
 
 -- ---- it begins within no long string
 

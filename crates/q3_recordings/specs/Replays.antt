@@ -39,8 +39,13 @@ ReplayPlays = (profile : Profile) (first rest : List Event) (c : ℕ) (name : Li
     → IsShort (recording (noted_after profile first c name rest)) (length (noted_after profile first c name rest)) → length (noted_after profile first c name rest) < most_records
     → PlaysTo profile (recording (noted_after profile first c name rest)) (recorded_from Waits (noted_after profile first c name rest))
 
--- and where each end gets only what the other made, of as many events as a script may have, nothing is asked of the config strings, nor of
--- how long the recording is
+-- where each end gets only what the other made, the recording begins with config strings that tell the map's id, however long the replay is
+abbrev pub OwnReplayTells : Type 0
+OwnReplayTells = (profile : Profile) (first rest : List Event) (c : ℕ) (name : List ℕ) → IsChecked profile → AllByRecursion IsScheduled (first ++ events.RecordTo c name ∷ rest)
+    → (kept_step (kept_then profile first) (events.RecordTo c name)).answer ≡ Given (handed.Record c (Ok tt))
+    → BeginsTold (recorded_from Waits (noted_after profile first c name rest))
+
+-- and so of as many events as a script may have, nothing is asked of the config strings, nor of how long the recording is
 abbrev pub OwnReplayPlays : Type 0
 OwnReplayPlays = (profile : Profile) (first rest : List Event) (c : ℕ) (name : List ℕ) → IsChecked profile → AllByRecursion IsScheduled (first ++ events.RecordTo c name ∷ rest)
     → (kept_step (kept_then profile first) (events.RecordTo c name)).answer ≡ Given (handed.Record c (Ok tt))

@@ -3,7 +3,7 @@
 
 ghost use Rattle.q3_recordings.specs.Joins.{JoinIsNoted, JoinPlays};
 ghost use Rattle.q3_recordings.specs.Plays.{RecordingPlays, WholeIsRecorded};
-ghost use Rattle.q3_recordings.specs.Replays.{OwnReplayBeginsWhole, OwnReplayPlays, ReplayIsNoted, ReplayPlays};
+ghost use Rattle.q3_recordings.specs.Replays.{OwnReplayBeginsWhole, OwnReplayTells, OwnReplayPlays, ReplayIsNoted, ReplayPlays};
 
 use q3_bits::laws as bits;
 use q3_client::laws as client;
@@ -72,21 +72,28 @@ pub fn replay_plays()
     client::takes_messages();
 }
 
-/// And where each end gets only what the other made, nothing is asked of the config strings, since once a client has a gamestate they tell
-/// the map's id, nor of how long the recording is: a script has too few events for one that can't be played, since each message takes a line
-/// that makes it and one that hands it over.
-pub fn own_replay_plays()
-    ensures { OwnReplayPlays }
+/// Where each end gets only what the other made, the recording begins with config strings that tell the map's id, however long the replay
+/// is: once a client has a gamestate, its config strings tell it.
+pub fn own_replay_tells()
+    ensures { OwnReplayTells }
 {
     schedules::slots_are_kept();
-    replay_is_noted();
-    replay_plays();
     schedules::strings_tell_id();
-    schedules::applied_was_served();
     svmsg::read_is_spelled();
     clstate::apply_stays();
     clstate::applied_is_context();
     client::takes_messages();
+}
+
+/// So of at most 65,536 events, as many as a script may have, nothing is asked of the config strings, nor of how long the recording is: each
+/// message takes a line that makes it and one that hands it over, and these are too few for a recording that can't be played.
+pub fn own_replay_plays()
+    ensures { OwnReplayPlays }
+{
+    own_replay_tells();
+    replay_is_noted();
+    replay_plays();
+    schedules::applied_was_served();
 }
 
 /// Where, moreover, the game says no text of a config change, it begins within no long string; so the config strings in the end are the

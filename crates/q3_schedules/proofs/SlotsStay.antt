@@ -51,7 +51,7 @@ use Rattle.q3_schedules.specs.Slots.{HaveSlots, SlotsAreKept}
 
 -- ---- lists of slots
 
-put_stays : (slots : List (Option SlotState)) (c : ℕ) (slot : SlotState) (d : ℕ) → is_some (get_or slots d None) ≡ true → is_some (get_or (set slots c (Some slot)) d None) ≡ true
+put_stays : {A : Type 0} (slots : List (Option A)) (c : ℕ) (slot : A) (d : ℕ) → is_some (get_or slots d None) ≡ true → is_some (get_or (set slots c (Some slot)) d None) ≡ true
 put_stays slots c slot d is = elim (cases_eq d c) [
   | inl same ↦ elim (cases_lt c (length slots)) [
     | inl lt ↦ rw (same, get_or-set_same slots c (Some slot) None lt) refl
@@ -162,8 +162,17 @@ joins server c challenge qport address =
 
 -- ---- both ends
 
-by_server : (ends : Ends) (server : ServerState) → SlotsStay ends.server server → HaveSlots ends → HaveSlots (record ends { server = server })
-by_server ends server stays have = λ d is. stays d (have d is)
+-- each client keeps its slot and its place, and each that is at its place has its slot if it was so before
+record Stay (old new : Ends) : Type 0 where
+  pub slots : SlotsStay old.server new.server
+  pub places : (d : ℕ) → is_some (place_at old d) ≡ true → is_some (place_at new d) ≡ true
+  pub have : HaveSlots old → HaveSlots new
+
+all_stay : (ends : Ends) → Stay ends ends
+all_stay ends = record { slots = λ d is. is; places = λ d is. is; have = λ have. have }
+
+by_server : (ends : Ends) (server : ServerState) → SlotsStay ends.server server → Stay ends (record ends { server = server })
+by_server ends server stays = record { slots = stays; places = λ d is. is; have = λ have d is. stays d (have d is) }
 
 -- what stands at a place where a client was
 pub there : (ends : Ends) (c : ℕ) (place now : Place) → place_at ends c ≡ Some place → place_at (with_place ends c now) c ≡ Some now
@@ -176,93 +185,104 @@ there ends c place now at = elim (cases_lt c (length ends.clients)) [
     nobody None none some = absurd cc
     nobody (Some other) none some = absurd cc
 
-puts : (ends : Ends) (c : ℕ) (place now : Place) → place_at ends c ≡ Some place → HaveSlots ends → HaveSlots (with_place ends c now)
-puts ends c place now at have = λ d is. elim (cases_eq d c) [
-  | inl same ↦ have d (rw (same, at) refl)
-  | inr not ↦ have d (subst (λ (found : Option Place). is_some found ≡ true) (get_or-set_other ends.clients c d (Some now) None not) is)
-]
+puts : (ends : Ends) (c : ℕ) (place now : Place) → place_at ends c ≡ Some place → Stay ends (with_place ends c now)
+puts ends c place now at = record {
+  slots = λ d is. is;
+  places = put_stays ends.clients c now;
+  have = λ have d is. elim (cases_eq d c) [
+    | inl same ↦ have d (rw (same, at) refl)
+    | inr not ↦ have d (subst (λ (found : Option Place). is_some found ≡ true) (get_or-set_other ends.clients c d (Some now) None not) is)
+  ];
+}
 
-port_puts : (ends : Ends) (c port : ℕ) (found : Option Place) → place_at ends c ≡ found → HaveSlots ends → HaveSlots (set_port_of ends c port found).ends
-port_puts ends c port None at have = have
-port_puts ends c port (Some place) at have = puts ends c place (record place { address = record place.address { port = port } }) at have
+port_puts : (ends : Ends) (c port : ℕ) (found : Option Place) → place_at ends c ≡ found → Stay ends (set_port_of ends c port found).ends
+port_puts ends c port None at = all_stay ends
+port_puts ends c port (Some place) at = puts ends c place (record place { address = record place.address { port = port } }) at
 
-line_puts : (ends : Ends) (c : ℕ) (event : Event) (found : Option Place) → place_at ends c ≡ found → HaveSlots ends → HaveSlots (client_step_of ends c event found).ends
-line_puts ends c event None at have = have
-line_puts ends c event (Some place) at have =
+line_puts : (ends : Ends) (c : ℕ) (event : Event) (found : Option Place) → place_at ends c ≡ found → Stay ends (client_step_of ends c event found).ends
+line_puts ends c event None at = all_stay ends
+line_puts ends c event (Some place) at =
     let line = client_line place.client place.recording event in
-    puts ends c place (record place { client = client_after place.client line; recording = recording_after place.recording line }) at have
+    puts ends c place (record place { client = client_after place.client line; recording = recording_after place.recording line }) at
 
-send_puts : (kept : Kept) (c : ℕ) (found : Option Place) → place_at kept.ends c ≡ found → HaveSlots kept.ends → HaveSlots (kept_send kept c found).kept.ends
-send_puts kept c None at have = have
-send_puts kept c (Some place) at have = puts kept.ends c place (record place { client = (speaks.emit_at (asking place.client place.recording)).client }) at have
+send_puts : (kept : Kept) (c : ℕ) (found : Option Place) → place_at kept.ends c ≡ found → Stay kept.ends (kept_send kept c found).kept.ends
+send_puts kept c None at = all_stay kept.ends
+send_puts kept c (Some place) at = puts kept.ends c place (record place { client = (speaks.emit_at (asking place.client place.recording)).client }) at
 
-take_puts : (ends : Ends) (c : ℕ) (front : Front) (bytes : List ℕ) (found : Option Place) → place_at ends c ≡ found → HaveSlots ends → HaveSlots (client_takes ends c front bytes found).ends
-take_puts ends c front bytes None at have = have
-take_puts ends c front bytes (Some place) at have =
+take_puts : (ends : Ends) (c : ℕ) (front : Front) (bytes : List ℕ) (found : Option Place) → place_at ends c ≡ found → Stay ends (client_takes ends c front bytes found).ends
+take_puts ends c front bytes None at = all_stay ends
+take_puts ends c front bytes (Some place) at =
     let taken = take_at place.client bytes in
-    puts ends c place (record place { client = taken.client; recording = (note_taken place.recording place.client taken).recording }) at have
+    puts ends c place (record place { client = taken.client; recording = (note_taken place.recording place.client taken).recording }) at
 
-arrive_puts : (ends : Ends) (number : ℕ) (sent : SentBytes) (direction : Direction) → HaveSlots ends → HaveSlots (arrive_at ends number sent direction).ends
-arrive_puts ends number sent ToClient have = take_puts ends sent.client (fronts.Deliver number) sent.bytes (place_at ends sent.client) refl have
-arrive_puts ends number sent (ToServer from) have = by_server ends (hears.take_at ends.server from sent.bytes).server (take_stays ends.server from sent.bytes) have
+arrive_puts : (ends : Ends) (number : ℕ) (sent : SentBytes) (direction : Direction) → Stay ends (arrive_at ends number sent direction).ends
+arrive_puts ends number sent ToClient = take_puts ends sent.client (fronts.Deliver number) sent.bytes (place_at ends sent.client) refl
+arrive_puts ends number sent (ToServer from) = by_server ends (hears.take_at ends.server from sent.bytes).server (take_stays ends.server from sent.bytes)
 
-deliver_puts : (ends : Ends) (number : ℕ) (found : Option SentBytes) → HaveSlots ends → HaveSlots (deliver_at ends number found).ends
-deliver_puts ends number None have = have
-deliver_puts ends number (Some sent) have = arrive_puts ends number sent sent.direction have
+deliver_puts : (ends : Ends) (number : ℕ) (found : Option SentBytes) → Stay ends (deliver_at ends number found).ends
+deliver_puts ends number None = all_stay ends
+deliver_puts ends number (Some sent) = arrive_puts ends number sent sent.direction
 
-handed_puts : (ends : Ends) (c : ℕ) (bytes : List ℕ) (found : Option Place) → HaveSlots ends → HaveSlots (hand_server_of ends c bytes found).ends
-handed_puts ends c bytes None have = have
-handed_puts ends c bytes (Some place) have = by_server ends (hears.take_at ends.server place.address bytes).server (take_stays ends.server place.address bytes) have
+handed_puts : (ends : Ends) (c : ℕ) (bytes : List ℕ) (found : Option Place) → Stay ends (hand_server_of ends c bytes found).ends
+handed_puts ends c bytes None = all_stay ends
+handed_puts ends c bytes (Some place) = by_server ends (hears.take_at ends.server place.address bytes).server (take_stays ends.server place.address bytes)
 
 join_puts : (ends : Ends) (server : ServerState) (c : ℕ) (place : Place) (answer : Result (Unit {0}) SlotError) → SlotsStay ends.server server
-    → (answer ≡ Ok tt → is_some (slot_at server c) ≡ true) → HaveSlots ends → HaveSlots (joined (record ends { server = server }) c place answer).ends
-join_puts ends server c place (Ok x) stays taken have = λ d is. elim (cases_eq d c) [
-  | inl same ↦ rw same (taken refl)
-  | inr not ↦ stays d (have d (subst (λ (found : Option Place). is_some found ≡ true) (get_or-set_other ends.clients c d (Some place) None not) is))
-]
-join_puts ends server c place (Err e) stays taken have = by_server ends server stays have
+    → (answer ≡ Ok tt → is_some (slot_at server c) ≡ true) → Stay ends (joined (record ends { server = server }) c place answer).ends
+join_puts ends server c place (Ok x) stays taken = record {
+  slots = stays;
+  places = put_stays ends.clients c place;
+  have = λ have d is. elim (cases_eq d c) [
+    | inl same ↦ rw same (taken refl)
+    | inr not ↦ stays d (have d (subst (λ (found : Option Place). is_some found ≡ true) (get_or-set_other ends.clients c d (Some place) None not) is))
+  ];
+}
+join_puts ends server c place (Err e) stays taken = by_server ends server stays
 
 -- a line about an entity
-line_stays : (ends : Ends) (number : ℕ) (refusal : HandedIn) (step : ServerStep) → HaveSlots (record ends { server = step.server }) → HaveSlots ends
-    → HaveSlots (record ends { server = (in_range ends.server number refusal step).server })
-line_stays ends number refusal step within have =
-    in_range_or (λ (done : ServerStep). HaveSlots (record ends { server = done.server })) ends.server number refusal step (λ lt. within) have
+line_stays : (ends : Ends) (number : ℕ) (refusal : HandedIn) (step : ServerStep) → SlotsStay ends.server step.server
+    → Stay ends (record ends { server = (in_range ends.server number refusal step).server })
+line_stays ends number refusal step within =
+    in_range_or (λ (done : ServerStep). Stay ends (record ends { server = done.server })) ends.server number refusal step (λ lt. by_server ends step.server within) (all_stay ends)
 
 -- ---- every event
 
-pub have_slots : (kept : Kept) (event : Event) → HaveSlots kept.ends → HaveSlots (kept_step kept event).kept.ends
+each_stays : (kept : Kept) (event : Event) → Stay kept.ends (kept_step kept event).kept.ends
 unfolding kept_step line_of server_line
-have_slots kept (events.Client c challenge qport dup address) have =
+each_stays kept (events.Client c challenge qport dup address) =
     let added = add_client_at kept.ends.server c challenge qport address in
     let facts = joins kept.ends.server c challenge qport address in
-    join_puts kept.ends added.server c (record { client = new_client kept.profile challenge qport dup; address = address; recording = None }) added.answer facts.stays facts.taken have
-have_slots kept (events.Port c port) have = port_puts kept.ends c port (place_at kept.ends c) refl have
-have_slots kept (events.Map id feed) have = by_server kept.ends (new_map_at kept.ends.server id feed).server (map_at_stays kept.ends.server id feed) have
-have_slots kept (events.Config index text) have = by_server kept.ends (set_config_at kept.ends.server index text).server (config_stays kept.ends.server index text) have
-have_slots kept (events.Baseline state) have =
-    line_stays kept.ends state.number (handed.Baseline state.number (Err unset.OutOfRange)) (at_server.set_baseline kept.ends.server state) have have
-have_slots kept (events.Entity state) have =
-    line_stays kept.ends state.number (handed.Entity state.number (Err (record {}))) (at_server.set_entity kept.ends.server state) have have
-have_slots kept (events.Remove number) have =
-    line_stays kept.ends number (handed.Remove number (Err (record {}))) (at_server.remove_entity kept.ends.server number) have have
-have_slots kept (events.Player c player) have =
+    join_puts kept.ends added.server c (record { client = new_client kept.profile challenge qport dup; address = address; recording = None }) added.answer facts.stays facts.taken
+each_stays kept (events.Port c port) = port_puts kept.ends c port (place_at kept.ends c) refl
+each_stays kept (events.Map id feed) = by_server kept.ends (new_map_at kept.ends.server id feed).server (map_at_stays kept.ends.server id feed)
+each_stays kept (events.Config index text) = by_server kept.ends (set_config_at kept.ends.server index text).server (config_stays kept.ends.server index text)
+each_stays kept (events.Baseline state) =
+    line_stays kept.ends state.number (handed.Baseline state.number (Err unset.OutOfRange)) (at_server.set_baseline kept.ends.server state) (λ d is. is)
+each_stays kept (events.Entity state) =
+    line_stays kept.ends state.number (handed.Entity state.number (Err (record {}))) (at_server.set_entity kept.ends.server state) (λ d is. is)
+each_stays kept (events.Remove number) =
+    line_stays kept.ends number (handed.Remove number (Err (record {}))) (at_server.remove_entity kept.ends.server number) (λ d is. is)
+each_stays kept (events.Player c player) =
     let change : SlotState → SlotState = λ slot. with_player kept.ends.server.profile slot player in
-    by_server kept.ends (give kept.ends.server c change (slot_at kept.ends.server c)).server (gives kept.ends.server c change (slot_at kept.ends.server c)) have
-have_slots kept (events.Area c area) have =
+    by_server kept.ends (give kept.ends.server c change (slot_at kept.ends.server c)).server (gives kept.ends.server c change (slot_at kept.ends.server c))
+each_stays kept (events.Area c area) =
     let change : SlotState → SlotState = λ slot. with_area slot area.items in
-    by_server kept.ends (give kept.ends.server c change (slot_at kept.ends.server c)).server (gives kept.ends.server c change (slot_at kept.ends.server c)) have
-have_slots kept (events.Say c text) have = by_server kept.ends (say_at kept.ends.server c text).server (says kept.ends.server c text (slot_at kept.ends.server c)) have
-have_slots kept (events.TypeText c text) have = line_puts kept.ends c (events.TypeText c text) (place_at kept.ends c) refl have
-have_slots kept (events.Move c one) have = line_puts kept.ends c (events.Move c one) (place_at kept.ends c) refl have
-have_slots kept (events.Serve c) have = by_server kept.ends (emit_at kept.ends.server c).server (emit_stays kept.ends.server c) have
-have_slots kept (events.Send c) have = send_puts kept c (place_at kept.ends c) refl have
-have_slots kept (events.Deliver number) have = deliver_puts kept.ends number (slice_get kept.datagrams (number - 1)) have
-have_slots kept (events.RecordTo c name) have = line_puts kept.ends c (events.RecordTo c name) (place_at kept.ends c) refl have
-have_slots kept (events.Stop c) have = line_puts kept.ends c (events.Stop c) (place_at kept.ends c) refl have
-have_slots kept (events.Show c) have = line_puts kept.ends c (events.Show c) (place_at kept.ends c) refl have
-have_slots kept (events.Toclient c bytes) have = take_puts kept.ends c (fronts.Toclient c) bytes (place_at kept.ends c) refl have
-have_slots kept (events.Toserver c bytes) have = handed_puts kept.ends c bytes (place_at kept.ends c) have
-have_slots kept event have = have
+    by_server kept.ends (give kept.ends.server c change (slot_at kept.ends.server c)).server (gives kept.ends.server c change (slot_at kept.ends.server c))
+each_stays kept (events.Say c text) = by_server kept.ends (say_at kept.ends.server c text).server (says kept.ends.server c text (slot_at kept.ends.server c))
+each_stays kept (events.TypeText c text) = line_puts kept.ends c (events.TypeText c text) (place_at kept.ends c) refl
+each_stays kept (events.Move c one) = line_puts kept.ends c (events.Move c one) (place_at kept.ends c) refl
+each_stays kept (events.Serve c) = by_server kept.ends (emit_at kept.ends.server c).server (emit_stays kept.ends.server c)
+each_stays kept (events.Send c) = send_puts kept c (place_at kept.ends c) refl
+each_stays kept (events.Deliver number) = deliver_puts kept.ends number (slice_get kept.datagrams (number - 1))
+each_stays kept (events.RecordTo c name) = line_puts kept.ends c (events.RecordTo c name) (place_at kept.ends c) refl
+each_stays kept (events.Stop c) = line_puts kept.ends c (events.Stop c) (place_at kept.ends c) refl
+each_stays kept (events.Show c) = line_puts kept.ends c (events.Show c) (place_at kept.ends c) refl
+each_stays kept (events.Toclient c bytes) = take_puts kept.ends c (fronts.Toclient c) bytes (place_at kept.ends c) refl
+each_stays kept (events.Toserver c bytes) = handed_puts kept.ends c bytes (place_at kept.ends c)
+each_stays kept event = all_stay kept.ends
+
+pub have_slots : (kept : Kept) (event : Event) → HaveSlots kept.ends → HaveSlots (kept_step kept event).kept.ends
+have_slots kept event = (each_stays kept event).have
 
 -- in the beginning nobody is anywhere
 pub nobody_yet : (profile : Profile) (c : ℕ) → place_at (new_ends profile) c ≡ None
@@ -278,5 +298,7 @@ pub slots_are_kept : SlotsAreKept
 slots_are_kept = record {
   opening = nobody_yet;
   free = λ server c challenge qport address. (joins server c challenge qport address).free;
+  slots = λ kept event. (each_stays kept event).slots;
+  places = λ kept event. (each_stays kept event).places;
   step = have_slots;
 }
