@@ -23,10 +23,10 @@ section_numbered state number (told.Skipped base) =
     cond_both (is_stale state.held number) (passes state number Stale) (passes state number (Skipped base (skipped_for (held_snapshot state.held base))))
     (λ (applied : Application). applied.answer.number ≡ number) (λ e. refl) (λ e. refl)
 
-abbrev applied_as : Application → Result Application Illegible
+abbrev pub applied_as : Application → Result Application Illegible
 applied_as application = Ok application
 
-are_same : (one other : Application) → applied_as one ≡ applied_as other → one ≡ other
+pub are_same : (one other : Application) → applied_as one ≡ applied_as other → one ≡ other
 are_same one other e = cc
 
 pub numbered : (state : AppliedState) (number : ℕ) (bytes : List ℕ) (application : Application) → apply_at state number bytes ≡ Ok application → application.answer.number ≡ number

@@ -40,7 +40,7 @@ use Rattle.q3_client.specs.declared.client.Sent.TheVariants as sent
 use Rattle.q3_client.specs.Sending.{Said, Emission, next_message, next_said, said_bits, is_unclear, nothing, hand_out, emit_bits, emit_new, emit_left, emit_unless, emit_at}
 use Rattle.q3_client.specs.Standing.{IsClient}
 use Rattle.q3_client.proofs.Received.{was_received}
-use Rattle.q3_client.proofs.Applies.{applied_as, are_same}
+use Rattle.q3_client.proofs.Numbered.{applied_as, are_same}
 use Rattle.q3_client.proofs.Begins.{no_moves, moves_pushed, moves_wiped}
 
 -- ---- what was gathered
