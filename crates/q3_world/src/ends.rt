@@ -25,6 +25,7 @@ use q3_io::{Address, Failed, Files, Sink};
 use q3_profile::Profile;
 use q3_report::{Answer, Front, HandedIn, TakeRefused};
 use q3_script::Event;
+use q3_script::laws::events_are_in_range;
 use q3_server::{Heard, MOST_SLOTS, NoClient, Server};
 use std::alloc::Global;
 use std::marker::Model;
@@ -183,7 +184,6 @@ impl Ends {
     }
 
     /// A line of the game, at the server.
-    #[tactic(auto, using(q3_script::proofs::InRange::replay_in_range))]
     fn game_line<O: Sink>(
         &mut self,
         event: &Event,
@@ -197,6 +197,7 @@ impl Ends {
             (O.faults out.new)
             (game_step self.old (at_server_spec.server_line self.old.server event.now)).answer result }
     {
+        events_are_in_range();
         let handed = server_line(&mut self.server, event).unwrap();
         tell(&Answer::HandedIn(handed), counts, out)
     }
