@@ -279,7 +279,7 @@ each_stays kept (events.Stop c) = line_puts kept.ends c (events.Stop c) (place_a
 each_stays kept (events.Show c) = line_puts kept.ends c (events.Show c) (place_at kept.ends c) refl
 each_stays kept (events.Toclient c bytes) = take_puts kept.ends c (fronts.Toclient c) bytes (place_at kept.ends c) refl
 each_stays kept (events.Toserver c bytes) = handed_puts kept.ends c bytes (place_at kept.ends c)
-each_stays kept event = all_stay kept.ends
+each_stays kept event = record { slots = λ d is. is; places = λ d is. is; have = λ have. have }
 
 pub have_slots : (kept : Kept) (event : Event) → HaveSlots kept.ends → HaveSlots (kept_step kept event).kept.ends
 have_slots kept event = (each_stays kept event).have
