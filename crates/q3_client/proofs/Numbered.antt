@@ -1,5 +1,5 @@
 -- What bytes do has their message's number.
-use Rattle.std.proofs.Common.{◌≡◌, ℕ, ◌^◌, ◌<◌, List, Option, Some, None, Result, Ok, Err, refl, sym, ap, subst, ◌∙◌, arith}
+use Rattle.std.proofs.Common.{◌≡◌, ℕ, List, Result, Ok, refl, subst}
 use Rattle.std.proofs.lemmas.Bool.{cond_both}
 use Rattle.q3_bits.specs.Bits.{bits_of}
 use Rattle.q3_bits.proofs.Binds.{bind_ok}

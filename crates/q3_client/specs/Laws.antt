@@ -4,7 +4,7 @@ use Rattle.q3_text.specs.Texts.{IsText}
 use Rattle.q3_window.specs.Outgoing.{IsOutgoing, issued_of}
 use Rattle.q3_chan.specs.Datagrams.{longest_message}
 use Rattle.q3_clstate.specs.declared.applied.Applied.{Applied}
-use Rattle.q3_clstate.specs.State.{AppliedState, Application, apply_at}
+use Rattle.q3_clstate.specs.State.{Application, apply_at}
 use Rattle.q3_clstate.specs.Standing.{IsApplied}
 use Rattle.q3_profile.specs.declared.profile.Profile.{Profile}
 use Rattle.q3_profile.specs.Profile.{IsCodec}

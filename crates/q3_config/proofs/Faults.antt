@@ -9,8 +9,8 @@ use Rattle.std.proofs.lemmas.List.Elements.{All-set, All-nil, All-cons, All-weak
 use Rattle.q3_text.specs.Texts.{translated}
 use Rattle.q3_config.specs.declared.error.ConfigError.{ConfigError}
 use Rattle.q3_config.specs.declared.error.ConfigError.TheVariants.{Index, Long, Full}
-use Rattle.q3_config.specs.Laws.{Fits, Admitted}
-use Rattle.q3_config.specs.Strings.{Strings, AreStrings, places, longest_string, most_size, config_size, with_string, is_config_byte, chars_fault, fits, room_fault, set_fault, admit_fault, refused, after_set}
+use Rattle.q3_config.specs.Laws.{HasRoom, Admitted}
+use Rattle.q3_config.specs.Strings.{Strings, AreStrings, places, longest_string, with_string, is_config_byte, chars_fault, fits, room_fault, set_fault, admit_fault, refused, after_set}
 
 abbrev pub no_fault : Option ConfigError
 no_fault = None
@@ -39,8 +39,8 @@ pub admit_fault-carried : (strings : Strings) (index : ℕ) (text : List ℕ) �
 unfolding admit_fault
 admit_fault-carried strings index text lt none = rw (lt-ltb index places lt, none) refl
 
--- a text that is neither too long nor too large with the others
-pub fits_room : (strings : Strings) (index : ℕ) (text : List ℕ) → room_fault strings index text ≡ None → Fits strings index text
+-- where nothing is wrong with the room, a text has it
+pub fits_room : (strings : Strings) (index : ℕ) (text : List ℕ) → room_fault strings index text ≡ None → HasRoom strings index text
 fits_room strings index text none =
     elim (cases_Bool (ltb longest_string (length text))) [
       | inl long ↦ let e : some_fault Long ≡ no_fault = rw long at none in absurd cc
@@ -53,7 +53,7 @@ fits_room strings index text none =
 -- a text that may be set
 pub record Settable (strings : Strings) (index : ℕ) (text : List ℕ) : Type 0 where
   pub within : index < places
-  pub fits : Fits strings index text
+  pub fits : HasRoom strings index text
 
 pub settable : (strings : Strings) (index : ℕ) (text : List ℕ) → set_fault strings index text ≡ None → Settable strings index text
 settable strings index text none =
@@ -79,7 +79,7 @@ pub on_ok : (result : Result (Unit {0}) ConfigError) (P : Type 0) → P → OnOk
 on_ok (Ok x) P p = p
 on_ok (Err fault) P p = tt
 
--- a text that may go out as commands
+-- nor with its bytes, by the first that may not be carried
 admitted-chars : (strings : Strings) (index : ℕ) (text : List ℕ) (byte : Option ℕ) → index < places → find (λ byte. not (is_config_byte byte)) text ≡ byte → chars_fault strings index text byte ≡ None → Admitted strings index text
 admitted-chars strings index text None within found none = record {
   within = within;
@@ -101,7 +101,7 @@ none_refused None e = refl
 none_refused (Some fault) e = absurd cc
 
 -- strings with another are strings
-pub with_string-stays : (strings : Strings) (index : ℕ) (text : List ℕ) → AreStrings strings → Fits strings index text → AreStrings (with_string strings index text)
+pub with_string-stays : (strings : Strings) (index : ℕ) (text : List ℕ) → AreStrings strings → HasRoom strings index text → AreStrings (with_string strings index text)
 with_string-stays strings index text are fit = record {
   count = length-set strings.texts index (map translated text) ∙ are.count;
   size = fit.room;

@@ -14,7 +14,7 @@ use Rattle.q3_config.specs.declared.error.ConfigError.{ConfigError}
 use Rattle.q3_config.specs.Strings.{Strings, AreStrings, places, longest_string, most_size, config_size, is_config_byte, string_at, with_string, fits, set_fault, admit_fault}
 use Rattle.q3_config.specs.Commands.{Word, Whole, First, Middle, Last, Change, piece_count, word_of, change_text, config_piece}
 use Rattle.q3_config.specs.Changes.{Applied, without_pending, with_pending, change_or, make_change, go_on, finish, after_change, after_shape, after_command, after_commands}
-use Rattle.q3_config.specs.Laws.{IsChange, piece_texts, Fits, Admitted}
+use Rattle.q3_config.specs.Laws.{IsChange, piece_texts, HasRoom, Admitted}
 use Rattle.q3_config.proofs.Faults.{set_fault-within, admitted}
 use Rattle.q3_config.proofs.Texts.{part, carried-part}
 use Rattle.q3_config.proofs.ReadTexts.{spelled-is-read}
@@ -49,7 +49,7 @@ change-none strings index text None is = refl
 change-none strings index text (Some fault) is = absurd cc
 
 -- the text of a change is one that is kept already
-pub made : (strings : Strings) (index : ℕ) (text kept : List ℕ) → kept ≡ map translated text → index < places → Fits strings index text → (make_change strings index kept).strings ≡ with_string strings index text
+pub made : (strings : Strings) (index : ℕ) (text kept : List ℕ) → kept ≡ map translated text → index < places → HasRoom strings index text → (make_change strings index kept).strings ≡ with_string strings index text
 made strings index text kept is within fit =
     let again : map translated kept ≡ map translated text = ap (λ (bytes : List ℕ). map translated bytes) is ∙ kept-again text in
     let same_string : with_string strings index kept ≡ with_string strings index text = ap (λ (bytes : List ℕ). record strings { texts = set strings.texts index bytes }) again in

@@ -168,7 +168,7 @@ parts_of laws text change e =
     let second = bind_some (cut_at 32 first.0.1) (λ second. with_index word.0 second) change word.2 in
     let index = bind_some (number_at 0 1023 second.0.0) (λ index. with_body word.0 index second.0.1) change second.2 in
     let body = bind_some (quoted_in second.0.1) (λ body. Some (record { word = word.0; index = index.0; text = body })) change index.2 in
-    let number = laws.numbers.written 0 1023 second.0.0 index.0 (omega arith) index.1 in
+    let number = laws.numbers.spelled 0 1023 second.0.0 index.0 (omega arith) index.1 in
     let quoted = quoted-spelled laws second.0.1 body.0 body.1 in
     let read : Change = record { word = word.0; index = index.0; text = body.0 } in
     let same : read ≡ change = same_Some read change body.2 in

@@ -1,15 +1,14 @@
 -- A change of a config string is the text of a command.
 use Rattle.std.proofs.Common.{◌≡◌, ℕ, ◌+◌, ◌*◌, ◌/◌, ◌^◌, ◌<◌, ◌≤◌, true, false, cond, eqb, ltb, leb, List, [], ◌∷◌, ◌++◌, length, take, drop, map, Ok, inl, inr, refl, sym, ap, ◌∙◌, arith, append_assoc, length-append, length-take}
-use Rattle.std.specs.Prelude.{not, codes, IsTrue}
+use Rattle.std.specs.Prelude.{codes, IsTrue}
 use Rattle.std.specs.Fmt.{decimal}
 use Rattle.std.specs.List.{All, concat}
-use Rattle.std.proofs.lemmas.Bool.{cases_Bool, ltb-true, le-ltb, ne_eqb, not-true, false≢true, leb-true, and_parts}
+use Rattle.std.proofs.lemmas.Bool.{cases_Bool, ltb-true, le-ltb, ne_eqb, false≢true, leb-true, and_parts}
 use Rattle.std.proofs.lemmas.Fmt.{length-decimal-le}
 use Rattle.std.proofs.lemmas.List.{map-append, append-nil}
 use Rattle.std.proofs.lemmas.List.Folds.{list_all-append, map_fixed}
 use Rattle.std.proofs.lemmas.List.Elements.{All-head, All-tail, All-take, All-drop, All-weaker}
 use Rattle.std.proofs.lemmas.List.Sums.{AllPass-from_list_all}
-use Rattle.std.proofs.lemmas.Fmt.{digits_decimal}
 use Rattle.q3_text.specs.Texts.{translated, text_of}
 use Rattle.q3_text.specs.Decimals.{is_digit}
 use Rattle.q3_text.specs.Cuts.{lacks}

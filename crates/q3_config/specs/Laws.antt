@@ -23,7 +23,7 @@ ReadIsSpelled = (change : Change) (text : List ℕ) → change_in text ≡ Some 
     → IsChange change × ((text ≡ change_text change) ⊎ (text ++ codes "\n" ≡ change_text change))
 
 -- a text that is neither too long nor too large with the others
-pub record Fits (strings : Strings) (index : ℕ) (text : List ℕ) : Type 0 where
+pub record HasRoom (strings : Strings) (index : ℕ) (text : List ℕ) : Type 0 where
   pub short : length text ≤ longest_string
   pub room : config_size (with_string strings index text).texts ≤ most_size
 
@@ -31,7 +31,7 @@ pub record Fits (strings : Strings) (index : ℕ) (text : List ℕ) : Type 0 whe
 pub record Admitted (strings : Strings) (index : ℕ) (text : List ℕ) : Type 0 where
   pub within : index < places
   pub carried : All (λ byte. IsTrue (is_config_byte byte)) text
-  pub fits : Fits strings index text
+  pub fits : HasRoom strings index text
 
 -- where nothing is wrong with a text, it is one
 abbrev pub AdmittedMayGo : Type 0

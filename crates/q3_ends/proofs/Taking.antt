@@ -1,5 +1,5 @@
 -- What a recording has of what its client took.
-use Rattle.std.proofs.Common.{◌≡◌, ◌<◌, ◌^◌, [], false, refl, subst, arith}
+use Rattle.std.proofs.Common.{◌≡◌, [], false, refl, subst, arith}
 use Rattle.q3_clstate.specs.declared.applied.Applied.{Applied as AppliedSo}
 use Rattle.q3_clstate.specs.State.{AppliedState}
 use Rattle.q3_clstate.specs.Standing.{IsApplied}

@@ -13,6 +13,7 @@ use q3_entity::EntityState;
 use q3_player::PlayerState;
 use q3_script::Event;
 use q3_text::Text;
+use q3_text::laws::text_laws;
 use q3_words::{Bytes, KeptEntity, KeptPlayer, KeptText};
 use rand_core::utils::NextWord;
 use rand_pcg::Lcg64Xsh32;
@@ -70,7 +71,7 @@ fn text_with(word: &[u8], number: u32) -> Text
     requires letters { All IsTextByte word.now }
     ensures { result ≡ word.now ++ decimal number }
 {
-    q3_text::laws::text_laws();
+    text_laws();
     Text::of(&numbered(word, number)).unwrap_or_default()
 }
 

@@ -160,11 +160,3 @@ reads_baselines adds bare table cursor baselines rest is few fit e =
     let number = numbered 2 0 (end_mark table) cursor count.0.0 count.0.1 fit count.1 in
     let were = reads_entities table count.0.0 0 count.0.1 entities.0.0 entities.0.1 is number.took.fit entities.1 in
     carried (ReadsLines table cursor) (baselines_of entities.0.0) baselines entities.0.1 rest entities.2 (counted_lines adds bare table count.0.0 cursor count.0.1 entities.0.1 entities.0.0 few number.took were)
-
--- their parts
-pub lines_were : (adds : BaselineIsAdded) (bare : NoneAreBaselines) (table : Layout) (cursor : Cursor) (baselines : Baselines) (rest : Cursor) → IsTable table → end_mark table ≤ most_baselines → All (λ byte. byte < 256) cursor.bytes
-    → baselines_at table cursor ≡ Ok (baselines, rest)
-    → AreBaselines table baselines × (cursor.bytes ≡ baselines_bytes table baselines ++ rest.bytes) × (rest.at ≡ cursor.at + length (baselines_bytes table baselines)) × All (λ byte. byte < 256) rest.bytes
-lines_were adds bare table cursor baselines rest is few fit e =
-    let were = reads_baselines adds bare table cursor baselines rest is few fit e in
-    (were.are, were.took.stood, were.took.place, were.took.fit)

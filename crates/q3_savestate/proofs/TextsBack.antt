@@ -271,14 +271,6 @@ reads_strings sizes cursor texts rest fit e =
     counted_strings count.0.0 cursor count.0.1 rest texts number.took
     (after_were count.0.0 0 places [] (replicate places []) count.0.1 texts rest refl refl refl (omega (arith, sizes.empty places)) number.took.fit count.2)
 
--- their parts
-pub strings_were : (sizes : SizesAddUp) (cursor : Cursor) (texts : List (List ℕ)) (rest : Cursor) → All (λ byte. byte < 256) cursor.bytes → strings_at cursor ≡ Ok (texts, rest)
-    → (length texts ≡ places) × (config_size texts ≤ most_size) × All (λ text. length text ≤ longest_string) texts × All (All IsTextByte) texts
-    × (cursor.bytes ≡ strings_bytes texts ++ rest.bytes) × (rest.at ≡ cursor.at + length (strings_bytes texts)) × All (λ byte. byte < 256) rest.bytes
-strings_were sizes cursor texts rest fit e =
-    let were = reads_strings sizes cursor texts rest fit e in
-    (were.long, were.fits, were.short, were.each, were.took.stood, were.took.place, were.took.fit)
-
 -- ---- the text that is pending
 
 -- a text that may be pending

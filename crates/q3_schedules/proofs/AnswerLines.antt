@@ -30,7 +30,8 @@ use Rattle.q3_words.specs.Words.{words_of}
 use Rattle.q3_counts.specs.declared.counts.Counts.{Counts}
 use Rattle.q3_counts.specs.Counts.{no_counts, one_event, made_served, made_sent, lines_in}
 use Rattle.q3_schedules.specs.ReportLines.{is_under, has_datagram, taken_by, names_datagram}
-use Rattle.q3_schedules.proofs.PlainTexts.{lacks, lacks_both, lacks-decimal, number, hexed, indexed}
+use Rattle.q3_text.specs.Cuts.{lacks}
+use Rattle.q3_schedules.proofs.PlainTexts.{lacks_both, lacks-decimal, number, hexed, indexed}
 use Rattle.q3_schedules.proofs.SpelledLines.{Spelled, in_front, newline, last}
 use Rattle.q3_schedules.proofs.PlacedLines.{Kind, count_of, tally, tally-append, tally_first, plus, plus_is, next_word, number_word, other_number, last_word}
 use Rattle.q3_schedules.proofs.LineEnds.{OneLine, after_part, whole, closed, slot_error, no_client, not_later, out_of_range, baseline_refused, config_refused, say_error, type_refused, move_refused, record_refused, stop_refused, handed_in, issued}

@@ -41,7 +41,8 @@ use Rattle.q3_report.specs.declared.answer.RecordRefused.TheVariants as unrecord
 use Rattle.q3_report.specs.declared.answer.StopRefused.{StopRefused}
 use Rattle.q3_report.specs.declared.answer.StopRefused.TheVariants as unstopped
 use Rattle.q3_report.specs.AnswerLines.{handed_in_text, issued_text, out_of_range_text, baseline_refused_text, type_refused_text, move_refused_text, record_refused_text, stop_refused_text}
-use Rattle.q3_schedules.proofs.PlainTexts.{lacks, lacks_both, number}
+use Rattle.q3_text.specs.Cuts.{lacks}
+use Rattle.q3_schedules.proofs.PlainTexts.{lacks_both, number}
 use Rattle.q3_schedules.proofs.SpelledLines.{Spelled, nothing, in_front, newline, last}
 
 -- the text is one line

@@ -18,7 +18,8 @@ use Rattle.q3_report.specs.AnswerLines.{ended_text}
 use Rattle.q3_counts.specs.declared.counts.Counts.{Counts}
 use Rattle.q3_counts.specs.Counts.{no_counts, accepted_in, skipped_in}
 use Rattle.q3_schedules.specs.ReportLines.{begins, is_under, has_datagram, taken_by}
-use Rattle.q3_schedules.proofs.PlainTexts.{lacks, lacks_both, number, signed, quote}
+use Rattle.q3_text.specs.Cuts.{lacks}
+use Rattle.q3_schedules.proofs.PlainTexts.{lacks_both, number, signed, quote}
 use Rattle.q3_schedules.proofs.SpelledLines.{Spelled, nothing, join, each}
 use Rattle.q3_schedules.proofs.PlacedLines.{Kind, Event, Datagram, AcceptedSnapshot, SkippedSnapshot, ServerCommand, ClientCommand, MoveLine, test_of, count_of, at, tally, tally-append, tally-alike, plus, plus_is}
 use Rattle.q3_schedules.proofs.LineEnds.{after_part, whole, base_cause}

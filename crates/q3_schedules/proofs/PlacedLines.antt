@@ -9,7 +9,8 @@ use Rattle.q3_words.specs.Words.{words_of}
 use Rattle.q3_counts.specs.declared.counts.Counts.{Counts}
 use Rattle.q3_counts.specs.Counts.{no_counts, one_event}
 use Rattle.q3_schedules.specs.ReportLines.{begins, is_under, has_datagram, Placed, placed, is_event, is_datagram, is_accepted, is_skipped, is_server_command, is_client_command, is_move}
-use Rattle.q3_schedules.proofs.PlainTexts.{lacks, without, lacks-decimal}
+use Rattle.q3_text.specs.Cuts.{lacks}
+use Rattle.q3_schedules.proofs.PlainTexts.{without, lacks-decimal}
 
 -- the seven kinds of lines that are counted
 pub data Kind : Type 0 where

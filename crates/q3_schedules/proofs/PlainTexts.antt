@@ -8,10 +8,7 @@ use Rattle.std.proofs.lemmas.List.Elements.{All-nil, All-cons}
 use Rattle.hex.specs.Hex.{lower_digits, encode_with}
 use Rattle.q3_io.specs.Print.{hex_word, word_text, words_text}
 use Rattle.q3_io.specs.Quoted.{byte_spelling, quoted}
-
--- the text has no such byte
-abbrev pub lacks : ℕ → List ℕ → Bool
-lacks byte text = list_all (λ x. not (eqb x byte)) text
+use Rattle.q3_text.specs.Cuts.{lacks}
 
 pub without : (byte : ℕ) (text : List ℕ) → lacks byte text ≡ true → All (λ x. eqb x byte ≡ false) text
 without byte [] e = All-nil (λ x. eqb x byte ≡ false)

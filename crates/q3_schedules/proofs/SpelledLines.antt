@@ -7,7 +7,8 @@ use Rattle.std.proofs.lemmas.List.Sums.{sum_by-cons, sum_by-append}
 use Rattle.std.proofs.lemmas.List.Concat.{flat_map-append}
 use Rattle.std.proofs.lemmas.List.Splits.{slice_split_at}
 use Rattle.q3_schedules.specs.ReportLines.{text_lines}
-use Rattle.q3_schedules.proofs.PlainTexts.{lacks, without}
+use Rattle.q3_text.specs.Cuts.{lacks}
+use Rattle.q3_schedules.proofs.PlainTexts.{without}
 
 abbrev pub ended : List ℕ → List ℕ
 ended line = line ++ 10 ∷ []

@@ -25,7 +25,8 @@ use Rattle.q3_words.specs.Words.{words_of}
 use Rattle.q3_counts.specs.declared.counts.Counts.{Counts}
 use Rattle.q3_counts.specs.Counts.{no_counts, one_event, accepted_in, skipped_in, lines_of_client, lines_of_server, lines_of_taking}
 use Rattle.q3_schedules.specs.ReportLines.{is_under, taken_by}
-use Rattle.q3_schedules.proofs.PlainTexts.{lacks, number}
+use Rattle.q3_text.specs.Cuts.{lacks}
+use Rattle.q3_schedules.proofs.PlainTexts.{number}
 use Rattle.q3_schedules.proofs.SpelledLines.{Spelled, in_front, newline, join, last}
 use Rattle.q3_schedules.proofs.PlacedLines.{Kind, count_of, tally, plus, plus_is, plus_none, applied_counts, ran_counts}
 use Rattle.q3_schedules.proofs.LineEnds.{OneLine, after_part, whole, closed, client_cause, server_cause}

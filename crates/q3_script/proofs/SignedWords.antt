@@ -38,12 +38,12 @@ value_of word None = option_map pos (number_at 0 127 word)
 value_is : (laws : WordLaws) (word : List ℕ) (o : Option (List ℕ)) (value : ℤ) → after_prefix (codes "-") word ≡ o → value_of word o ≡ Some value → SpellsSignedByte word value
 value_is laws word (Some digits) value front e =
     let n = map_some (λ (size : ℕ). neg_ℤ (pos size)) (number_at 1 128 digits) value e in
-    let is = laws.below.numbers.written 1 128 digits n.0 (omega arith) n.1 in
+    let is = laws.below.numbers.spelled 1 128 digits n.0 (omega arith) n.1 in
     let text : word ≡ codes "-" ++ decimal n.0 = laws.prefixes.spelled (codes "-") word digits front ∙ ap (λ (x : List ℕ). codes "-" ++ x) is.2 in
     subst (λ (x : ℤ). SpellsSignedByte word x) n.2 (subst (λ (w : List ℕ). SpellsSignedByte w (neg_ℤ (pos n.0))) (sym text) (below_zero n.0 is.0 is.1))
 value_is laws word None value front e =
     let n = map_some pos (number_at 0 127 word) value e in
-    let is = laws.below.numbers.written 0 127 word n.0 (omega arith) n.1 in
+    let is = laws.below.numbers.spelled 0 127 word n.0 (omega arith) n.1 in
     subst (λ (x : ℤ). SpellsSignedByte word x) n.2 (record { fits = (omega (arith, ints), omega (arith, ints)); whole = is.2 })
 
 -- a value in those steps

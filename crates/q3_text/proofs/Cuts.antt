@@ -1,7 +1,7 @@
 -- Texts that are cut at a byte: what is read was spelled so, and what is spelled so is read.
 use Rattle.std.proofs.Common.{◌≡◌, ◌≢◌, ℕ, suc, ◌<◌, ◌+◌, Bool, true, false, ltb, eqb, List, [], ◌∷◌, ◌++◌, length, get_or, take, drop, Option, Some, None, inl, inr, refl, ap, subst, ◌∙◌, arith, one-add, add-one}
 use Rattle.std.specs.Prelude.{not}
-use Rattle.std.specs.List.{All, list_all, position_or_len}
+use Rattle.std.specs.List.{All, position_or_len}
 use Rattle.std.proofs.Math.Seq.{take-append_seam}
 use Rattle.std.proofs.lemmas.Bool.{cases_Bool, ltb-true, lt-ltb, eqb-true, eqb-false, eq-eqb, and_parts, not-true}
 use Rattle.std.proofs.lemmas.Option.{same_Some}

@@ -1,6 +1,7 @@
 -- Numbers in decimal: what a loop over the digits finds.
-use Rattle.std.proofs.Common.{◌≡◌, ℕ, ◌+◌, ◌*◌, ◌-◌, ◌<◌, ◌≤◌, Bool, true, false, cond, leb, ltb, List, [], ◌∷◌, length, get_or, take, drop, Some, None, refl, sym, ap, ◌∙◌, arith}
+use Rattle.std.proofs.Common.{◌≡◌, ℕ, ◌+◌, ◌*◌, ◌-◌, ◌<◌, ◌≤◌, Bool, true, false, cond, leb, ltb, List, [], ◌∷◌, length, get_or, take, drop, Option, Some, None, refl, sym, ap, ◌∙◌, arith}
 use Rattle.std.specs.Bool.{then_some}
+use Rattle.std.specs.Option.{option_and_then}
 use Rattle.std.specs.Prelude.{◌&&◌, ◌||◌}
 use Rattle.std.specs.List.{list_all, fold}
 use Rattle.std.proofs.lemmas.Bool.{leb-true, and_parts, lt-ltb, le-leb, lt-leb, le-ltb, and_left, and_right, and_from, or_from, or_left, or_right, cond-false}
@@ -72,3 +73,31 @@ some_at_digits low high value word i lt no_zero end digits is le =
     let decimal : is_decimal word ≡ true = and_from _ _ (and_from _ _ (lt-ltb _ _ lt) all) (decimal_head word lt all no_zero) in
     let upper : leb (value_of word) high ≡ true = le-leb _ _ (omega arith) in
     rw (decimal, upper, same) (some_if (leb low (value_of word)) (value_of word))
+
+-- a number from a lower limit on is one from 0 on that isn't below it
+least_if : (spelled least most : Bool) (value : ℕ)
+    → cond (spelled && least && most) (Some value) None ≡ option_and_then (λ (_ : ℕ). then_some least value) (cond (spelled && true && most) (Some value) None)
+least_if true true true value = refl
+least_if true true false value = refl
+least_if true false true value = refl
+least_if true false false value = refl
+least_if false least most value = refl
+
+from_least : (low high : ℕ) (word : List ℕ) → number_at low high word ≡ option_and_then (λ value. then_some (leb low value) value) (number_at 0 high word)
+unfolding number_at
+from_least low high word =
+    let zero : leb 0 (value_of word) ≡ true = le-leb 0 (value_of word) (omega arith) in
+    rw zero (whole (is_decimal word) (leb (value_of word) high))
+  where
+    whole : (spelled most : Bool) → cond (spelled && leb low (value_of word) && most) (Some (value_of word)) None ≡ option_and_then (λ value. then_some (leb low value) value) (cond (spelled && true && most) (Some (value_of word)) None)
+    whole true true = least_if true (leb low (value_of word)) true (value_of word)
+    whole true false = least_if true (leb low (value_of word)) false (value_of word)
+    whole false most = refl
+
+-- so where there is none from 0 on there is none
+pub none_from : (low high : ℕ) (word : List ℕ) → None ≡ number_at 0 high word → None ≡ number_at low high word
+none_from low high word none = ap (λ (found : Option ℕ). option_and_then (λ value. then_some (leb low value) value) found) none ∙ sym (from_least low high word)
+
+-- and where there is one, it is that if it is at least the lowest
+pub some_from : (low high value : ℕ) (word : List ℕ) → Some value ≡ number_at 0 high word → then_some (leb low value) value ≡ number_at low high word
+some_from low high value word some = ap (λ (found : Option ℕ). option_and_then (λ value. then_some (leb low value) value) found) some ∙ sym (from_least low high word)

@@ -84,4 +84,4 @@ lacks-decimal : (byte n : ℕ) → is_digit byte ≡ false → n < 2 ^ 64 → la
 lacks-decimal byte n other small = lacks-digits byte (decimal n) other (digits_decimal own n small)
 
 pub decimals-are-numbers : DecimalsAreNumbers
-decimals-are-numbers = record { written = number_at-spelled; read = number_at-again; digits = digits_decimal own; others = lacks-decimal }
+decimals-are-numbers = record { spelled = number_at-spelled; read = number_at-again; digits = digits_decimal own; others = lacks-decimal }

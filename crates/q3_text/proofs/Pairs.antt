@@ -7,7 +7,7 @@ abbrev no_value : Option (List ℕ)
 no_value = None
 
 -- the first pair decides, or those after it
-pub value-next : (name value key : List ℕ) (others : List (List ℕ)) → value_in (paired (name ∷ value ∷ others)) key ≡ cond (bytes_eq name key) (Some value) (value_in (paired others) key)
+value-next : (name value key : List ℕ) (others : List (List ℕ)) → value_in (paired (name ∷ value ∷ others)) key ≡ cond (bytes_eq name key) (Some value) (value_in (paired others) key)
 unfolding paired value_in
 value-next name value key others = refl
 

@@ -1,5 +1,5 @@
 -- Laws of texts, of numbers in decimal and of texts that are cut at a byte.
-use Rattle.std.specs.Prelude.{◌≡◌, ◌≢◌, ℕ, ◌^◌, ◌<◌, ◌≤◌, Bool, true, false, List, ◌∷◌, ◌++◌, length, map, All, Option, Some, Ok}
+use Rattle.std.specs.Prelude.{◌≡◌, ◌≢◌, ℕ, ◌^◌, ◌<◌, ◌≤◌, true, false, List, ◌∷◌, ◌++◌, length, map, All, Some, Ok}
 use Rattle.std.specs.List.{list_all}
 use Rattle.std.specs.Fmt.{decimal}
 use Rattle.q3_text.specs.Texts.{IsText, most_bytes, translated, text_of}
@@ -20,11 +20,11 @@ FewBytesMakeTexts = (bytes : List ℕ) → length bytes ≤ most_bytes → lacks
 
 -- numbers below 2 ^ 64 and the words that spell them
 pub record DecimalsAreNumbers : Type 0 where
-  -- what is read as a number is its decimal
-  pub written : (low high : ℕ) (word : List ℕ) (n : ℕ) → high < 2 ^ 64 → number_at low high word ≡ Some n → (low ≤ n) × (n ≤ high) × (word ≡ decimal n)
+  -- a word that is read as a number is its decimal, and the number is in the range
+  pub spelled : (low high : ℕ) (word : List ℕ) (n : ℕ) → high < 2 ^ 64 → number_at low high word ≡ Some n → (low ≤ n) × (n ≤ high) × (word ≡ decimal n)
   -- which is read as it
   pub read : (low high n : ℕ) → high < 2 ^ 64 → low ≤ n → n ≤ high → number_at low high (decimal n) ≡ Some n
-  -- and has digits alone
+  -- and has digits alone, so it lacks every other byte
   pub digits : (n : ℕ) → n < 2 ^ 64 → list_all is_digit (decimal n) ≡ true
   pub others : (byte n : ℕ) → is_digit byte ≡ false → n < 2 ^ 64 → lacks byte (decimal n) ≡ true
 
@@ -37,7 +37,7 @@ pub record CutsAreFirst : Type 0 where
   -- a text without it, the byte and any other are cut there
   pub again : (byte : ℕ) (front rest : List ℕ) → lacks byte front ≡ true → cut_at byte (front ++ byte ∷ rest) ≡ Some (front, rest)
 
--- what crates above need of them
+-- all of these, for proofs of crates above
 pub record TextLaws : Type 0 where
   pub texts : TextsAreTexts
   pub stay : TextsStay

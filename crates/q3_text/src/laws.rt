@@ -20,7 +20,7 @@ pub fn cuts_are_first()
     ensures { CutsAreFirst }
 {}
 
-/// All of these, for the laws of the crates above.
+/// All of these, for proofs of crates above.
 pub fn text_laws()
     ensures { TextLaws }
 {

@@ -123,11 +123,11 @@ parts_of word address e =
 -- those parts spell it
 spelled_from : (laws : TextLaws) (word : List ℕ) (address : Address) (p : Parts word address) → WasAddress word (address_of p.a p.b p.c p.d p.port)
 spelled_from laws word address p =
-    let a_is = laws.numbers.written 0 255 p.first.0 p.a (omega arith) p.a_read in
-    let b_is = laws.numbers.written 0 255 p.second.0 p.b (omega arith) p.b_read in
-    let c_is = laws.numbers.written 0 255 p.third.0 p.c (omega arith) p.c_read in
-    let d_is = laws.numbers.written 0 255 p.third.1 p.d (omega arith) p.d_read in
-    let port_is = laws.numbers.written 1 65535 p.ends.1 p.port (omega arith) p.port_read in
+    let a_is = laws.numbers.spelled 0 255 p.first.0 p.a (omega arith) p.a_read in
+    let b_is = laws.numbers.spelled 0 255 p.second.0 p.b (omega arith) p.b_read in
+    let c_is = laws.numbers.spelled 0 255 p.third.0 p.c (omega arith) p.c_read in
+    let d_is = laws.numbers.spelled 0 255 p.third.1 p.d (omega arith) p.d_read in
+    let port_is = laws.numbers.spelled 1 65535 p.ends.1 p.port (omega arith) p.port_read in
     record {
       spelled = record {
         a = p.a;

@@ -10,11 +10,11 @@ use Rattle.q3_words.specs.Hex.{is_capital}
 -- ---- digits
 
 -- a test that the first places pass
-abbrev pub first_pass : (ℕ → Bool) → ℕ → Bool
+abbrev first_pass : (ℕ → Bool) → ℕ → Bool
 first_pass test zero = true
 first_pass test (suc n) = test n && first_pass test n
 
-pub first_pass-at : (test : ℕ → Bool) (n k : ℕ) → first_pass test n ≡ true → k < n → test k ≡ true
+first_pass-at : (test : ℕ → Bool) (n k : ℕ) → first_pass test n ≡ true → k < n → test k ≡ true
 first_pass-at test zero k pass lt = absurd (omega arith)
 first_pass-at test (suc n) k pass lt =
     let parts = and_parts (test n) (first_pass test n) pass in

@@ -6,7 +6,7 @@ use Rattle.std.specs.List.{list_all}
 use Rattle.std.proofs.lemmas.Bool.{and_parts, ne_eqb, false≢true}
 use Rattle.std.proofs.lemmas.List.Elements.{All-nil, All-cons, All-head, All-tail}
 use Rattle.std.proofs.lemmas.Option.{same_Some}
-use Rattle.std.proofs.lemmas.Fmt.{decimal_nonempty, digits_decimal}
+use Rattle.std.proofs.lemmas.Fmt.{decimal_nonempty}
 use Rattle.q3_io.specs.Print.{indexed_text}
 use Rattle.q3_fields.specs.Places.{Change}
 use Rattle.q3_entity.specs.declared.state.EntityState.{EntityState}
@@ -52,8 +52,8 @@ field_at-spelled laws letter limit least word field some few e =
     let parts = bind_some (cut_at 58 text.0) (λ parts. number_at least (limit - 1) parts.0 >>= λ index. number_at 0 4294967295 parts.1 >>= λ value. Some (index, value)) field text.2 in
     let index = bind_some (number_at least (limit - 1) parts.0.0) (λ index. number_at 0 4294967295 parts.0.1 >>= λ value. Some (index, value)) field parts.2 in
     let value = bind_some (number_at 0 4294967295 parts.0.1) (λ value. Some (index.0, value)) field index.2 in
-    let index_is = laws.numbers.written least (limit - 1) parts.0.0 index.0 (omega arith) index.1 in
-    let value_is = laws.numbers.written 0 4294967295 parts.0.1 value.0 (omega arith) value.1 in
+    let index_is = laws.numbers.spelled least (limit - 1) parts.0.0 index.0 (omega arith) index.1 in
+    let value_is = laws.numbers.spelled 0 4294967295 parts.0.1 value.0 (omega arith) value.1 in
     was_field letter limit least word field text.0 parts.0 index.0 value.0 (after_prefix-spelled letter word text.0 text.1) (laws.cuts.parts 58 text.0 parts.0 parts.1) index_is.2 value_is.2 index_is.0 (omega arith) (omega arith) value.2
 
 -- and what is spelled so is read

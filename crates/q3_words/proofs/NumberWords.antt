@@ -23,7 +23,7 @@ ok_or-ok None cause x e = absurd cc
 
 -- a word that is read as a number was spelled so
 pub number_word-spelled : (laws : TextLaws) (low high : ℕ) (word : List ℕ) (n : ℕ) → high < 2 ^ 64 → number_word low high word ≡ Ok n → (low ≤ n) × (n ≤ high) × (word ≡ decimal n)
-number_word-spelled laws low high word n small e = laws.numbers.written low high word n small (ok_or-ok (number_at low high word) causes.Number n e)
+number_word-spelled laws low high word n small e = laws.numbers.spelled low high word n small (ok_or-ok (number_at low high word) causes.Number n e)
 
 -- and what is spelled so is read
 pub number_word-again : (laws : TextLaws) (low high n : ℕ) → high < 2 ^ 64 → low ≤ n → n ≤ high → number_word low high (decimal n) ≡ Ok n

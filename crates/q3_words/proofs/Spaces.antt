@@ -9,7 +9,7 @@ use Rattle.q3_words.specs.Words.{words_of, words_left, next_of, only_of, text_fr
 use Rattle.q3_words.specs.Laws.{IsOfLine, AreLeft}
 
 -- the byte between two words
-abbrev pub is_space : ℕ → Bool
+abbrev is_space : ℕ → Bool
 is_space byte = eqb byte 32
 
 -- a next word, and what may be missing

@@ -37,35 +37,39 @@ pub record NumbersAreSpelled : Type 0 where
   pub spelled : (low high : ℕ) (word : List ℕ) (n : ℕ) → high < 2 ^ 64 → number_word low high word ≡ Ok n → (low ≤ n) × (n ≤ high) × (word ≡ decimal n)
   pub read : (low high n : ℕ) → high < 2 ^ 64 → low ≤ n → n ≤ high → number_word low high (decimal n) ≡ Ok n
 
--- addresses
+-- a word that was read as an address spells it, with a port above 0
 pub record WasAddress (word : List ℕ) (address : Address) : Type 0 where
   pub spelled : SpellsAddress word address
   pub least : 1 ≤ address.port
   pub most : address.port < 2 ^ 16
 
+-- addresses
 pub record AddressesAreSpelled : Type 0 where
   pub spelled : (word : List ℕ) (address : Address) → address_at word ≡ Some address → WasAddress word address
   pub read : (word : List ℕ) (address : Address) → SpellsAddress word address → 1 ≤ address.port → address.port < 2 ^ 16 → address_at word ≡ Some address
 
--- names of files
+-- a word that was read as a name is it
 pub record WasName (word name : List ℕ) : Type 0 where
   pub same : word ≡ name
   pub is : IsName name
 
+-- names of files
 pub record NamesAreSpelled : Type 0 where
   pub spelled : (word name : List ℕ) → name_at word ≡ Some name → WasName word name
   pub read : (name : List ℕ) → IsName name → name_at name ≡ Some name
 
--- bytes in hex, at most so many
+-- a word that was read as bytes in hex spells them, at most so many
 pub record WereFew (limit : ℕ) (word bytes : List ℕ) : Type 0 where
   pub spelled : SpellsHex word bytes
   pub few : length bytes ≤ limit
   pub each : All (λ byte. byte < 256) bytes
 
+-- bytes in hex, at most so many
 pub record HexIsSpelled : Type 0 where
   pub spelled : (limit : ℕ) (word bytes : List ℕ) → hex_within limit word ≡ Some bytes → WereFew limit word bytes
   pub read : (limit : ℕ) (word bytes : List ℕ) → SpellsHex word bytes → length bytes ≤ limit → All (λ byte. byte < 256) bytes → hex_within limit word ≡ Some bytes
 
+-- area bytes of a snapshot, in hex
 pub record AreasAreSpelled : Type 0 where
   pub spelled : (word : List ℕ) (area : ArrayVec ℕ) → area_at word ≡ Some area → WereFew most_area word area.items
   pub read : (word : List ℕ) (area : ArrayVec ℕ) → SpellsHex word area.items → length area.items ≤ most_area → All (λ byte. byte < 256) area.items → area_at word ≡ Some area
@@ -80,11 +84,12 @@ pub record TextsAreSpelled : Type 0 where
   pub spelled : (word text : List ℕ) → text_word word ≡ Ok text → SpellsText (words_of word) text
   pub read : (words : List (List ℕ)) (text : List ℕ) → SpellsText words text → text_word (join_with_byte 32 words) ≡ Ok text
 
--- entities, but for their numbers
+-- words that were read as an entity of a number spell it, but for the number
 pub record WasEntity (number : ℕ) (words : List (List ℕ)) (entity : EntityState) : Type 0 where
   pub is : entity.number ≡ number
   pub spelled : SpellsEntity words entity
 
+-- entities, but for their numbers
 pub record EntitiesAreSpelled : Type 0 where
   pub spelled : (number : ℕ) (words : List (List ℕ)) (entity : EntityState) → entity_at number words ≡ Ok entity → WasEntity number words entity
   pub read : (words : List (List ℕ)) (entity : EntityState) → SpellsEntity words entity → entity_at entity.number words ≡ Ok entity

@@ -1,12 +1,16 @@
-use Rattle.std.proofs.Common.{◌+◌, arith}
-use Rattle.q3_text.proofs.Decimals.{none_at_byte, none_above, some_at_digits, value_of_more}
+use Rattle.std.proofs.Common.{◌≡◌, None, Some, sym, ◌∙◌, rules}
+use Rattle.q3_text.specs.Decimals.{number_at}
+use Rattle.q3_text.proofs.Decimals.{none_from, some_from}
 use Rattle.q3_text.proofs.number.decimal_within.Goals as goal
 
-pub returns-then-not-is_ascii_digit-clause-value : goal.returns-then-not-is_ascii_digit-clause-value
-returns-then-not-is_ascii_digit-clause-value c = none_at_byte _ _ c.args.word.now c.loop-byte.byte-index (omega arith) (cc)
-
-pub returns-then-value-from-clause-value : goal.returns-then-value-from-clause-value
-returns-then-value-from-clause-value c = none_above _ _ c.args.word.now (c.loop-byte.byte-index + 1) (omega (arith, value_of_more c.args.word.now c.loop-byte.byte-index))
+pub returns-in_err-value-clause-value : goal.returns-in_err-value-clause-value
+returns-in_err-value-clause-value c =
+    let none : None ≡ number_at 0 c.args.high c.args.word.now = search rules in
+    let same = none_from c.args.low c.args.high c.args.word.now none in
+    search rules
 
 pub returns-clause-value : goal.returns-clause-value
-returns-clause-value c = grind (arith, some_at_digits)
+returns-clause-value c =
+    let some : Some c.in_ok-value.value ≡ number_at 0 c.args.high c.args.word.now = search rules in
+    let same = some_from c.args.low c.args.high c.in_ok-value.value c.args.word.now some in
+    search rules

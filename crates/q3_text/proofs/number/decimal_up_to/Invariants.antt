@@ -1,7 +1,7 @@
 use Rattle.std.proofs.Common.{◌≡◌, ◌≤◌, true, take}
 use Rattle.std.specs.List.{list_all}
 use Rattle.q3_text.specs.Decimals.{is_digit, value_of}
-use Rattle.q3_text.proofs.number.decimal_within.Given as goal
+use Rattle.q3_text.proofs.number.decimal_up_to.Given as goal
 
 -- the digits so far, and their value
 abbrev pub invariant-loop-byte : goal.invariant-loop-byte
