@@ -12,8 +12,8 @@ use Rattle.q3_world.specs.Kept.{Kept, kept_step}
 abbrev pub HaveSlots : Ends → Type 0
 HaveSlots ends = (c : ℕ) → is_some (place_at ends c) ≡ true → is_some (slot_at ends.server c) ≡ true
 
--- in the beginning nobody is anywhere, and a client joins only where none was; no event, whatever bytes arrive, takes a client its slot or its
--- place, and where each that is at its place has its slot, it is so after it
+-- in the beginning nobody is anywhere, and a client joins only where none was; no event, whatever bytes arrive, frees a slot or a place, and
+-- where each client that is at its place has a slot, it is so after it
 pub record SlotsAreKept : Type 0 where
   pub opening : (profile : Profile) (c : ℕ) → place_at (new_ends profile) c ≡ None
   pub free : (server : ServerState) (c challenge qport : ℕ) (address : Address) → (add_client_at server c challenge qport address).answer ≡ Ok tt → slot_at server c ≡ None
