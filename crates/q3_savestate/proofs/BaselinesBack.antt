@@ -21,11 +21,6 @@ use Rattle.q3_savestate.proofs.EntitiesBack.{ends_within, entities_back}
 use Rattle.q3_savestate.proofs.EntitiesWere.{ReadsEntities, reads_entities}
 use Rattle.q3_entity.specs.Laws.{NoneAreBaselines, BaselineIsAdded}
 
--- numbers that rise from one on rise from a lower one too
-rise-lower : (limit most least : ℕ) (entities : List EntityState) → least ≤ most → RiseFrom limit most entities → RiseFrom limit least entities
-rise-lower limit most least [] le rise = tt
-rise-lower limit most least (entity ∷ others) le rise = (omega (arith, le, rise.0), rise.1, rise.2)
-
 -- ---- baselines that stand under their numbers
 
 -- each state that is set has the number of its place, counted from a number on
@@ -47,16 +42,16 @@ each_set P [] each = All-nil P
 each_set P (None ∷ baselines) each = each_set P baselines (λ place. each (suc place))
 each_set P (Some state ∷ baselines) each = All-cons P state (set_baselines baselines) (each zero) (each_set P baselines (λ place. each (suc place)))
 
--- they rise
-set_rise : (limit number : ℕ) (baselines : Baselines) → StandFrom number baselines → All (λ state. state.number < limit) (set_baselines baselines) → RiseFrom limit number (set_baselines baselines)
-set_rise limit number [] stand below = tt
-set_rise limit number (None ∷ baselines) stand below = rise-lower limit (number + 1) number (set_baselines baselines) (omega arith) (set_rise limit (number + 1) baselines stand below)
-set_rise limit number (Some state ∷ baselines) stand below =
-    let others = set_rise limit (number + 1) baselines stand.1 (All-tail (λ state. state.number < limit) state (set_baselines baselines) below) in (
-      omega (arith, stand.0),
-      All-head (λ state. state.number < limit) state (set_baselines baselines) below,
-      subst (λ n. RiseFrom limit (n + 1) (set_baselines baselines)) (sym stand.0) others,
-    )
+-- they rise, from any number on that isn't above the first place's
+set_rise : (limit least number : ℕ) (baselines : Baselines) → least ≤ number → StandFrom number baselines → All (λ state. state.number < limit) (set_baselines baselines)
+    → RiseFrom limit least (set_baselines baselines)
+set_rise limit least number [] from stand below = tt
+set_rise limit least number (None ∷ baselines) from stand below = set_rise limit least (number + 1) baselines (omega arith) stand below
+set_rise limit least number (Some state ∷ baselines) from stand below = (
+  omega (arith, stand.0),
+  All-head (λ state. state.number < limit) state (set_baselines baselines) below,
+  set_rise limit (state.number + 1) (number + 1) baselines (omega (arith, stand.0)) stand.1 (All-tail (λ state. state.number < limit) state (set_baselines baselines) below),
+)
 
 -- so they are no more than their limit
 rise_few : (limit least : ℕ) (entities : List EntityState) → RiseFrom limit least entities → least ≤ limit → least + length entities ≤ limit
@@ -91,7 +86,7 @@ unfolding baselines_at
 baselines_back table baselines at rest is are =
     let set : List EntityState = set_baselines baselines in
     let stand : StandFrom 0 baselines = stand_from 0 baselines (λ number. IfSome_then (baseline_at baselines number) (are.numbers number) (λ state e. omega (arith, e))) in
-    let rise : RiseFrom (end_mark table) 0 set = set_rise (end_mark table) 0 baselines stand (each_set (λ state. state.number < end_mark table) baselines are.below) in
+    let rise : RiseFrom (end_mark table) 0 set = set_rise (end_mark table) 0 0 baselines (omega arith) stand (each_set (λ state. state.number < end_mark table) baselines are.below) in
     let most : length set ≤ end_mark table = omega (arith, rise_few (end_mark table) 0 set rise (omega arith)) in
     let within = ends_within table is in
     let count = number_back 2 0 (end_mark table) (length set) at (flat_map (entity_bytes table) set ++ rest) (omega arith) (omega arith) most in
