@@ -273,8 +273,8 @@ pub fn node_leaves_front()
     ensures { NodeLeavesFront }
 {}
 
-/// In a replay nobody is anywhere in the beginning, a client joins only where none was, and no place and no slot is given up, whatever
-/// bytes arrive.
+/// In a replay nobody is anywhere in the beginning, a client joins only where none was, and each keeps its slot and its place, with its
+/// challenge and its qport, whatever bytes arrive.
 pub fn slots_are_kept()
     ensures { SlotsAreKept }
 {}
