@@ -1,5 +1,5 @@
 -- Each client keeps its slot at the server, and its place: no slot is ever given up, or given to another.
-use Rattle.std.proofs.Common.{◌≡◌, ℕ, ◌<◌, ◌≤◌, List, length, get_or, set, map, Option, Some, None, Result, Ok, Err, true, false, refl, sym, subst, inl, inr}
+use Rattle.std.proofs.Common.{◌≡◌, ℕ, ◌<◌, List, length, get_or, set, map, Option, Some, None, Result, Ok, Err, true, false, refl, sym, subst, inl, inr}
 use Rattle.std.specs.Prelude.{◌==◌, ◌-◌, ◌+◌, ◌||◌, not, nat_le, nat_lt, position, slice_get, option_map}
 use Rattle.std.specs.Option.{is_some}
 use Rattle.std.proofs.lemmas.Bool.{cases_Bool, cases_eq, cases_lt, cond_both, leb-false}
